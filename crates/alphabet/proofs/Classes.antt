@@ -1,0 +1,84 @@
+-- The table agrees with the alphabet at every byte value, and the sets are ranges of its classes: one test, computed over its 256 entries.
+-- Assumes nothing.
+use mathlib.Core.Path.{_≡_, refl, sym, _∙_}
+use mathlib.Core.List.{List, [], _∷_}
+use mathlib.Core.Bool.{Bool, true, false, _&&_, not, Bool·beq}
+use Prim.Native.Nat.{ℕ, _<_, _≤_}
+use lib.Dec.{T, eqb, eqb→eq, leb}
+use lib.ListN.{getD}
+use borrow.Author.Tests.{le-leb, lt-leb}
+use Rattle.alphabet.specs.Alphabet.{classOf, inAlphabet, letter, digit, octal, sign, text, white}
+use Rattle.alphabet.proofs.Table.{at, both, both-left, both-right}
+
+abbrev pub classes : List ℕ
+classes =
+    0 ∷ 0 ∷ 0 ∷ 0 ∷ 0 ∷ 0 ∷ 0 ∷ 0 ∷ 0 ∷ 0 ∷ 15 ∷ 0 ∷ 0 ∷ 15 ∷ 0 ∷ 0 ∷ 0 ∷ 0 ∷ 0 ∷ 0 ∷ 0 ∷ 0 ∷ 0 ∷ 0 ∷ 0 ∷ 0 ∷ 0 ∷ 0 ∷ 0 ∷ 0 ∷ 0 ∷ 0 ∷ 15 ∷ 0 ∷ 0 ∷ 0 ∷ 0 ∷ 0 ∷ 0 ∷ 8 ∷ 13 ∷ 14 ∷ 0 ∷ 10 ∷ 7 ∷ 12 ∷ 6 ∷ 11 ∷ 2 ∷ 2 ∷ 2 ∷ 2 ∷ 2 ∷ 2 ∷ 2 ∷ 2 ∷ 3 ∷ 3 ∷ 5 ∷ 0 ∷ 0 ∷ 9 ∷ 0 ∷ 4 ∷ 0 ∷ 1 ∷ 1 ∷ 1 ∷ 1 ∷ 1 ∷ 1 ∷ 1 ∷ 1 ∷ 1 ∷ 1 ∷ 1 ∷ 1 ∷ 1 ∷ 1 ∷ 1 ∷ 1 ∷ 1 ∷ 1 ∷ 1 ∷ 1 ∷ 1 ∷ 1 ∷ 1 ∷ 1 ∷ 1 ∷ 1 ∷ 0 ∷ 0 ∷ 0 ∷ 0 ∷ 0 ∷ 0 ∷ 0 ∷ 0 ∷ 0 ∷ 0 ∷ 0 ∷ 0 ∷ 0 ∷ 0 ∷ 0 ∷ 0 ∷ 0 ∷ 0 ∷ 0 ∷ 0 ∷ 0 ∷ 0 ∷ 0 ∷ 0 ∷ 0 ∷ 0 ∷ 0 ∷ 0 ∷ 0 ∷ 0 ∷ 0 ∷ 0 ∷ 0 ∷ 0 ∷ 0 ∷ 0 ∷ 0 ∷ 0 ∷ 0 ∷ 0 ∷ 0 ∷ 0 ∷ 0 ∷ 0 ∷ 0 ∷ 0 ∷ 0 ∷ 0 ∷ 0 ∷ 0 ∷ 0 ∷ 0 ∷ 0 ∷ 0 ∷ 0 ∷ 0 ∷ 0 ∷ 0 ∷ 0 ∷ 0 ∷ 0 ∷ 0 ∷ 0 ∷ 0 ∷ 0 ∷ 0 ∷ 0 ∷ 0 ∷ 0 ∷ 0 ∷ 0 ∷ 0 ∷ 0 ∷ 0 ∷ 0 ∷ 0 ∷ 0 ∷ 0 ∷ 0 ∷ 0 ∷ 0 ∷ 0 ∷ 0 ∷ 0 ∷ 0 ∷ 0 ∷ 0 ∷ 0 ∷ 0 ∷ 0 ∷ 0 ∷ 0 ∷ 0 ∷ 0 ∷ 0 ∷ 0 ∷ 0 ∷ 0 ∷ 0 ∷ 0 ∷ 0 ∷ 0 ∷ 0 ∷ 0 ∷ 0 ∷ 0 ∷ 0 ∷ 0 ∷ 0 ∷ 0 ∷ 0 ∷ 0 ∷ 0 ∷ 0 ∷ 0 ∷ 0 ∷ 0 ∷ 0 ∷ 0 ∷ 0 ∷ 0 ∷ 0 ∷ 0 ∷ 0 ∷ 0 ∷ 0 ∷ 0 ∷ 0 ∷ 0 ∷ 0 ∷ 0 ∷ 0 ∷ 0 ∷ 0 ∷ 0 ∷ 0 ∷ 0 ∷ 0 ∷ 0 ∷ 0 ∷ 0 ∷ 0 ∷ 0 ∷ 0 ∷ 0 ∷ 0 ∷ 0 ∷ 0 ∷ 0 ∷ 0 ∷ 0 ∷ 0 ∷ 0 ∷ 0 ∷ 0 ∷ 0 ∷ 0 ∷ 0 ∷ 0 ∷ 0 ∷ 0 ∷ 0 ∷ 0 ∷ 0 ∷ 0 ∷ []
+
+-- class k is one of those from low to high
+abbrev pub within : ℕ → ℕ → ℕ → Bool
+within low high k = leb low k && leb k high
+
+-- what is tested of the byte b and its entry k
+abbrev right : ℕ → ℕ → Bool
+right b k =
+    both (eqb k (classOf b))
+    (both (Bool·beq (not (eqb k 0)) (inAlphabet b))
+    (both (Bool·beq (eqb k 1) (letter b))
+    (both (Bool·beq (within 2 3 k) (digit b))
+    (both (Bool·beq (eqb k 2) (octal b))
+    (both (Bool·beq (within 1 3 k) (sign b))
+    (both (Bool·beq (within 1 10 k) (text b)) (Bool·beq (eqb k 15) (white b))))))))
+
+-- the rule at each entry
+pub record Rule (b k : ℕ) : Type 0 where
+  pub class : k ≡ classOf b
+  pub alphabet-is : not (eqb k 0) ≡ inAlphabet b
+  pub letter-is : eqb k 1 ≡ letter b
+  pub digit-is : within 2 3 k ≡ digit b
+  pub octal-is : eqb k 2 ≡ octal b
+  pub sign-is : within 1 3 k ≡ sign b
+  pub text-is : within 1 10 k ≡ text b
+  pub white-is : eqb k 15 ≡ white b
+
+beq→eq : (a b : Bool) → T (Bool·beq a b) → a ≡ b
+beq→eq true true t = refl
+beq→eq true false t = absurd t
+beq→eq false true t = absurd t
+beq→eq false false t = refl
+
+rule-of : (b k : ℕ) → T (right b k) → Rule b k
+rule-of b k t =
+    let t1 = both-right (eqb k (classOf b)) _ t in
+    let t2 = both-right (Bool·beq (not (eqb k 0)) (inAlphabet b)) _ t1 in
+    let t3 = both-right (Bool·beq (eqb k 1) (letter b)) _ t2 in
+    let t4 = both-right (Bool·beq (within 2 3 k) (digit b)) _ t3 in
+    let t5 = both-right (Bool·beq (eqb k 2) (octal b)) _ t4 in
+    let t6 = both-right (Bool·beq (within 1 3 k) (sign b)) _ t5 in
+    record {
+      class = eqb→eq k (classOf b) (both-left (eqb k (classOf b)) _ t);
+      alphabet-is = beq→eq _ _ (both-left (Bool·beq (not (eqb k 0)) (inAlphabet b)) _ t1);
+      letter-is = beq→eq _ _ (both-left (Bool·beq (eqb k 1) (letter b)) _ t2);
+      digit-is = beq→eq _ _ (both-left (Bool·beq (within 2 3 k) (digit b)) _ t3);
+      octal-is = beq→eq _ _ (both-left (Bool·beq (eqb k 2) (octal b)) _ t4);
+      sign-is = beq→eq _ _ (both-left (Bool·beq (within 1 3 k) (sign b)) _ t5);
+      text-is = beq→eq _ _ (both-left (Bool·beq (within 1 10 k) (text b)) _ t6);
+      white-is = beq→eq _ _ (both-right (Bool·beq (within 1 10 k) (text b)) _ t6);
+    }
+
+pub table-right : (b : ℕ) → b < 256 → Rule b (getD classes b 0)
+unfolding classOf inAlphabet text white
+table-right b h = rule-of b (getD classes b 0) (at right classes tt b h)
+
+-- the same of a number that is the class
+pub rule : (b k : ℕ) → b < 256 → k ≡ classOf b → Rule b k
+rule b k h e =
+    let r = table-right b h in
+    let p : getD classes b 0 ≡ k = r .class ∙ sym e in
+    rw p at r
+
+-- a test of the lower end of a range, and then of the upper
+pub below : (low high k : ℕ) → k < low → false ≡ within low high k
+below low high k h = rw (lt-leb low k h)
+
+pub from : (low high k : ℕ) → low ≤ k → leb k high ≡ within low high k
+from low high k h = rw (le-leb low k h)

@@ -1,0 +1,5 @@
+pub mod Numbers
+pub mod Index
+pub mod Exact
+pub mod Times
+pub mod Fields

@@ -1,0 +1,113 @@
+-- `shape::in_class` meets its contract. Assumes nothing.
+use mathlib.Core.Path.{sym, _∙_}
+use borrow.Author.Tests.{eq-eqb, ne-eqb}
+use Rattle.shape.specs.Shape.{letters}
+use borrow.Author.Needs.{needs}
+use Rattle.shape.proofs.in_class.Statement.{statement}
+use Rattle.shape.proofs.in_class.Tie as tie
+
+is-digit-requires : tie.Need-is-digit-requires
+is-digit-requires c κs = search needs
+
+is-digit-requires-2 : tie.Need-is-digit-requires-2
+is-digit-requires-2 c κs = search needs
+
+returns : tie.Need-returns
+unfolding letters
+returns c = rw (sym (c .before .before .is-digit .ensures) ∙ c .before .if1 .taken) (c .is-digit2 .ensures)
+
+slice-aggregate-one-of : tie.Need-slice-aggregate-one-of
+slice-aggregate-one-of c = search needs
+
+one-of-requires : tie.Need-one-of-requires
+one-of-requires c κs = search needs
+
+returns-2 : tie.Need-returns-2
+unfolding letters
+returns-2 c = rw (sym (c .before .before .before .before .is-digit .ensures) ∙ c .before .before .before .if1 .left, eq-eqb _ _ (c .before .before .if2 .taken)) (c .one-of .ensures)
+
+slice-aggregate-one-of-2 : tie.Need-slice-aggregate-one-of-2
+slice-aggregate-one-of-2 c = search needs
+
+one-of-requires-2 : tie.Need-one-of-requires-2
+one-of-requires-2 c κs = search needs
+
+returns-3 : tie.Need-returns-3
+unfolding letters
+returns-3 c = rw (sym (c .before .before .before .before .before .is-digit .ensures) ∙ c .before .before .before .before .if1 .left, ne-eqb _ _ (c .before .before .before .if2 .left), eq-eqb _ _ (c .before .before .if3 .taken)) (c .one-of2 .ensures)
+
+slice-aggregate-one-of-3 : tie.Need-slice-aggregate-one-of-3
+slice-aggregate-one-of-3 c = search needs
+
+one-of-requires-3 : tie.Need-one-of-requires-3
+one-of-requires-3 c κs = search needs
+
+returns-4 : tie.Need-returns-4
+unfolding letters
+returns-4 c = rw (sym (c .before .before .before .before .before .before .is-digit .ensures) ∙ c .before .before .before .before .before .if1 .left, ne-eqb _ _ (c .before .before .before .before .if2 .left), ne-eqb _ _ (c .before .before .before .if3 .left), eq-eqb _ _ (c .before .before .if4 .taken)) (c .one-of3 .ensures)
+
+slice-aggregate-one-of-4 : tie.Need-slice-aggregate-one-of-4
+slice-aggregate-one-of-4 c = search needs
+
+one-of-requires-4 : tie.Need-one-of-requires-4
+one-of-requires-4 c κs = search needs
+
+returns-5 : tie.Need-returns-5
+unfolding letters
+returns-5 c = rw (sym (c .before .before .before .before .before .before .before .is-digit .ensures) ∙ c .before .before .before .before .before .before .if1 .left, ne-eqb _ _ (c .before .before .before .before .before .if2 .left), ne-eqb _ _ (c .before .before .before .before .if3 .left), ne-eqb _ _ (c .before .before .before .if4 .left), eq-eqb _ _ (c .before .before .if5 .taken)) (c .one-of4 .ensures)
+
+slice-aggregate-one-of-5 : tie.Need-slice-aggregate-one-of-5
+slice-aggregate-one-of-5 c = search needs
+
+one-of-requires-5 : tie.Need-one-of-requires-5
+one-of-requires-5 c κs = search needs
+
+returns-6 : tie.Need-returns-6
+unfolding letters
+returns-6 c = rw (sym (c .before .before .before .before .before .before .before .before .is-digit .ensures) ∙ c .before .before .before .before .before .before .before .if1 .left, ne-eqb _ _ (c .before .before .before .before .before .before .if2 .left), ne-eqb _ _ (c .before .before .before .before .before .if3 .left), ne-eqb _ _ (c .before .before .before .before .if4 .left), ne-eqb _ _ (c .before .before .before .if5 .left), eq-eqb _ _ (c .before .before .if6 .taken)) (c .one-of5 .ensures)
+
+slice-aggregate-one-of-6 : tie.Need-slice-aggregate-one-of-6
+slice-aggregate-one-of-6 c = search needs
+
+one-of-requires-6 : tie.Need-one-of-requires-6
+one-of-requires-6 c κs = search needs
+
+returns-7 : tie.Need-returns-7
+unfolding letters
+returns-7 c = rw (sym (c .before .before .before .before .before .before .before .before .before .is-digit .ensures) ∙ c .before .before .before .before .before .before .before .before .if1 .left, ne-eqb _ _ (c .before .before .before .before .before .before .before .if2 .left), ne-eqb _ _ (c .before .before .before .before .before .before .if3 .left), ne-eqb _ _ (c .before .before .before .before .before .if4 .left), ne-eqb _ _ (c .before .before .before .before .if5 .left), ne-eqb _ _ (c .before .before .before .if6 .left), eq-eqb _ _ (c .before .before .if7 .taken)) (c .one-of6 .ensures)
+
+returns-8 : tie.Need-returns-8
+unfolding letters
+returns-8 c = rw (sym (c .before .before .before .before .before .before .before .before .is-digit .ensures) ∙ c .before .before .before .before .before .before .before .if1 .left, ne-eqb _ _ (c .before .before .before .before .before .before .if2 .left), ne-eqb _ _ (c .before .before .before .before .before .if3 .left), ne-eqb _ _ (c .before .before .before .before .if4 .left), ne-eqb _ _ (c .before .before .before .if5 .left), ne-eqb _ _ (c .before .before .if6 .left), ne-eqb _ _ (c .before .if7 .left), eq-eqb _ _ (c .if8 .taken))
+
+returns-9 : tie.Need-returns-9
+unfolding letters
+returns-9 c = rw (sym (c .before .before .before .before .before .before .before .before .is-digit .ensures) ∙ c .before .before .before .before .before .before .before .if1 .left, ne-eqb _ _ (c .before .before .before .before .before .before .if2 .left), ne-eqb _ _ (c .before .before .before .before .before .if3 .left), ne-eqb _ _ (c .before .before .before .before .if4 .left), ne-eqb _ _ (c .before .before .before .if5 .left), ne-eqb _ _ (c .before .before .if6 .left), ne-eqb _ _ (c .before .if7 .left), ne-eqb _ _ (c .if8 .left))
+
+pub in-class-spec : {M : Type 1} → statement M
+in-class-spec =
+    tie.close
+    (tie.spec
+    is-digit-requires
+    is-digit-requires-2
+    returns
+    slice-aggregate-one-of
+    one-of-requires
+    returns-2
+    slice-aggregate-one-of-2
+    one-of-requires-2
+    returns-3
+    slice-aggregate-one-of-3
+    one-of-requires-3
+    returns-4
+    slice-aggregate-one-of-4
+    one-of-requires-4
+    returns-5
+    slice-aggregate-one-of-5
+    one-of-requires-5
+    returns-6
+    slice-aggregate-one-of-6
+    one-of-requires-6
+    returns-7
+    returns-8
+    returns-9)

@@ -1,0 +1,4 @@
+pub mod Numbers
+pub mod Shape
+pub mod Time
+pub mod Field

@@ -1,0 +1,121 @@
+-- What ties the definitions, which go by structure, to code that walks an index: of each, where it stops, the next step and the end.
+-- Assumes nothing.
+use Prim.Native.Nat.{ℕ, suc, _+_, _-_, _<_, _≤_}
+use mathlib.Core.Path.{_≡_, refl, sym, ap, _∙_}
+use mathlib.Core.Bool.{Bool, true, false, cond}
+use mathlib.Core.List.{List, [], _∷_}
+use native.Mathlib.Omega.{arith}
+use native.Mathlib.Numerals.{add-one}
+use lib.Dec.{eqb}
+use lib.ListN.{length, take, drop, getD, drop-of-length-le, length-drop}
+use lib.Seq.{drop-cons, drop-drop, take-all}
+use borrow.Author.Tests.{eq-eqb, ne-eqb}
+use Rattle.text.specs.Words.{Word, split, onto, after, upTo, before, behind, all, same, rankFrom}
+use Rattle.text.specs.Places.{Stepped}
+
+pub drop-here : (s : List ℕ) (i : ℕ) → i < length s → drop i s ≡ getD s i 0 ∷ drop (i + 1) s
+drop-here s i h = rw (add-one, drop-cons s i 0)
+
+pub drop-end : (s : List ℕ) (i : ℕ) → length s ≤ i → drop i s ≡ []
+drop-end s i h = drop-of-length-le s h
+
+-- what Rattle says of `&w[i..]`
+pub rest : (w : List ℕ) (i : ℕ) → take (length w - i) (drop i w) ≡ drop i w
+rest w i = take-all (length w - i) (drop i w) (simp length-drop (omega arith))
+
+-- UP TO A BYTE
+
+pub upTo-le : (c : ℕ) (s : List ℕ) → upTo c s ≤ length s
+upTo-le c [] = omega arith
+upTo-le c (b ∷ s) = go (upTo-le c s) (eqb b c)
+  where
+    go : upTo c s ≤ length s → (t : Bool) → cond t 0 (suc (upTo c s)) ≤ suc (length s)
+    go ih true = omega arith
+    go ih false = omega arith
+
+pub find-here : (c : ℕ) (s : List ℕ) (i : ℕ) → i < length s → getD s i 0 ≡ c → upTo c (drop i s) ≡ 0
+find-here c s i h e = rw (drop-here s i h, eq-eqb (getD s i 0) c e)
+
+pub find-next : (c : ℕ) (s : List ℕ) (i : ℕ) → i < length s → (getD s i 0 ≡ c → ⊥) → upTo c (drop i s) ≡ suc (upTo c (drop (i + 1) s))
+find-next c s i h e = rw (drop-here s i h, ne-eqb (getD s i 0) c e)
+
+pub find-end : (c : ℕ) (s : List ℕ) (i : ℕ) → length s ≤ i → upTo c (drop i s) ≡ 0
+find-end c s i h = rw (drop-end s i h)
+
+-- EVERY BYTE
+
+pub all-stop : (p : ℕ → Bool) (s : List ℕ) (i : ℕ) → i < length s → p (getD s i 0) ≡ false → all p (drop i s) ≡ false
+all-stop p s i h e = rw (drop-here s i h, e)
+
+pub all-next : (p : ℕ → Bool) (s : List ℕ) (i : ℕ) → i < length s → p (getD s i 0) ≡ true → all p (drop i s) ≡ all p (drop (i + 1) s)
+all-next p s i h e = rw (drop-here s i h, e)
+
+pub all-end : (p : ℕ → Bool) (s : List ℕ) (i : ℕ) → length s ≤ i → all p (drop i s) ≡ true
+all-end p s i h = rw (drop-end s i h)
+
+-- EQUAL BYTES
+
+pub same-stop : (s t : List ℕ) (i : ℕ) → i < length s → i < length t → (getD s i 0 ≡ getD t i 0 → ⊥) → same (drop i s) (drop i t) ≡ false
+same-stop s t i h k e = rw (drop-here s i h, drop-here t i k, ne-eqb (getD s i 0) (getD t i 0) e)
+
+pub same-next : (s t : List ℕ) (i : ℕ) → i < length s → i < length t → getD s i 0 ≡ getD t i 0
+    → same (drop i s) (drop i t) ≡ same (drop (i + 1) s) (drop (i + 1) t)
+same-next s t i h k e = rw (drop-here s i h, drop-here t i k, eq-eqb (getD s i 0) (getD t i 0) e)
+
+pub same-end : (s t : List ℕ) (i : ℕ) → length s ≤ i → length t ≤ i → same (drop i s) (drop i t) ≡ true
+same-end s t i h k = rw (drop-end s i h, drop-end t i k)
+
+-- PIECES
+
+split-cut : (c : ℕ) (s : List ℕ) → split c s ≡ take (upTo c s) s ∷ after c (drop (upTo c s) s)
+split-cut c [] = refl
+split-cut c (b ∷ s) = go (split-cut c s) (eqb b c)
+  where
+    go : split c s ≡ take (upTo c s) s ∷ after c (drop (upTo c s) s)
+        → (t : Bool) → cond t ([] ∷ split c s) (onto b (split c s)) ≡ take (cond t 0 (suc (upTo c s))) (b ∷ s) ∷ after c (drop (cond t 0 (suc (upTo c s))) (b ∷ s))
+    go ih true = refl
+    go ih false = ap (onto b) ih
+
+-- the pieces from `at` on are the bytes up to e, where the next c stands or the text ends, and the pieces behind
+pub split-at : (c : ℕ) (s : List ℕ) (at e : ℕ) → e ≡ at + upTo c (drop at s) → split c (drop at s) ≡ take (e - at) (drop at s) ∷ after c (drop e s)
+split-at c s at e h =
+    let n : e - at ≡ upTo c (drop at s) = omega arith in
+    rw (n, h, ← drop-drop (upTo c (drop at s)) at s) (split-cut c (drop at s))
+
+pub after-here : (c : ℕ) (s : List ℕ) (e : ℕ) → e < length s → after c (drop e s) ≡ split c (drop (e + 1) s)
+after-here c s e h = ap (after c) (drop-here s e h)
+
+pub after-end : (c : ℕ) (s : List ℕ) (e : ℕ) → length s ≤ e → after c (drop e s) ≡ []
+after-end c s e h = ap (after c) (drop-end s e h)
+
+-- the piece that a cursor is at, and where a step takes it
+
+module _ (c : ℕ) (s : List ℕ) (at e : ℕ) (end : e ≡ at + upTo c (drop at s)) where
+  pub piece : take (e - at) (drop at s) ≡ before c (drop at s)
+  piece = let n : e - at ≡ upTo c (drop at s) = omega arith in rw n
+
+  over-end : drop (e + 1) s ≡ behind c (drop at s)
+  over-end =
+      let n : e + 1 ≡ at + suc (upTo c (drop at s)) = omega arith in
+      rw n (sym (drop-drop (suc (upTo c (drop at s))) at s))
+
+  pub stepped : at ≤ length s → e < length s → Stepped c s at (e + 1)
+  stepped l h = record { inside = omega arith; over = over-end; further = λ k. omega arith }
+
+  pub stepped-end : at ≤ length s → e ≤ length s → length s ≤ e → Stepped c s at e
+  stepped-end l m h =
+      let z : length s ≤ e + 1 = omega arith in
+      record { inside = m; over = drop-end s e h ∙ sym (drop-end s (e + 1) z) ∙ over-end; further = λ k. omega arith }
+
+-- A WORD AMONG THOSE OF A LIST
+
+module _ (k : ℕ) (w : Word) (s : List ℕ) (at e : ℕ) (end : e ≡ at + upTo 32 (drop at s)) where
+  pub rank-found : same w (take (e - at) (drop at s)) ≡ true → rankFrom k w (split 32 (drop at s)) ≡ k
+  rank-found h = rw (split-at 32 s at e end, h)
+
+  pub rank-last : same w (take (e - at) (drop at s)) ≡ false → length s ≤ e → rankFrom k w (split 32 (drop at s)) ≡ 0
+  rank-last h l = rw (split-at 32 s at e end, h, after-end 32 s e l)
+
+  pub rank-next : same w (take (e - at) (drop at s)) ≡ false → e < length s
+      → rankFrom k w (split 32 (drop at s)) ≡ rankFrom (k + 1) w (split 32 (drop (e + 1) s))
+  rank-next h l = rw (split-at 32 s at e end, h, after-here 32 s e l, add-one k)

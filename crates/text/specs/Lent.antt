@@ -1,0 +1,8 @@
+-- What a lent slice holds after a part was written to it. Assumes nothing.
+use Prim.Native.Nat.{ℕ}
+use mathlib.Core.List.{List, _++_}
+use lib.ListN.{length, drop}
+
+-- w at the front, the bytes behind it as they were
+unfoldable pub front : List ℕ → List ℕ → List ℕ
+front w out = w ++ drop (length w) out
