@@ -1,0 +1,45 @@
+-- `codes::code_end` meets its contract. Assumes nothing.
+use mathlib.Core.Path.{sym, _∙_}
+use Rattle.codes.proofs.Laws.{code-last, code-one, code-two}
+use borrow.Author.Needs.{needs}
+use Rattle.codes.proofs.code_end.Statement.{statement}
+use Rattle.codes.proofs.code_end.Tie as tie
+
+add-next : tie.Need-add-next
+add-next c = search needs
+
+shared-slice-read-is-digit : tie.Need-shared-slice-read-is-digit
+shared-slice-read-is-digit c = search needs
+
+is-digit-requires : tie.Need-is-digit-requires
+is-digit-requires c κs = search needs
+
+add-result : tie.Need-add-result
+add-result c = search needs
+
+returns : tie.Need-returns
+returns c =
+    let a = c .before .before .before .before .before .args in
+    (code-two (a .s .now) (a .at) (search needs) (search needs) (sym (c .before .is-digit .ensures) ∙ c .if2 .taken), search needs)
+
+returns-2 : tie.Need-returns-2
+returns-2 c =
+    let a = c .before .before .before .before .before .args in
+    (code-one (a .s .now) (a .at) (search needs) (search needs) (sym (c .before .is-digit .ensures) ∙ c .if2 .left), search needs)
+
+returns-3 : tie.Need-returns-3
+returns-3 c =
+    let a = c .before .before .args in
+    (code-last (a .s .now) (a .at) (search needs) (search needs), search needs)
+
+pub code-end-spec : {M : Type 1} → statement M
+code-end-spec =
+    tie.close
+    (tie.spec
+    add-next
+    shared-slice-read-is-digit
+    is-digit-requires
+    add-result
+    returns
+    returns-2
+    returns-3)
