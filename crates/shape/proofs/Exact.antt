@@ -96,7 +96,7 @@ abbrev pub separate : List Word → Bool
 separate [] = true
 separate (u ∷ us) = all (λ t. clash (wide t) (wide u)) us && separate us
 
-of-one : (p : ℕ → Bool) (xs : List ℕ) → all p xs ≡ true → (b : ℕ) → oneOf b xs ≡ true → p b ≡ true
+pub of-one : (p : ℕ → Bool) (xs : List ℕ) → all p xs ≡ true → (b : ℕ) → oneOf b xs ≡ true → p b ≡ true
 of-one p [] a b e = absurd (false≢true e)
 of-one p (x ∷ xs) a b e = go (of-one p xs (h .1) b) (eqb b x) refl e
   where

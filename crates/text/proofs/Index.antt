@@ -9,8 +9,9 @@ use native.Mathlib.Numerals.{add-one}
 use lib.Dec.{eqb}
 use lib.ListN.{length, take, drop, getD, drop-of-length-le, length-drop}
 use lib.Seq.{drop-cons, drop-drop, take-all}
-use borrow.Author.Tests.{eq-eqb, ne-eqb}
-use Rattle.text.specs.Words.{Word, split, onto, after, upTo, before, behind, all, same, rankFrom}
+use lib.Arith.{lt-of-le-ne}
+use borrow.Author.Tests.{eq-eqb, ne-eqb, lt-ltb, le-ltb}
+use Rattle.text.specs.Words.{Word, split, onto, after, upTo, holds, before, behind, all, same, rankFrom}
 use Rattle.text.specs.Places.{Stepped}
 
 pub drop-here : (s : List ℕ) (i : ℕ) → i < length s → drop i s ≡ getD s i 0 ∷ drop (i + 1) s
@@ -106,6 +107,24 @@ module _ (c : ℕ) (s : List ℕ) (at e : ℕ) (end : e ≡ at + upTo c (drop at
   stepped-end l m h =
       let z : length s ≤ e + 1 = omega arith in
       record { inside = m; over = drop-end s e h ∙ sym (drop-end s (e + 1) z) ∙ over-end; further = λ k. omega arith }
+
+-- THE FIRST c, where `find` from 0 says it is
+
+module _ (c : ℕ) (s : List ℕ) (o : ℕ) (end : o ≡ 0 + upTo c s) where
+  place : upTo c s ≡ o
+  place = omega arith
+
+  pub found-none : o ≡ length s → holds c s ≡ false
+  found-none h = rw place (le-ltb o (length s) (omega arith))
+
+  pub found : (o ≡ length s → ⊥) → o ≤ length s → holds c s ≡ true
+  found ne le = rw place (lt-ltb o (length s) (lt-of-le-ne le ne))
+
+  pub found-before : take o s ≡ before c s
+  found-before = rw place
+
+  pub found-behind : drop (o + 1) s ≡ behind c s
+  found-behind = rw (place, add-one o)
 
 -- A WORD AMONG THOSE OF A LIST
 

@@ -2,15 +2,16 @@
 use Prim.Native.Nat.{ℕ, _<_}
 use mathlib.Core.Path.{_≡_, refl}
 use mathlib.Core.Bool.{Bool, true, false, _||_, not}
-use mathlib.Core.List.{List, [], _∷_}
+use mathlib.Core.List.{List, [], _∷_, _++_}
 use lib.Dec.{eqb}
-use lib.ListN.{length}
+use native.Mathlib.Omega.{arith}
+use lib.ListN.{length, length-append}
 use borrow.Author.Tests.{not-true}
 use Rattle.alphabet.specs.Text.{bytes}
 use Rattle.alphabet.specs.Alphabet.{oneOf, letter, digit, sign, text, inAlphabet, white}
-use Rattle.text.specs.Words.{Word, join, all, null, free, tidyByte, tidyWord, tidy}
-use Rattle.text.proofs.Tests.{both, and-both, all-imp, all-free, other, some-length}
-use Rattle.text.proofs.Joined.{split-join}
+use Rattle.text.specs.Words.{Word, join, holds, before, behind, all, null, free, tidyByte, tidyWord, tidy}
+use Rattle.text.proofs.Tests.{both, and-both, all-imp, all-append, all-free, other, some-length}
+use Rattle.text.proofs.Joined.{split-join, seam}
 
 -- a byte of a tidy word is no space, no hyphen, no parenthesis
 pub no-space : tidyByte 32 ≡ false
@@ -67,11 +68,22 @@ letter-tidy b e = sign-tidy b (letter-sign b e)
 pub digit-tidy : (b : ℕ) → digit b ≡ true → tidyByte b ≡ true
 digit-tidy b e = sign-tidy b (digit-sign b e)
 
+pub oblique-tidy : tidyByte 47 ≡ true
+unfolding text inAlphabet white
+oblique-tidy = refl
+
 -- WHICH CONTENTS ARE TIDY
 
 -- a word of one or more bytes that pass a test, where all that pass it are tidy
 pub tidy-word : (p : ℕ → Bool) → ((b : ℕ) → p b ≡ true → tidyByte b ≡ true) → (w : Word) → 0 < length w → all p w ≡ true → tidyWord w ≡ true
 tidy-word p f w h e = and-both (not (null w)) (all tidyByte w) (some-length w h) (all-imp p tidyByte f w e)
+
+-- a word with an oblique, from what stands before it and behind it
+pub tidy-cut : (w : Word) → holds 47 w ≡ true → all tidyByte (before 47 w) ≡ true → all tidyByte (behind 47 w) ≡ true → tidyWord w ≡ true
+tidy-cut w h p q =
+    rw (seam 47 w h) at
+    (tidy-word tidyByte (λ b t. t) (before 47 w ++ (47 ∷ behind 47 w)) (simp length-append (omega arith))
+    (all-append tidyByte (before 47 w) (47 ∷ behind 47 w) p (rw oblique-tidy q)))
 
 -- words joined by spaces
 pub tidy-join : (w : Word) (ws : List Word) → all tidyWord (w ∷ ws) ≡ true → tidy (join 32 (w ∷ ws)) ≡ true

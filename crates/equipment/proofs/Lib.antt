@@ -1,0 +1,3 @@
+pub mod Laws
+pub mod Field10
+pub mod Limits

@@ -1,0 +1,105 @@
+-- `space::reduce` meets its contract. Assumes nothing.
+use lib.ListN.{length}
+use Prim.Native.Nat.{_-_}
+use Rattle.space.proofs.Index.{Reducing, turn-byte, turn-space, turn-out, reducing-starts, reducing-ends}
+use borrow.Author.Needs.{needs}
+use native.Mathlib.Omega.{arith}
+use Rattle.space.proofs.reduce.Statement.{statement}
+use Rattle.space.proofs.reduce.Tie as tie
+
+abbrev Inv-loop : tie.InvT-loop
+Inv-loop msg buf₀ n₀ i₀ after₀ buf n i after = Reducing msg buf₀ buf n i after
+
+abbrev μ-loop : tie.MeasureT-loop
+μ-loop msg buf₀ n₀ i₀ after₀ buf n i after = length msg - i
+
+loop-holds : tie.Need-loop-holds Inv-loop μ-loop
+loop-holds c = reducing-starts _ _
+
+shared-slice-read-b : tie.Need-shared-slice-read-b Inv-loop μ-loop
+shared-slice-read-b c = search needs
+
+add-i : tie.Need-add-i Inv-loop μ-loop
+add-i c = search needs
+
+is-white-requires : tie.Need-is-white-requires Inv-loop μ-loop
+is-white-requires c κs = search needs
+
+stands-for-run-requires : tie.Need-stands-for-run-requires Inv-loop μ-loop
+stands-for-run-requires c κs = search needs
+
+slice-write-buf : tie.Need-slice-write-buf Inv-loop μ-loop
+slice-write-buf c = search needs
+
+add-n : tie.Need-add-n Inv-loop μ-loop
+add-n c = search needs
+
+loop-less : tie.Need-loop-less Inv-loop μ-loop
+loop-less c = search needs
+
+loop-again : tie.Need-loop-again Inv-loop μ-loop
+loop-again c =
+    let p = c .before .before .before .before .before .before in
+    let l = p .loop in
+    let m = p .before .before .before .args .msg .now in
+    turn-space m _ (l .buf) (l .n) (l .i) (l .after) (l .inv) (omega arith) (omega arith) (cc) (cc)
+
+loop-less-2 : tie.Need-loop-less-2 Inv-loop μ-loop
+loop-less-2 c = search needs
+
+loop-again-2 : tie.Need-loop-again-2 Inv-loop μ-loop
+loop-again-2 c =
+    let p = c .before .before .before .before .before .before in
+    let l = p .loop in
+    let m = p .before .before .before .args .msg .now in
+    turn-out m _ (l .buf) (l .n) (l .i) (l .after) (l .inv) (omega arith) (cc) (cc)
+
+is-opening-requires : tie.Need-is-opening-requires Inv-loop μ-loop
+is-opening-requires c κs = search needs
+
+slice-write-buf-2 : tie.Need-slice-write-buf-2 Inv-loop μ-loop
+slice-write-buf-2 c = search needs
+
+add-n-2 : tie.Need-add-n-2 Inv-loop μ-loop
+add-n-2 c = search needs
+
+loop-less-3 : tie.Need-loop-less-3 Inv-loop μ-loop
+loop-less-3 c = search needs
+
+loop-again-3 : tie.Need-loop-again-3 Inv-loop μ-loop
+loop-again-3 c =
+    let p = c .before .before .before .before .before in
+    let l = p .loop in
+    let m = p .before .before .before .args .msg .now in
+    turn-byte m _ (l .buf) (l .n) (l .i) (l .after) (l .inv) (omega arith) (omega arith) (cc) (c .is-opening .result) (cc)
+
+same-length : tie.Need-same-length Inv-loop μ-loop
+same-length c = search needs
+
+returns : tie.Need-returns Inv-loop μ-loop
+returns c = reducing-ends _ _ _ _ _ _ (c .before .loop .inv) (c .loop-test .left)
+
+pub reduce-spec : {M : Type 1} → statement M
+reduce-spec =
+    tie.close
+    (tie.spec
+    Inv-loop
+    μ-loop
+    loop-holds
+    shared-slice-read-b
+    add-i
+    is-white-requires
+    stands-for-run-requires
+    slice-write-buf
+    add-n
+    loop-less
+    loop-again
+    loop-less-2
+    loop-again-2
+    is-opening-requires
+    slice-write-buf-2
+    add-n-2
+    loop-less-3
+    loop-again-3
+    same-length
+    returns)

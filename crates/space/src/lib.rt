@@ -1,0 +1,106 @@
+// White space reduced into a scratch, and the places of the hyphens in a message as sent.
+ghost use mathlib.Core.Path.{_≡_};
+ghost use Prim.Native.Nat.{ℕ, _≤_};
+ghost use lib.ListN.{length, drop};
+ghost use Rattle.text.specs.Lent.{front};
+ghost use Rattle.space.specs.Reduced.{opens, closes, standsForRun, reduced};
+ghost use Rattle.space.specs.Hyphens.{hyphens, placeOfHyphen};
+
+fn is_opening(b: u8) -> bool
+    ensures { λ r. ⌜ r ≡ opens b ⌝ }
+{
+    if b == b'(' {
+        return true;
+    }
+    b == b'-'
+}
+
+fn is_closing(b: u8) -> bool
+    ensures { λ r. ⌜ r ≡ closes b ⌝ }
+{
+    if b == b'-' {
+        return true;
+    }
+    b == b')'
+}
+
+// Whether the byte of white space before `at` is the one that stands for its run.
+fn stands_for_run(msg: &[u8], at: usize, after: bool) -> bool
+    requires { ⌜ at ≤ length (now msg) ⌝ }
+    ensures { λ r. ⌜ r ≡ standsForRun after (drop at (now (msg .entry))) ⌝ }
+{
+    if at < msg.len() {
+        let c = msg[at];
+        if alphabet::is_white(c) {
+            return false;
+        }
+        if after {
+            return true;
+        }
+        !is_closing(c)
+    } else {
+        true
+    }
+}
+
+// Writes `msg` reduced at the front of `buf`, and returns how many bytes that is; the bytes behind it stay.
+pub fn reduce(msg: &[u8], buf: &mut [u8]) -> usize
+    requires { ⌜ length (now msg) ≤ length (now buf) ⌝ }
+    ensures { λ r. ⌜ (r ≡ length (reduced (now (msg .entry)))) × (now (buf .exit) ≡ front (reduced (now (msg .entry))) (now (buf .entry))) ⌝ }
+{
+    let mut n = 0;
+    let mut i = 0;
+    let mut after = false;
+    while i < msg.len() {
+        let b = msg[i];
+        i += 1;
+        if alphabet::is_white(b) {
+            if stands_for_run(msg, i, after) {
+                buf[n] = b' ';
+                n += 1;
+            }
+        } else {
+            after = is_opening(b);
+            buf[n] = b;
+            n += 1;
+        }
+    }
+    n
+}
+
+pub fn count_hyphens(msg: &[u8]) -> usize
+    ensures { λ r. ⌜ r ≡ hyphens (now (msg .entry)) ⌝ }
+{
+    let mut n = 0;
+    let mut i = 0;
+    while i < msg.len() {
+        let b = msg[i];
+        i += 1;
+        if b == b'-' {
+            n += 1;
+        }
+    }
+    n
+}
+
+// The place of the j-th hyphen, counted from 1; 0 for 0, the length where there are fewer.
+pub fn place_of_hyphen(msg: &[u8], j: usize) -> usize
+    ensures { λ r. ⌜ r ≡ placeOfHyphen j (now (msg .entry)) ⌝ }
+{
+    if j == 0 {
+        return 0;
+    }
+    let mut left = j - 1;
+    let mut i = 0;
+    while i < msg.len() {
+        let at = i;
+        i += 1;
+        if msg[at] == b'-' {
+            if left == 0 {
+                return at;
+            }
+            left -= 1;
+        }
+    }
+    i
+}
