@@ -1,0 +1,177 @@
+-- What ties the definitions to code that walks an index. Assumes nothing.
+use Prim.Native.Nat.{ℕ, suc, _+_, _-_, _<_, _≤_}
+use mathlib.Core.Path.{_≡_, refl, sym, ap, _∙_}
+use mathlib.Core.Bool.{Bool, true, false, _&&_, not}
+use mathlib.Core.List.{List, [], _∷_}
+use native.Mathlib.Omega.{arith}
+use lib.Dec.{leb, eqb, leb·suc-zero, leb·suc-suc}
+use lib.ListN.{length, take, drop, length-drop}
+use lib.Seq.{take-all, length-take-le}
+use borrow.Author.Tests.{le-leb, eqb-true, eqb-false}
+use Rattle.alphabet.specs.Alphabet.{text}
+use Rattle.text.specs.Words.{Word, all, null, same, split, upTo}
+use Rattle.text.proofs.Tests.{and-both, some-length}
+use Rattle.text.proofs.Index.{split-at, after-here, after-end, drop-end, rest}
+use Rattle.shape.specs.declared.ClockRead.the-variants.{NoTimeOfDay}
+use Rattle.shape.specs.Time.{timeFits, clockHours, elapsedHours, clockFits}
+use Rattle.shape.proofs.Times.{time-length}
+use Rattle.aerodromes.specs.Aerodromes.{fourLetters, timed, first, others}
+use Rattle.aerodromes.specs.Field13.{clockOrNone, fits13open}
+use Rattle.aerodromes.specs.Field16.{fewAerodromes, mostAlternates, fits16plan}
+use Rattle.aerodromes.specs.Field17.{textWord, unlisted, fits17}
+use Rattle.aerodromes.specs.Asked.{clockAt}
+use Rattle.aerodromes.proofs.Aerodromes.{four-length, timed-length}
+
+and-false : (a b : Bool) → b ≡ false → (a && b) ≡ false
+and-false true b e = e
+and-false false b e = refl
+
+-- a test that does not hold
+not-so : (b : Bool) → (b ≡ true → ⊥) → b ≡ false
+not-so true h = absurd (h refl)
+not-so false h = refl
+
+-- the last of some tests in a row
+pub last-test : (r b : Bool) → r ≡ b → r ≡ (b && true)
+last-test r true e = e
+last-test r false e = e
+
+-- AN AERODROME AND A TIME
+
+pub timed-short : (most : ℕ) (w : Word) → length w < 4 → timed most w ≡ false
+timed-short most w h = not-so (timed most w) (λ e. omega (arith, timed-length most w e))
+
+pub timed-stop : (most : ℕ) (w : Word) → fourLetters (take 4 w) ≡ false → timed most w ≡ false
+unfolding timed
+timed-stop most w e = rw e
+
+pub timed-rest : (most : ℕ) (w : Word) → fourLetters (take 4 w) ≡ true → timeFits most (take (length w - 4) (drop 4 w)) ≡ timed most w
+unfolding timed
+timed-rest most w e = rw (e, rest w 4)
+
+-- a time that may be absent
+
+pub open-alone : (s : List ℕ) → fourLetters s ≡ true → fits13open s ≡ true
+unfolding fits13open
+open-alone s e =
+    let h : length s ≤ 4 = omega (arith, four-length s e) in
+    rw (take-all 4 s h, drop-end s 4 h, e)
+
+pub open-timed : (s : List ℕ) → fourLetters s ≡ false → fits13open s ≡ timed clockHours s
+unfolding fits13open timed
+open-timed s e = go (drop 4 s) refl
+  where
+    go : (t : Word) → drop 4 s ≡ t → (fourLetters (take 4 s) && clockOrNone t) ≡ (fourLetters (take 4 s) && clockFits t)
+    go [] q = let h : length s ≤ 4 = omega (arith, sym (length-drop 4 s) ∙ ap length q) in rw (take-all 4 s h, e)
+    go (b ∷ t) q = refl
+
+-- a time of day behind the first four bytes
+
+pub clock-short : (s : List ℕ) → length s < 8 → clockAt s ≡ NoTimeOfDay
+clock-short s h =
+    let n : length (drop 4 s) ≤ 4 = simp length-drop (omega arith) in
+    let t : clockFits (take 4 (drop 4 s)) ≡ false
+    = not-so (clockFits (take 4 (drop 4 s)))
+    (λ e. omega (arith, sym (ap length (take-all 4 (drop 4 s) n)) ∙ time-length clockHours (take 4 (drop 4 s)) e, length-drop 4 s)) in
+    rw t
+
+-- A TEST OF EVERY WORD, and aerodromes at most so many: at a word that ends at e
+
+null-split : (s : List ℕ) (at : ℕ) → null (split 32 (drop at s)) ≡ false
+null-split s at = rw (split-at 32 s at (at + upTo 32 (drop at s)) refl)
+
+module _ (p : Word → Bool) (s : List ℕ) (at e : ℕ) (end : e ≡ at + upTo 32 (drop at s)) where
+  pub each-stop : p (take (e - at) (drop at s)) ≡ false → all p (split 32 (drop at s)) ≡ false
+  each-stop h = rw (split-at 32 s at e end, h)
+
+  pub each-last : p (take (e - at) (drop at s)) ≡ true → length s ≤ e → all p (split 32 (drop at s)) ≡ true
+  each-last h l = rw (split-at 32 s at e end, h, after-end 32 s e l)
+
+  pub each-next : p (take (e - at) (drop at s)) ≡ true → e < length s → all p (split 32 (drop at s)) ≡ all p (split 32 (drop (e + 1) s))
+  each-next h l = rw (split-at 32 s at e end, h, after-here 32 s e l)
+
+pub few-none : (s : List ℕ) (at : ℕ) → fewAerodromes 0 (split 32 (drop at s)) ≡ false
+few-none s at = rw (split-at 32 s at (at + upTo 32 (drop at s)) refl, leb·suc-zero)
+
+module _ (n : ℕ) (s : List ℕ) (at e : ℕ) (end : e ≡ at + upTo 32 (drop at s)) where
+  pub few-stop : fourLetters (take (e - at) (drop at s)) ≡ false → fewAerodromes n (split 32 (drop at s)) ≡ false
+  few-stop h = and-false (leb (length (split 32 (drop at s))) n) (all fourLetters (split 32 (drop at s))) (each-stop fourLetters s at e end h)
+
+  pub few-last : 0 < n → fourLetters (take (e - at) (drop at s)) ≡ true → length s ≤ e → fewAerodromes n (split 32 (drop at s)) ≡ true
+  few-last z h l = rw (split-at 32 s at e end, h, after-end 32 s e l, le-leb 1 n z)
+
+  step : fourLetters (take (e - at) (drop at s)) ≡ true → e < length s
+      → fewAerodromes (suc (n - 1)) (split 32 (drop at s)) ≡ fewAerodromes (n - 1) (split 32 (drop (e + 1) s))
+  step h l = rw (split-at 32 s at e end, h, after-here 32 s e l, leb·suc-suc (length (split 32 (drop (e + 1) s))) (n - 1))
+
+  pub few-next : 0 < n → fourLetters (take (e - at) (drop at s)) ≡ true → e < length s
+      → fewAerodromes n (split 32 (drop at s)) ≡ fewAerodromes (n - 1) (split 32 (drop (e + 1) s))
+  few-next z h l = let q : n ≡ suc (n - 1) = omega arith in ap (λ (k : ℕ). fewAerodromes k (split 32 (drop at s))) q ∙ step h l
+
+-- a word without a byte is no text word
+pub text-none : (s : List ℕ) (at e : ℕ) → e ≡ at → textWord (take (e - at) (drop at s)) ≡ false
+text-none s at e h = let z : e - at ≡ 0 = omega arith in rw z
+
+pub text-stop : (s : List ℕ) (at e : ℕ) → all text (take (e - at) (drop at s)) ≡ false → textWord (take (e - at) (drop at s)) ≡ false
+text-stop s at e h = and-false (not (null (take (e - at) (drop at s)))) (all text (take (e - at) (drop at s))) h
+
+pub text-here : (s : List ℕ) (at e : ℕ) → at < e → e ≤ length s → all text (take (e - at) (drop at s)) ≡ true → textWord (take (e - at) (drop at s)) ≡ true
+text-here s at e p q h =
+    let l : e - at ≤ length (drop at s) = simp length-drop (omega arith) in
+    and-both (not (null (take (e - at) (drop at s)))) (all text (take (e - at) (drop at s)))
+    (some-length (take (e - at) (drop at s)) (omega (arith, length-take-le (e - at) (drop at s) l)))
+    h
+
+-- THE WORDS OF A CONTENT, the first of which ends at e
+
+module _ (s : List ℕ) (e : ℕ) (end : e ≡ 0 + upTo 32 (drop 0 s)) where
+  pub first-at : first (split 32 s) ≡ take e s
+  first-at = let z : e - 0 ≡ e = omega arith in ap first (split-at 32 s 0 e end) ∙ ap (λ (n : ℕ). take n s) z
+
+  pub others-here : e < length s → others (split 32 s) ≡ split 32 (drop (e + 1) s)
+  others-here h = ap others (split-at 32 s 0 e end) ∙ after-here 32 s e h
+
+  pub others-end : length s ≤ e → others (split 32 s) ≡ []
+  others-end h = ap others (split-at 32 s 0 e end) ∙ after-end 32 s e h
+
+  others-null : e ≤ length s → null (others (split 32 s)) ≡ eqb e (length s)
+  others-null l = go (eqb e (length s)) refl
+    where
+      go : (b : Bool) → eqb e (length s) ≡ b → null (others (split 32 s)) ≡ b
+      go true q = ap null (others-end (omega (arith, eqb-true e (length s) q)))
+      go false q =
+          let n = eqb-false e (length s) q in
+          ap null (others-here (omega arith)) ∙ null-split s (e + 1)
+
+  -- field 16 in FPL and SPL
+
+  pub plan-stop : timed elapsedHours (take e s) ≡ false → fits16plan s ≡ false
+  unfolding fits16plan
+  plan-stop t = rw (first-at, t)
+
+  pub plan-last : timed elapsedHours (take e s) ≡ true → length s ≤ e → fits16plan s ≡ true
+  unfolding fits16plan
+  plan-last t l = rw (first-at, t, others-end l)
+
+  pub plan-next : timed elapsedHours (take e s) ≡ true → e < length s → fits16plan s ≡ fewAerodromes mostAlternates (split 32 (drop (e + 1) s))
+  unfolding fits16plan
+  plan-next t l = rw (first-at, t, others-here l)
+
+  -- field 17
+
+  pub landed-stop : timed clockHours (take e s) ≡ false → fits17 s ≡ false
+  unfolding fits17
+  landed-stop t = rw (first-at, t)
+
+  pub landed-other : e ≤ length s → timed clockHours (take e s) ≡ true → same (take 4 (take e s)) unlisted ≡ false → fits17 s ≡ eqb e (length s)
+  unfolding fits17
+  landed-other l t u = rw (first-at, t, u) (others-null l)
+
+  pub landed-bare : timed clockHours (take e s) ≡ true → same (take 4 (take e s)) unlisted ≡ true → length s ≤ e → fits17 s ≡ false
+  unfolding fits17
+  landed-bare t u l = rw (first-at, t, u, others-end l)
+
+  pub landed-place : timed clockHours (take e s) ≡ true → same (take 4 (take e s)) unlisted ≡ true → e < length s
+      → fits17 s ≡ all textWord (split 32 (drop (e + 1) s))
+  unfolding fits17
+  landed-place t u l = rw (first-at, t, u, others-here l, null-split s (e + 1))

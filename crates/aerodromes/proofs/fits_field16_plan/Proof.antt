@@ -1,0 +1,76 @@
+-- `aerodromes::fits_field16_plan` meets its contract. Assumes nothing.
+use Prim.Native.Nat.{_+_}
+use mathlib.Core.Path.{sym, ap, _∙_}
+use mathlib.Core.List.{List}
+use Prim.Native.Nat.{ℕ}
+use lib.Seq.{length-take-le}
+use borrow.Author.Tests.{not-true, not-false}
+use Rattle.text.specs.Words.{split}
+use Rattle.text.proofs.Index.{rest}
+use Rattle.aerodromes.specs.Field16.{fewAerodromes, mostAlternates}
+use Rattle.aerodromes.proofs.Index.{plan-stop, plan-last, plan-next}
+use native.Mathlib.Omega.{arith}
+use borrow.Author.Needs.{needs}
+use Rattle.aerodromes.proofs.fits_field16_plan.Statement.{statement}
+use Rattle.aerodromes.proofs.fits_field16_plan.Tie as tie
+
+find-requires : tie.Need-find-requires
+find-requires c κs = search needs
+
+slice-aggregate-at-elapsed : tie.Need-slice-aggregate-at-elapsed
+slice-aggregate-at-elapsed c = sym (length-take-le _ _ (c .before .find .ensures .1 .1))
+
+at-elapsed-requires : tie.Need-at-elapsed-requires
+at-elapsed-requires c κs = search needs
+
+returns : tie.Need-returns
+returns c =
+    let f = c .before .before .before .find in
+    let first = sym (c .before .at-elapsed .ensures) ∙ not-true _ (c .if1 .taken) in
+    sym (plan-stop (c .before .before .before .before .before .args .s .now) (f .result) (f .ensures .0) first)
+
+returns-2 : tie.Need-returns-2
+returns-2 c =
+    let f = c .before .before .before .before .find in
+    let first = sym (c .before .before .at-elapsed .ensures) ∙ not-false _ (c .before .if1 .left) in
+    sym (plan-last (c .before .before .before .before .before .before .args .s .now) (f .result) (f .ensures .0) first (omega arith))
+
+add-alternates : tie.Need-add-alternates
+add-alternates c = search needs
+
+sub-alternates : tie.Need-sub-alternates
+sub-alternates c = search needs
+
+part-alternates-start : tie.Need-part-alternates-start
+part-alternates-start c = search needs
+
+part-alternates-end : tie.Need-part-alternates-end
+part-alternates-end c = search needs
+
+alternates-requires : tie.Need-alternates-requires
+alternates-requires c κs = search needs
+
+returns-3 : tie.Need-returns-3
+returns-3 c =
+    let s = c .before .before .before .before .before .before .before .before .args .s .now in
+    let f = c .before .before .before .before .before .before .find in
+    let first = sym (c .before .before .before .before .at-elapsed .ensures) ∙ not-false _ (c .before .before .before .if1 .left) in
+    c .alternates .ensures
+    ∙ ap (λ (t : List ℕ). fewAerodromes mostAlternates (split 32 t)) (rest s (f .result + 1))
+    ∙ sym (plan-next s (f .result) (f .ensures .0) first (omega arith))
+
+pub fits-field16-plan-spec : {M : Type 1} → statement M
+fits-field16-plan-spec =
+    tie.close
+    (tie.spec
+    find-requires
+    slice-aggregate-at-elapsed
+    at-elapsed-requires
+    returns
+    returns-2
+    add-alternates
+    sub-alternates
+    part-alternates-start
+    part-alternates-end
+    alternates-requires
+    returns-3)

@@ -1,0 +1,111 @@
+-- `aerodromes::fits_field17` meets its contract. Assumes nothing.
+use Prim.Native.Nat.{ℕ, _+_}
+use mathlib.Core.Path.{sym, ap, _∙_}
+use mathlib.Core.List.{List}
+use lib.Seq.{length-take-le}
+use borrow.Author.Tests.{not-true, not-false}
+use Rattle.text.specs.Words.{Word, all, same, split}
+use Rattle.text.proofs.Index.{rest}
+use Rattle.aerodromes.specs.Field17.{textWord, unlisted}
+use Rattle.aerodromes.proofs.Index.{landed-stop, landed-other, landed-bare, landed-place}
+use native.Mathlib.Omega.{arith}
+use borrow.Author.Needs.{needs}
+use Rattle.aerodromes.proofs.fits_field17.Statement.{statement}
+use Rattle.aerodromes.proofs.fits_field17.Tie as tie
+
+find-requires : tie.Need-find-requires
+find-requires c κs = search needs
+
+slice-aggregate-at-clock : tie.Need-slice-aggregate-at-clock
+slice-aggregate-at-clock c = sym (length-take-le _ _ (c .before .find .ensures .1 .1))
+
+at-clock-requires : tie.Need-at-clock-requires
+at-clock-requires c κs = search needs
+
+returns : tie.Need-returns
+returns c =
+    let f = c .before .before .before .find in
+    let first = sym (c .before .at-clock .ensures) ∙ not-true _ (c .if1 .taken) in
+    sym (landed-stop (c .before .before .before .before .before .args .s .now) (f .result) (f .ensures .0) first)
+
+slice-aggregate-aerodrome-of : tie.Need-slice-aggregate-aerodrome-of
+slice-aggregate-aerodrome-of c = sym (length-take-le _ _ (c .before .before .before .before .find .ensures .1 .1))
+
+aerodrome-of-requires : tie.Need-aerodrome-of-requires
+aerodrome-of-requires c κs = search needs
+
+slice-aggregate-same-bytes : tie.Need-slice-aggregate-same-bytes
+slice-aggregate-same-bytes c = search needs
+
+same-bytes-requires : tie.Need-same-bytes-requires
+same-bytes-requires c κs = search needs
+
+returns-2 : tie.Need-returns-2
+unfolding unlisted
+returns-2 c =
+    let d = c .before .before .before .before .before in
+    let s = d .before .before .before .before .before .args .s .now in
+    let f = d .before .before .before .find in
+    let first = sym (d .before .at-clock .ensures) ∙ not-false _ (d .if1 .left) in
+    let zzzz = ap (λ (w : Word). same w unlisted) (sym (c .before .before .before .aerodrome-of .ensures)) ∙ sym (c .before .same-bytes .ensures) in
+    sym (landed-other s (f .result) (f .ensures .0) (f .ensures .1 .1) first (zzzz ∙ not-true _ (c .if2 .taken)))
+
+returns-3 : tie.Need-returns-3
+unfolding unlisted
+returns-3 c =
+    let b = c .before in
+    let d = b .before .before .before .before .before in
+    let s = d .before .before .before .before .before .args .s .now in
+    let f = d .before .before .before .find in
+    let first = sym (d .before .at-clock .ensures) ∙ not-false _ (d .if1 .left) in
+    let zzzz = ap (λ (w : Word). same w unlisted) (sym (b .before .before .before .aerodrome-of .ensures)) ∙ sym (b .before .same-bytes .ensures) in
+    sym (landed-bare s (f .result) (f .ensures .0) first (zzzz ∙ not-false _ (b .if2 .left)) (omega arith))
+
+add-text-words : tie.Need-add-text-words
+add-text-words c = search needs
+
+sub-text-words : tie.Need-sub-text-words
+sub-text-words c = search needs
+
+part-text-words-start : tie.Need-part-text-words-start
+part-text-words-start c = search needs
+
+part-text-words-end : tie.Need-part-text-words-end
+part-text-words-end c = search needs
+
+text-words-requires : tie.Need-text-words-requires
+text-words-requires c κs = search needs
+
+returns-4 : tie.Need-returns-4
+unfolding unlisted
+returns-4 c =
+    let b = c .before .before .before in
+    let d = b .before .before .before .before .before in
+    let s = d .before .before .before .before .before .args .s .now in
+    let f = d .before .before .before .find in
+    let first = sym (d .before .at-clock .ensures) ∙ not-false _ (d .if1 .left) in
+    let zzzz = ap (λ (w : Word). same w unlisted) (sym (b .before .before .before .aerodrome-of .ensures)) ∙ sym (b .before .same-bytes .ensures) in
+    c .text-words .ensures
+    ∙ ap (λ (t : List ℕ). all textWord (split 32 t)) (rest s (f .result + 1))
+    ∙ sym (landed-place s (f .result) (f .ensures .0) first (zzzz ∙ not-false _ (b .if2 .left)) (omega arith))
+
+pub fits-field17-spec : {M : Type 1} → statement M
+fits-field17-spec =
+    tie.close
+    (tie.spec
+    find-requires
+    slice-aggregate-at-clock
+    at-clock-requires
+    returns
+    slice-aggregate-aerodrome-of
+    aerodrome-of-requires
+    slice-aggregate-same-bytes
+    same-bytes-requires
+    returns-2
+    returns-3
+    add-text-words
+    sub-text-words
+    part-text-words-start
+    part-text-words-end
+    text-words-requires
+    returns-4)

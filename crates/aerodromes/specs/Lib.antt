@@ -1,0 +1,5 @@
+pub mod Aerodromes
+pub mod Field13
+pub mod Field16
+pub mod Field17
+pub mod Asked
