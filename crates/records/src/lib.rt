@@ -1,0 +1,1 @@
+// Definitions and proofs only: the records of a list of fields.
