@@ -1,0 +1,141 @@
+-- Words under a key: what the code tests of them, and that each is a text word. Assumes nothing.
+use Prim.Native.Nat.{ℕ, _*_, _<_, _≤_}
+use mathlib.Core.Path.{_≡_, refl, sym, ap, _∙_}
+use mathlib.Core.Bool.{Bool, true, false, cond, _&&_, not, false≢true}
+use mathlib.Core.List.{List, [], _∷_}
+use native.Mathlib.Omega.{arith}
+use lib.Dec.{leb, eqb}
+use lib.ListN.{length, length-append}
+use borrow.Author.Tests.{eqb-true, leb-true, leb-false, le-leb, lt-leb}
+use Rattle.alphabet.specs.Alphabet.{letter, sign, text, inAlphabet, white, oneOf}
+use Rattle.text.specs.Words.{Word, all, null, elem, free, tidyByte, tidyWord}
+use Rattle.text.proofs.Tests.{both, and-both, all-imp, all-free, of-elem, some-length}
+use Rattle.text.proofs.Tidy.{sign-text, letter-sign, digit-sign, text-tidy}
+use Rattle.shape.specs.Shape.{fits, wide}
+use Rattle.shape.proofs.Index.{fits-lengths}
+use Rattle.shape.proofs.Exact.{fits-all}
+use Rattle.codes.specs.Codes.{codes, concat, codesFit}
+use Rattle.codes.proofs.Laws.{concat-codes, fit-all}
+use Rattle.other.specs.Rules.{statuses, approvals, approved, yearMonthDay, date, timed, hexadecimal, textWord, wordFits, single, moreFits}
+use Rattle.other.specs.declared.Rule.{Rule}
+use Rattle.other.specs.declared.Rule.the-variants.{Status, Approvals, Day, Timed, Selcal, Address, Free}
+
+-- CODES OF TWO BYTES EACH
+
+concat-twos : (list : List Word) → all (λ c. eqb (length c) 2) list ≡ true → (ws : List Word) → codesFit list ws ≡ true → length (concat ws) ≡ 2 * length ws
+concat-twos list a [] e = refl
+concat-twos list a (w ∷ ws) e =
+    let h = both (elem w list) _ e in
+    let n : length w ≡ 2 = eqb-true (length w) 2 (of-elem (λ c. eqb (length c) 2) list a w (h .0)) in
+    omega (arith, length-append w (concat ws), concat-twos list a ws (both (not (elem w ws)) _ (h .1) .1))
+
+approvals-two : all (λ c. eqb (length c) 2) approvals ≡ true
+unfolding approvals
+approvals-two = refl
+
+module _ (w : Word) (e : codesFit approvals (codes w) ≡ true) where
+  approved-length : length w ≡ 2 * length (codes w)
+  approved-length = ap length (sym (concat-codes w)) ∙ concat-twos approvals approvals-two (codes w) e
+
+  pub approved-none : length w < 1 → approved w ≡ false
+  unfolding approved
+  approved-none h = rw (e, lt-leb 1 (length (codes w)) (omega (arith, approved-length)))
+
+  pub approved-count : 1 ≤ length w → approved w ≡ leb (length w) 16
+  unfolding approved
+  approved-count h = rw (e, le-leb 1 (length (codes w)) (omega (arith, approved-length))) (go (leb (length w) 16) refl)
+    where
+      go : (b : Bool) → leb (length w) 16 ≡ b → leb (length (codes w)) 8 ≡ b
+      go true q = le-leb (length (codes w)) 8 (omega (arith, approved-length, leb-true (length w) 16 q))
+      go false q = lt-leb (length (codes w)) 8 (omega (arith, approved-length, leb-false (length w) 16 q))
+
+pub approved-other : (w : Word) → codesFit approvals (codes w) ≡ false → approved w ≡ false
+unfolding approved
+approved-other w e = rw e
+
+-- EACH IS A TEXT WORD
+
+pub text-none : (w : Word) → length w < 1 → textWord w ≡ false
+text-none [] h = refl
+text-none (x ∷ w) h = absurd (omega arith)
+
+text-of : (p : ℕ → Bool) → ((b : ℕ) → p b ≡ true → text b ≡ true) → (w : Word) → 0 < length w → all p w ≡ true → textWord w ≡ true
+text-of p f w h e = and-both (not (null w)) (all text w) (some-length w h) (all-imp p text f w e)
+
+signs : (w : Word) → 0 < length w → all sign w ≡ true → textWord w ≡ true
+signs w h e = text-of sign sign-text w h e
+
+status-text : (w : Word) → elem w statuses ≡ true → textWord w ≡ true
+unfolding statuses text inAlphabet white
+status-text w e = of-elem textWord statuses refl w e
+
+approvals-signs : all (all sign) approvals ≡ true
+unfolding approvals
+approvals-signs = refl
+
+approved-text : (w : Word) → approved w ≡ true → textWord w ≡ true
+unfolding approved
+approved-text w e =
+    let g = both (codesFit approvals (codes w)) _ e in
+    let n : 1 ≤ length (codes w) = leb-true 1 (length (codes w)) (both (leb 1 (length (codes w))) _ (g .1) .0) in
+    signs w (omega (arith, approved-length w (g .0))) (rw concat-codes at (fit-all sign approvals approvals-signs (codes w) (g .0)))
+
+date-text : (w : Word) → date w ≡ true → textWord w ≡ true
+unfolding date
+date-text w e =
+    let f : fits (wide yearMonthDay) w ≡ true = both (fits (wide yearMonthDay) w) _ e .0 in
+    signs w (omega (arith, fits-lengths (wide yearMonthDay) w f)) (fits-all sign digit-sign (wide yearMonthDay) w refl f)
+
+timed-text : (w : Word) → timed w ≡ true → textWord w ≡ true
+unfolding timed
+timed-text w e =
+    let g = both (leb 6 (length w)) _ e in
+    let h = both (leb (length w) 15) _ (g .1) in
+    signs w (omega (arith, leb-true 6 (length w) (g .0))) (both (all sign w) _ (h .1) .0)
+
+-- what every byte of a set passes, a byte of the set passes
+of-set : (p : ℕ → Bool) (xs : List ℕ) → all p xs ≡ true → (b : ℕ) → oneOf b xs ≡ true → p b ≡ true
+of-set p [] a b e = absurd (false≢true e)
+of-set p (x ∷ xs) a b e = go (of-set p xs (h .1) b) (eqb b x) refl e
+  where
+    h : (p x ≡ true) × (all p xs ≡ true)
+    h = both (p x) (all p xs) a
+
+    go : (oneOf b xs ≡ true → p b ≡ true) → (c : Bool) → eqb b x ≡ c → cond c true (oneOf b xs) ≡ true → p b ≡ true
+    go ih true q e = ap p (eqb-true b x q) ∙ h .0
+    go ih false q e = ih e
+
+hexadecimal-signs : all sign hexadecimal ≡ true
+unfolding hexadecimal
+hexadecimal-signs = refl
+
+sized : (n : ℕ) (w : Word) (b : Bool) → 0 < n → (eqb (length w) n && b) ≡ true → (0 < length w) × (b ≡ true)
+sized n w b h e = let g = both (eqb (length w) n) b e in (omega (arith, eqb-true (length w) n (g .0)), g .1)
+
+pub word-text : (r : Rule) (w : Word) → wordFits r w ≡ true → textWord w ≡ true
+word-text Status w e = status-text w e
+word-text Approvals w e = approved-text w e
+word-text Day w e = date-text w e
+word-text Timed w e = timed-text w e
+word-text Selcal w e = let g = sized 4 w (all letter w) (omega arith) e in signs w (g .0) (all-imp letter sign letter-sign w (g .1))
+word-text Address w e =
+    let g = sized 6 w (all (λ b. oneOf b hexadecimal) w) (omega arith) e in
+    signs w (g .0) (all-imp (λ b. oneOf b hexadecimal) sign (of-set sign hexadecimal hexadecimal-signs) w (g .1))
+word-text Free w e = e
+
+pub more-text : (r : Rule) (ws : List Word) → all (moreFits r) ws ≡ true → all textWord ws ≡ true
+more-text r ws e = all-imp (moreFits r) textWord (λ w h. word-text r w (both (not (single r)) (wordFits r w) h .1)) ws e
+
+-- a text word holds no oblique, and is tidy
+
+text-oblique : text 47 ≡ false
+unfolding text inAlphabet white
+text-oblique = refl
+
+pub text-free : (w : Word) → textWord w ≡ true → free 47 w ≡ true
+text-free w e = all-free text 47 text-oblique w (both (not (null w)) (all text w) e .1)
+
+pub text-word : (w : Word) → textWord w ≡ true → tidyWord w ≡ true
+text-word w e =
+    let h = both (not (null w)) (all text w) e in
+    and-both (not (null w)) (all tidyByte w) (h .0) (all-imp text tidyByte text-tidy w (h .1))

@@ -1,0 +1,160 @@
+-- Which words may stand under a key of field 18 (document 01, field 18), and which edition has which keys. Assumes nothing.
+use Prim.Native.Nat.{ℕ, _-_, _%_}
+use Prim.Native.Char.{code}
+use mathlib.Core.Path.{_≡_, refl}
+use mathlib.Core.Bool.{Bool, true, false, _&&_, not, cond}
+use mathlib.Core.List.{List, [], _∷_}
+use lib.Dec.{leb, eqb}
+use lib.ListN.{length, take, drop, getD}
+use Rattle.alphabet.specs.Text.{bytes}
+use Rattle.alphabet.specs.Alphabet.{letter, sign, text, oneOf}
+use Rattle.text.specs.Words.{Word, split, all, null, elem, rank}
+use Rattle.shape.specs.Numbers.{value}
+use Rattle.shape.specs.Shape.{fits, wide, letters}
+use Rattle.shape.specs.Time.{elapsedFits, timeFits}
+use Rattle.codes.specs.Codes.{codes, codesFit}
+use Rattle.other.specs.declared.Rule.{Rule}
+use Rattle.other.specs.declared.Rule.the-variants.{Status, Approvals, Day, Timed, Selcal, Address, Free}
+
+-- THE WORDS
+
+-- STS: one of these
+unfoldable pub statuses : List Word
+statuses = split 32 (bytes "ALTRV ATFMX FFR FLTCK HAZMAT HEAD HOSP HUM MARSA MEDEVAC NONRVSM SAR STATE")
+
+-- PBN: 1 to 8 codes of these, none twice
+unfoldable pub approvals : List Word
+approvals = split 32 (bytes "A1 B1 B2 B3 B4 B5 B6 C1 C2 C3 C4 D1 D2 D3 D4 L1 O1 O2 O3 O4 S1 S2 T1 T2")
+
+unfoldable pub approved : Word → Bool
+approved w = codesFit approvals (codes w) && (leb 1 (length (codes w)) && leb (length (codes w)) 8)
+
+-- DOF: a real date YYMMDD in 2000 to 2099
+abbrev pub yearMonthDay : Word
+yearMonthDay = bytes "222"
+
+abbrev pub year : Word → ℕ
+year w = value (take 2 w)
+
+abbrev pub month : Word → ℕ
+month w = value (take 2 (drop 2 w))
+
+abbrev pub dayOf : Word → ℕ
+dayOf w = value (take 2 (drop 4 w))
+
+-- how many days month m of the year 2000 + y has; none where there is no such month
+unfoldable pub daysIn : ℕ → ℕ → ℕ
+daysIn y m =
+    cond (eqb m 2) (cond (eqb (y % 4) 0) 29 28)
+    (getD (0 ∷ 31 ∷ 28 ∷ 31 ∷ 30 ∷ 31 ∷ 30 ∷ 31 ∷ 31 ∷ 30 ∷ 31 ∷ 30 ∷ 31 ∷ []) m 0)
+
+unfoldable pub date : Word → Bool
+date w = fits (wide yearMonthDay) w && (leb 1 (dayOf w) && leb (dayOf w) (daysIn (year w) (month w)))
+
+-- EET, DLE: 6 to 15 signs, the last four an elapsed time
+unfoldable pub timed : Word → Bool
+timed w = leb 6 (length w) && (leb (length w) 15 && (all sign w && elapsedFits (drop (length w - 4) w)))
+
+-- SEL: 4 letters
+abbrev pub selcal : Word → Bool
+selcal w = eqb (length w) 4 && all letter w
+
+-- CODE: six of 0..9 A..F
+unfoldable pub hexadecimal : List ℕ
+hexadecimal = bytes "0123456789ABCDEF"
+
+abbrev pub address : Word → Bool
+address w = eqb (length w) 6 && all (λ b. oneOf b hexadecimal) w
+
+-- the others: a text word
+abbrev pub textWord : Word → Bool
+textWord w = not (null w) && all text w
+
+-- THE RULES
+
+-- a word that may stand under a key of this rule
+abbrev pub wordFits : Rule → Word → Bool
+wordFits Status w = elem w statuses
+wordFits Approvals w = approved w
+wordFits Day w = date w
+wordFits Timed w = timed w
+wordFits Selcal w = selcal w
+wordFits Address w = address w
+wordFits Free w = textWord w
+
+-- keys of these rules have one word
+abbrev pub single : Rule → Bool
+single Status = false
+single Approvals = true
+single Day = true
+single Timed = false
+single Selcal = true
+single Address = true
+single Free = false
+
+-- a word behind the first
+abbrev pub moreFits : Rule → Word → Bool
+moreFits r w = not (single r) && wordFits r w
+
+-- AN EDITION: its keys in their order, one space between them, and a letter for each key's rule
+
+pub record Edition : Type 0 where
+  pub keys : List ℕ
+  pub rules : List ℕ
+
+abbrev pub edition : List ℕ → List ℕ → Edition
+edition ks rs = record { keys = ks; rules = rs }
+
+-- the rule that a letter stands for
+abbrev pub ruleOf : ℕ → Rule
+ruleOf b =
+    cond (eqb b (code "S")) Status
+    (cond (eqb b (code "P")) Approvals
+    (cond (eqb b (code "D")) Day
+    (cond (eqb b (code "E")) Timed
+    (cond (eqb b (code "L")) Selcal
+    (cond (eqb b (code "H")) Address
+    Free)))))
+
+-- the place of a key, counted from 1; 0 where the edition has no such key
+abbrev pub rankIn : Edition → Word → ℕ
+rankIn ed key = rank key (split 32 (ed .keys))
+
+-- the rule of the key at that place
+abbrev pub ruleIn : Edition → ℕ → Rule
+ruleIn ed k = ruleOf (getD (ed .rules) (k - 1) 0)
+
+-- the edition of document 01
+unfoldable pub base : Edition
+base =
+    edition
+    (bytes "STS PBN NAV COM DAT SUR DEP DEST DOF REG EET SEL TYP CODE DLE OPR ORGN PER ALTN RALT TALT RIF RMK")
+    (bytes "SP......D.EL.HE........")
+
+-- EXAMPLES, computed
+
+abbrev ruled : Word → Rule
+ruled key = ruleIn base (rankIn base key)
+
+ruled-keys : (ruled (bytes "STS") ≡ Status) × (ruled (bytes "PBN") ≡ Approvals) × (ruled (bytes "DOF") ≡ Day) × (ruled (bytes "EET") ≡ Timed)
+    × (ruled (bytes "DLE") ≡ Timed) × (ruled (bytes "SEL") ≡ Selcal) × (ruled (bytes "CODE") ≡ Address) × (ruled (bytes "RMK") ≡ Free)
+unfolding base
+ruled-keys = (refl, refl, refl, refl, refl, refl, refl, refl)
+
+as-many : length (base .rules) ≡ length (split 32 (base .keys))
+unfolding base
+as-many = refl
+
+dates : (date (bytes "240229") ≡ true) × (date (bytes "230229") ≡ false) × (date (bytes "231231") ≡ true)
+    × (date (bytes "231301") ≡ false) × (date (bytes "230100") ≡ false)
+unfolding date daysIn letters
+dates = (refl, refl, refl, refl, refl)
+
+codes-tried : (approved (bytes "A1B1C1D1L1O1S1T1") ≡ true) × (approved (bytes "A1B1C1D1L1O1S1T1T2") ≡ false)
+    × (approved (bytes "A1A1") ≡ false) × (approved (bytes "A") ≡ false) × (approved (bytes "") ≡ false)
+unfolding approved approvals
+codes-tried = (refl, refl, refl, refl, refl)
+
+times-tried : (timed (bytes "EISN0026") ≡ true) × (timed (bytes "EISN0060") ≡ false) × (timed (bytes "EISN2400") ≡ false) × (timed (bytes "E0026") ≡ false)
+unfolding timed timeFits letters
+times-tried = (refl, refl, refl, refl)

@@ -1,0 +1,319 @@
+// Field 18, other information: `0` alone, or items.
+ghost use mathlib.Core.Path.{_≡_};
+ghost use Prim.Native.Nat.{ℕ, _+_, _-_, _≤_, _<_};
+ghost use lib.ListN.{length, take, drop, getD};
+ghost use Rattle.alphabet.specs.Alphabet.{oneOf};
+ghost use Rattle.text.specs.Words.{split, after, all, elem};
+ghost use Rattle.other.specs.Rules.{statuses, approved, daysIn, date, timed, selcal, address, textWord, wordFits, single, moreFits, ruleOf, edition};
+ghost use Rattle.other.specs.Field18.{fitFrom, fitMore, fitsIn, fits18, hasKey, wordsOf, wordsFrom, Found};
+
+// What the words under a key must be: `Free` is any text words.
+enum Rule {
+    Status,
+    Approvals,
+    Day,
+    Timed,
+    Selcal,
+    Address,
+    Free,
+}
+
+// STS: one of these.
+fn is_status(w: &[u8]) -> bool
+    ensures { λ r. ⌜ r ≡ elem (now (w .entry)) statuses ⌝ }
+{
+    text::in_list(
+        w,
+        b"ALTRV ATFMX FFR FLTCK HAZMAT HEAD HOSP HUM MARSA MEDEVAC NONRVSM SAR STATE",
+    )
+}
+
+// PBN: 1 to 8 codes of two bytes, none twice.
+fn is_approved(w: &[u8]) -> bool
+    ensures { λ r. ⌜ r ≡ approved (now (w .entry)) ⌝ }
+{
+    if !codes::codes_fit(
+        b"A1 B1 B2 B3 B4 B5 B6 C1 C2 C3 C4 D1 D2 D3 D4 L1 O1 O2 O3 O4 S1 S2 T1 T2",
+        w,
+    ) {
+        return false;
+    }
+    if w.len() < 1 {
+        return false;
+    }
+    w.len() <= 16
+}
+
+const DAYS: [usize; 13] = [0, 31, 28, 31, 30, 31, 30, 31, 31, 30, 31, 30, 31];
+
+// How many days month m of the year 2000 + y has.
+fn days_in(y: usize, m: usize) -> usize
+    ensures { λ r. ⌜ r ≡ daysIn y m ⌝ }
+{
+    if m == 2 {
+        if y % 4 == 0 { 29 } else { 28 }
+    } else if m < 13 {
+        DAYS[m]
+    } else {
+        0
+    }
+}
+
+// DOF: a real date YYMMDD.
+fn is_date(w: &[u8]) -> bool
+    ensures { λ r. ⌜ r ≡ date (now (w .entry)) ⌝ }
+{
+    if !shape::fits(b"999999", w) {
+        return false;
+    }
+    let day = shape::two(w, 4);
+    if day < 1 {
+        return false;
+    }
+    day <= days_in(shape::two(w, 0), shape::two(w, 2))
+}
+
+// EET, DLE: 6 to 15 signs, the last four an elapsed time.
+fn is_timed(w: &[u8]) -> bool
+    ensures { λ r. ⌜ r ≡ timed (now (w .entry)) ⌝ }
+{
+    if w.len() < 6 {
+        return false;
+    }
+    if 15 < w.len() {
+        return false;
+    }
+    if !text::all_of(text::Kind::Sign, w) {
+        return false;
+    }
+    shape::Elapsed::fits(&w[w.len() - 4..])
+}
+
+// SEL: 4 letters.
+fn is_selcal(w: &[u8]) -> bool
+    ensures { λ r. ⌜ r ≡ selcal (now (w .entry)) ⌝ }
+{
+    if w.len() != 4 {
+        return false;
+    }
+    text::all_of(text::Kind::Letter, w)
+}
+
+// Whether each byte is one of a set.
+fn all_in(w: &[u8], set: &[u8]) -> bool
+    ensures { λ r. ⌜ r ≡ all (λ b. oneOf b (now (set .entry))) (now (w .entry)) ⌝ }
+{
+    let mut i = 0;
+    while i < w.len() {
+        if !shape::one_of(w[i], set) {
+            return false;
+        }
+        i += 1;
+    }
+    true
+}
+
+// CODE: six of 0..9 A..F.
+fn is_address(w: &[u8]) -> bool
+    ensures { λ r. ⌜ r ≡ address (now (w .entry)) ⌝ }
+{
+    if w.len() != 6 {
+        return false;
+    }
+    all_in(w, b"0123456789ABCDEF")
+}
+
+fn is_text_word(w: &[u8]) -> bool
+    ensures { λ r. ⌜ r ≡ textWord (now (w .entry)) ⌝ }
+{
+    if w.len() < 1 {
+        return false;
+    }
+    text::all_of(text::Kind::Text, w)
+}
+
+// Whether w may stand under a key of this rule.
+fn word_fits(rule: Rule, w: &[u8]) -> bool
+    ensures { λ r. ⌜ r ≡ wordFits rule (now (w .entry)) ⌝ }
+{
+    match rule {
+        Rule::Status => is_status(w),
+        Rule::Approvals => is_approved(w),
+        Rule::Day => is_date(w),
+        Rule::Timed => is_timed(w),
+        Rule::Selcal => is_selcal(w),
+        Rule::Address => is_address(w),
+        Rule::Free => is_text_word(w),
+    }
+}
+
+// Whether a key of this rule has one word only.
+fn is_single(rule: Rule) -> bool
+    ensures { λ r. ⌜ r ≡ single rule ⌝ }
+{
+    match rule {
+        Rule::Status => false,
+        Rule::Approvals => true,
+        Rule::Day => true,
+        Rule::Timed => false,
+        Rule::Selcal => true,
+        Rule::Address => true,
+        Rule::Free => false,
+    }
+}
+
+// Whether w may stand behind the first word.
+fn more_fits(rule: Rule, w: &[u8]) -> bool
+    ensures { λ r. ⌜ r ≡ moreFits rule (now (w .entry)) ⌝ }
+{
+    if is_single(rule) {
+        return false;
+    }
+    word_fits(rule, w)
+}
+
+// The rule that a letter stands for.
+fn rule_of(b: u8) -> Rule
+    ensures { λ r. ⌜ r ≡ ruleOf b ⌝ }
+{
+    match b {
+        b'S' => Rule::Status,
+        b'P' => Rule::Approvals,
+        b'D' => Rule::Day,
+        b'E' => Rule::Timed,
+        b'L' => Rule::Selcal,
+        b'H' => Rule::Address,
+        _ => Rule::Free,
+    }
+}
+
+// The rule of the key at place k, counted from 1.
+fn rule_at(rules: &[u8], k: usize) -> Rule
+    requires { ⌜ 0 < k ⌝ }
+    ensures { λ r. ⌜ r ≡ ruleOf (getD (now (rules .entry)) (k - 1) 0) ⌝ }
+{
+    if rules.len() < k {
+        return Rule::Free;
+    }
+    rule_of(rules[k - 1])
+}
+
+// The item that begins at `at`, its key behind the one at place `last`, with all that follows it.
+fn item(keys: &[u8], rules: &[u8], s: &[u8], at: usize, last: usize) -> bool
+    requires { ⌜ at ≤ length (now s) ⌝ }
+    ensures { λ r. ⌜ r ≡ fitFrom (edition (now (keys .entry)) (now (rules .entry))) last (split 32 (drop at (now (s .entry)))) ⌝ }
+{
+    let e = text::find(s, at, b' ');
+    let w = &s[at..e];
+    let o = text::find(w, 0, b'/');
+    if o == w.len() {
+        return false;
+    }
+    let k = text::rank_of(&w[..o], keys);
+    if k <= last {
+        return false;
+    }
+    if !word_fits(rule_at(rules, k), &w[o + 1..]) {
+        return false;
+    }
+    words(keys, rules, s, e, k)
+}
+
+// What follows a word that ends at `end`, in an item of the key at place k: its further words, and the items behind it.
+fn words(keys: &[u8], rules: &[u8], s: &[u8], end: usize, k: usize) -> bool
+    requires { ⌜ (end ≤ length (now s)) × (0 < k) ⌝ }
+    ensures { λ r. ⌜ r ≡ fitMore (edition (now (keys .entry)) (now (rules .entry))) k (after 32 (drop end (now (s .entry)))) ⌝ }
+{
+    if end == s.len() {
+        return true;
+    }
+    let at = end + 1;
+    let e = text::find(s, at, b' ');
+    let w = &s[at..e];
+    if text::find(w, 0, b'/') < w.len() {
+        return item(keys, rules, s, at, k);
+    }
+    if !more_fits(rule_at(rules, k), w) {
+        return false;
+    }
+    words(keys, rules, s, e, k)
+}
+
+// Whether a content fits the form in an edition: its keys, and a letter for each key's rule.
+fn fits_edition(keys: &[u8], rules: &[u8], s: &[u8]) -> bool
+    ensures { λ r. ⌜ r ≡ fitsIn (edition (now (keys .entry)) (now (rules .entry))) (now (s .entry)) ⌝ }
+{
+    if text::same_bytes(s, b"0") {
+        return true;
+    }
+    item(keys, rules, s, 0, 0)
+}
+
+// Whether a content fits field 18's form.
+pub fn fits_field18(s: &[u8]) -> bool
+    ensures { λ r. ⌜ r ≡ fits18 (now (s .entry)) ⌝ }
+{
+    fits_edition(
+        b"STS PBN NAV COM DAT SUR DEP DEST DOF REG EET SEL TYP CODE DLE OPR ORGN PER ALTN RALT TALT RIF RMK",
+        b"SP......D.EL.HE........",
+        s,
+    )
+}
+
+// Where the words of the item of a key begin, behind its oblique; 0 where there is no such item.
+fn words_at(s: &[u8], key: &[u8]) -> usize
+    ensures { λ r. ⌜ Found (now (s .entry)) (now (key .entry)) r ⌝ }
+{
+    let mut at = 0;
+    loop {
+        let e = text::find(s, at, b' ');
+        let w = &s[at..e];
+        let o = text::find(w, 0, b'/');
+        if o < w.len() {
+            if text::same_bytes(&w[..o], key) {
+                return at + o + 1;
+            }
+        }
+        if e == s.len() {
+            return 0;
+        }
+        at = e + 1;
+    }
+}
+
+// Where the item ends whose words begin at `at`: before the next word that holds an oblique.
+fn item_end(s: &[u8], at: usize) -> usize
+    requires { ⌜ at ≤ length (now s) ⌝ }
+    ensures { λ r. ⌜ take (r - at) (drop at (now (s .entry))) ≡ wordsFrom (split 32 (drop at (now (s .entry)))) ⌝ }
+    ensures { λ r. ⌜ (at ≤ r) × (r ≤ length (now (s .entry))) ⌝ }
+{
+    let mut e = text::find(s, at, b' ');
+    while e < s.len() {
+        let next = text::find(s, e + 1, b' ');
+        let w = &s[e + 1..next];
+        if text::find(w, 0, b'/') < w.len() {
+            return e;
+        }
+        e = next;
+    }
+    e
+}
+
+// Whether a content has an item of a key.
+pub fn has_key(s: &[u8], key: &[u8]) -> bool
+    ensures { λ r. ⌜ r ≡ hasKey (now (s .entry)) (now (key .entry)) ⌝ }
+{
+    words_at(s, key) != 0
+}
+
+// The words of the item of a key, from behind its oblique to its end; nothing where there is no such item.
+pub fn words_of<'a>(s: &'a [u8], key: &[u8]) -> &'a [u8]
+    ensures { λ r. ⌜ now r ≡ wordsOf (now (s .entry)) (now (key .entry)) ⌝ }
+{
+    let at = words_at(s, key);
+    if at == 0 {
+        return &s[..0];
+    }
+    let end = item_end(s, at);
+    &s[at..end]
+}

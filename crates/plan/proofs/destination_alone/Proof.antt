@@ -1,0 +1,42 @@
+-- `plan::destination_alone` meets its contract. Assumes nothing.
+use mathlib.Core.Path.{ap}
+use mathlib.Core.Bool.{not}
+use Rattle.alphabet.specs.Text.{bytes}
+use Rattle.plan.proofs.Laws.{told}
+use Rattle.aerodromes.specs.Aerodromes.{aerodromeOf}
+use borrow.Author.Needs.{needs}
+use Rattle.plan.proofs.destination_alone.Statement.{statement}
+use Rattle.plan.proofs.destination_alone.Tie as tie
+
+aerodrome-of-requires : tie.Need-aerodrome-of-requires
+aerodrome-of-requires c κs = search needs
+
+slice-aggregate-same-bytes : tie.Need-slice-aggregate-same-bytes
+slice-aggregate-same-bytes c = search needs
+
+same-bytes-requires : tie.Need-same-bytes-requires
+same-bytes-requires c κs = search needs
+
+slice-aggregate-has-key : tie.Need-slice-aggregate-has-key
+slice-aggregate-has-key c = search needs
+
+has-key-requires : tie.Need-has-key-requires
+has-key-requires c κs = search needs
+
+returns : tie.Need-returns
+returns c = rw (told (aerodromeOf (c .before .before .before .before .before .before .before .before .args .sixteen .now)) (bytes "ZZZZ") (c .before .before .before .before .before .aerodrome-of .ensures) (c .before .before .before .same-bytes .ensures) (c .before .before .if1 .taken)) (ap not (c .has-key .ensures))
+
+returns-2 : tie.Need-returns-2
+returns-2 c = rw (told (aerodromeOf (c .before .before .before .before .before .before .args .sixteen .now)) (bytes "ZZZZ") (c .before .before .before .aerodrome-of .ensures) (c .before .same-bytes .ensures) (c .if1 .left))
+
+pub destination-alone-spec : {M : Type 1} → statement M
+destination-alone-spec =
+    tie.close
+    (tie.spec
+    aerodrome-of-requires
+    slice-aggregate-same-bytes
+    same-bytes-requires
+    slice-aggregate-has-key
+    has-key-requires
+    returns
+    returns-2)

@@ -1,0 +1,43 @@
+-- `plan::type_unexplained` meets its contract. Assumes nothing.
+use mathlib.Core.Path.{ap}
+use mathlib.Core.Bool.{not}
+use Rattle.alphabet.specs.Text.{bytes}
+use Rattle.plan.proofs.Laws.{told}
+use Rattle.text.specs.Words.{before}
+use Rattle.head.specs.Field9.{aircraft}
+use borrow.Author.Needs.{needs}
+use Rattle.plan.proofs.type_unexplained.Statement.{statement}
+use Rattle.plan.proofs.type_unexplained.Tie as tie
+
+aircraft-type-requires : tie.Need-aircraft-type-requires
+aircraft-type-requires c κs = search needs
+
+slice-aggregate-same-bytes : tie.Need-slice-aggregate-same-bytes
+slice-aggregate-same-bytes c = search needs
+
+same-bytes-requires : tie.Need-same-bytes-requires
+same-bytes-requires c κs = search needs
+
+slice-aggregate-has-key : tie.Need-slice-aggregate-has-key
+slice-aggregate-has-key c = search needs
+
+has-key-requires : tie.Need-has-key-requires
+has-key-requires c κs = search needs
+
+returns : tie.Need-returns
+returns c = rw (told (before 47 (aircraft (c .before .before .before .before .before .before .before .before .args .nine .now))) (bytes "ZZZZ") (c .before .before .before .before .before .aircraft-type .ensures) (c .before .before .before .same-bytes .ensures) (c .before .before .if1 .taken)) (ap not (c .has-key .ensures))
+
+returns-2 : tie.Need-returns-2
+returns-2 c = rw (told (before 47 (aircraft (c .before .before .before .before .before .before .args .nine .now))) (bytes "ZZZZ") (c .before .before .before .aircraft-type .ensures) (c .before .same-bytes .ensures) (c .if1 .left))
+
+pub type-unexplained-spec : {M : Type 1} → statement M
+type-unexplained-spec =
+    tie.close
+    (tie.spec
+    aircraft-type-requires
+    slice-aggregate-same-bytes
+    same-bytes-requires
+    slice-aggregate-has-key
+    has-key-requires
+    returns
+    returns-2)

@@ -1,0 +1,98 @@
+-- The definitions of field 15 where the code stands: the lists of shapes byte for byte, a word at its oblique, the words one by one. Assumes nothing.
+use Prim.Native.Nat.{ℕ, _+_, _-_, _<_, _≤_}
+use mathlib.Core.Path.{_≡_, refl, sym, ap, _∙_}
+use mathlib.Core.Bool.{Bool, true, false, cond, _&&_}
+use mathlib.Core.List.{List, [], _∷_}
+use native.Mathlib.Omega.{arith}
+use native.Mathlib.Numerals.{add-one}
+use lib.Arith.{lt-of-le-ne}
+use lib.Dec.{eqb}
+use lib.ListN.{length, take, drop}
+use borrow.Author.Tests.{lt-ltb, le-ltb}
+use Rattle.alphabet.specs.Text.{bytes}
+use Rattle.text.specs.Words.{Word, split, onto, upTo, null, same}
+use Rattle.text.proofs.Index.{split-at, after-here, after-end, rest}
+use Rattle.shape.specs.Shape.{wides, any}
+use Rattle.route.specs.Levels.{speeds, levels, starts, changes, climbs}
+use Rattle.route.specs.Points.{pointFits}
+use Rattle.route.specs.Field15.{pairFits, wordFits, elementFits, routeFits, fits15}
+
+-- the lists of shapes, byte for byte
+
+pub starts-wide : wides starts ≡ split 32 (bytes "k9999f999 k9999s9999 k9999VFR M999f999 M999s9999 M999VFR")
+unfolding starts speeds levels
+starts-wide = refl
+
+pub changes-wide : wides changes ≡ split 32 (bytes "k9999f999 k9999s9999 M999f999 M999s9999")
+unfolding changes speeds levels
+changes-wide = refl
+
+pub climbs-wide : wides climbs
+    ≡ split 32 (bytes "k9999f999f999 k9999f999s9999 k9999f999PLUS k9999s9999f999 k9999s9999s9999 k9999s9999PLUS M999f999f999 M999f999s9999 M999f999PLUS M999s9999f999 M999s9999s9999 M999s9999PLUS")
+unfolding climbs speeds levels
+climbs-wide = refl
+
+-- the oblique stands at o
+
+module _ (w : Word) (o : ℕ) (at : o ≡ 0 + upTo 47 w) where
+  at′ : o ≡ upTo 47 w
+  at′ = omega arith
+
+  pub pair-none : (ts : List Word) → o ≡ length w → pairFits ts w ≡ false
+  unfolding pairFits
+  pair-none ts h = rw (← at′, le-ltb o (length w) (omega arith))
+
+  pub pair-at : (ts : List Word) → (o ≡ length w → ⊥) → o ≤ length w → pairFits ts w ≡ (pointFits 5 (take o w) && any ts (drop (o + 1) w))
+  unfolding pairFits
+  pair-at ts ne le = rw (← at′, lt-ltb o (length w) (lt-of-le-ne le ne), add-one o)
+
+  pub element-plain : (last : Bool) → o ≡ length w → elementFits last w ≡ wordFits last w
+  unfolding elementFits
+  element-plain last h = rw (← at′, le-ltb o (length w) (omega arith))
+
+  pub element-at : (last : Bool) → (o ≡ length w → ⊥) → o ≤ length w
+      → elementFits last w ≡ cond (same (take o w) (bytes "C")) (pairFits (wides climbs) (drop (o + 1) w)) (pairFits (wides changes) w)
+  unfolding elementFits
+  element-at last ne le = rw (← at′, lt-ltb o (length w) (lt-of-le-ne le ne), add-one o)
+
+-- what Rattle says of `pair(list, &w[i..])`
+pub pair-rest : {ts us : List Word} → ts ≡ us → (w : Word) (i : ℕ) → pairFits us (take (length w - i) (drop i w)) ≡ pairFits ts (drop i w)
+pair-rest {ts} {us} e w i = ap (pairFits us) (rest w i) ∙ ap (λ (vs : List Word). pairFits vs (drop i w)) (sym e)
+
+-- the words
+
+and-true : (a : Bool) → (a && true) ≡ a
+and-true true = refl
+and-true false = refl
+
+and-false : (a : Bool) → (a && false) ≡ false
+and-false true = refl
+and-false false = refl
+
+null-split : (s : List ℕ) → null (split 32 s) ≡ false
+null-split [] = refl
+null-split (c ∷ s) = go (eqb c 32) (split 32 s)
+  where
+    go : (b : Bool) (ws : List Word) → null (cond b ([] ∷ ws) (onto c ws)) ≡ false
+    go true ws = refl
+    go false [] = refl
+    go false (w ∷ ws) = refl
+
+module _ (s : List ℕ) (at e : ℕ) (end : e ≡ at + upTo 32 (drop at s)) where
+  pub route-last : length s ≤ e → routeFits (split 32 (drop at s)) ≡ elementFits true (take (e - at) (drop at s))
+  route-last h = rw (split-at 32 s at e end, after-end 32 s e h) (and-true (elementFits true (take (e - at) (drop at s))))
+
+  pub route-next : e < length s
+      → routeFits (split 32 (drop at s)) ≡ (elementFits false (take (e - at) (drop at s)) && routeFits (split 32 (drop (e + 1) s)))
+  route-next h = rw (split-at 32 s at e end, after-here 32 s e h, null-split (drop (e + 1) s))
+
+module _ (s : List ℕ) (e : ℕ) (end : e ≡ 0 + upTo 32 s) where
+  pub field-one : length s ≤ e → fits15 s ≡ false
+  unfolding fits15
+  field-one h = rw (split-at 32 s 0 e end, after-end 32 s e h) (and-false (any (wides starts) (take (e - 0) s)))
+
+  pub field-more : e < length s → fits15 s ≡ (any (wides starts) (take e s) && routeFits (split 32 (drop (e + 1) s)))
+  unfolding fits15
+  field-more h =
+      let n : e - 0 ≡ e = omega arith in
+      rw (split-at 32 s 0 e end, after-here 32 s e h, null-split (drop (e + 1) s), n)

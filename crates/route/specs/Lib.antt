@@ -1,0 +1,3 @@
+pub mod Levels
+pub mod Points
+pub mod Field15
