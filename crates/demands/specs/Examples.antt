@@ -1,0 +1,70 @@
+-- The examples that document 01 marks to be proved, and some others of it: one list, and one statement over it. Assumes nothing.
+use Prim.Native.Nat.{ℕ}
+use Prim.Native.String.{String}
+use mathlib.Core.Path.{_≡_}
+use mathlib.Core.Bool.{true, false}
+use mathlib.Core.List.{List, [], _∷_, _++_}
+use mathlib.Core.Option.{none, some}
+use Rattle.alphabet.specs.Text.{bytes}
+use Rattle.shape.specs.Field.{Field, read}
+use Rattle.shape.specs.Time.{clockFits, elapsedFits}
+use Rattle.head.specs.Field7.{field7}
+use Rattle.head.specs.Field9.{field9}
+use Rattle.equipment.specs.Field10.{field10, present}
+use Rattle.aerodromes.specs.Field17.{field17}
+use Rattle.route.specs.Field15.{field15}
+use Rattle.other.specs.Field18.{field18}
+
+-- what an example says of the definitions
+pub data Example : Type 1 where
+  -- a content fits a field's form, or does not
+  fits : Field → String → Example
+  no : Field → String → Example
+  -- a content fits as a record
+  fitsAs : (f : Field) → String → f .Record → Example
+  -- a word of a route fits, as the only one behind speed and level, or does not
+  routeFits : String → Example
+  routeNo : String → Example
+  -- four digits are a time of day, or are none
+  time : String → Example
+  noTime : String → Example
+
+abbrev pub alone : String → List ℕ
+alone word = bytes "N0440F310 " ++ bytes word
+
+abbrev pub Holds : Example → Type 0
+Holds (fits f s) = f .fits (bytes s) ≡ true
+Holds (no f s) = f .fits (bytes s) ≡ false
+Holds (fitsAs f s r) = read f (bytes s) ≡ some r
+Holds (routeFits w) = field15 .fits (alone w) ≡ true
+Holds (routeNo w) = field15 .fits (alone w) ≡ false
+Holds (time s) = clockFits (bytes s) ≡ true
+Holds (noTime s) = clockFits (bytes s) ≡ false
+
+abbrev pub AllHold : List Example → Type 0
+AllHold [] = Unit
+AllHold (x ∷ xs) = Holds x × AllHold xs
+
+abbrev pub examples : List Example
+examples =
+    fitsAs field9 "2FK27/M" (record { count = 2; type = bytes "FK27"; wake = 77 })
+    ∷ (no field9 "1B707/M"
+    ∷ (fits field7 "ABC12/A7777"
+    ∷ (no field7 "ABC12/A7780"
+    ∷ (routeFits "46N078W"
+    ∷ (routeNo "91N078W"
+    ∷ (routeFits "9000N18000E"
+    ∷ (routeNo "9001N07805W"
+    ∷ (routeFits "FOJ180040"
+    ∷ (routeNo "FOJ361040"
+    ∷ (fits field18 "DOF/240229"
+    ∷ (no field18 "DOF/230229"
+    ∷ (no field18 "RMK/A STS/HOSP"
+    ∷ (fits field18 "0"
+    ∷ (no field18 ""
+    ∷ (fits field17 "ZZZZ1620 SOBKIVKA"
+    ∷ (no field17 "ZZZZ1620"
+    ∷ (no field17 "EHAM1433 X"
+    ∷ (time "2359"
+    ∷ (noTime "2400"
+    ∷ (no (field10 present) "SE/C" ∷ []))))))))))))))))))))

@@ -1,0 +1,1 @@
+// Definitions and proofs only: the demands, and the examples of document 01.
