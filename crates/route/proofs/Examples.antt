@@ -1,7 +1,7 @@
 -- Contents of field 15 on each side of its rules, under one statement over one list, and a content with its record. Assumes nothing.
 use mathlib.Core.Path.{_≡_, refl}
 use mathlib.Core.Bool.{Bool, true, false, Bool·beq}
-use mathlib.Core.List.{List, [], _∷_, _++_}
+use mathlib.Core.List.{List, [], _∷_}
 use Prim.Native.String.{String}
 use Rattle.alphabet.specs.Text.{bytes}
 use Rattle.text.specs.Words.{all}

@@ -1,8 +1,8 @@
 -- The definitions of field 15 where the code stands: the lists of shapes byte for byte, a word at its oblique, the words one by one. Assumes nothing.
 use Prim.Native.Nat.{ℕ, _+_, _-_, _<_, _≤_}
-use mathlib.Core.Path.{_≡_, refl, sym, ap, _∙_}
+use mathlib.Core.Path.{_≡_, refl, ap, _∙_}
 use mathlib.Core.Bool.{Bool, true, false, cond, _&&_}
-use mathlib.Core.List.{List, [], _∷_}
+use mathlib.Core.List.{List, [], _∷_, _++_}
 use native.Mathlib.Omega.{arith}
 use native.Mathlib.Numerals.{add-one}
 use lib.Arith.{lt-of-le-ne}
@@ -17,22 +17,42 @@ use Rattle.route.specs.Levels.{speeds, levels, starts, changes, climbs}
 use Rattle.route.specs.Points.{pointFits}
 use Rattle.route.specs.Field15.{pairFits, wordFits, elementFits, routeFits, fits15}
 
--- the lists of shapes, byte for byte
+-- THE LISTS OF SHAPES, byte for byte as the code has them
 
-pub starts-wide : wides starts ≡ split 32 (bytes "k9999f999 k9999s9999 k9999VFR M999f999 M999s9999 M999VFR")
+abbrev starts-text : List ℕ
+starts-text = bytes "k9999f999 k9999s9999 k9999VFR M999f999 M999s9999 M999VFR"
+
+abbrev changes-text : List ℕ
+changes-text = bytes "k9999f999 k9999s9999 M999f999 M999s9999"
+
+abbrev climbs-text : List ℕ
+climbs-text =
+    bytes "k9999f999f999 k9999f999s9999 k9999f999PLUS k9999s9999f999 k9999s9999s9999 k9999s9999PLUS "
+    ++ bytes "M999f999f999 M999f999s9999 M999f999PLUS M999s9999f999 M999s9999s9999 M999s9999PLUS"
+
+starts-wide : split 32 starts-text ≡ wides starts
 unfolding starts speeds levels
 starts-wide = refl
 
-pub changes-wide : wides changes ≡ split 32 (bytes "k9999f999 k9999s9999 M999f999 M999s9999")
+changes-wide : split 32 changes-text ≡ wides changes
 unfolding changes speeds levels
 changes-wide = refl
 
-pub climbs-wide : wides climbs
-    ≡ split 32 (bytes "k9999f999f999 k9999f999s9999 k9999f999PLUS k9999s9999f999 k9999s9999s9999 k9999s9999PLUS M999f999f999 M999f999s9999 M999f999PLUS M999s9999f999 M999s9999s9999 M999s9999PLUS")
+climbs-wide : split 32 climbs-text ≡ wides climbs
 unfolding climbs speeds levels
 climbs-wide = refl
 
--- the oblique stands at o
+pub starts-list : (w : Word) → any (split 32 starts-text) w ≡ any (wides starts) w
+starts-list w = ap (λ (ts : List Word). any ts w) starts-wide
+
+pub changes-list : (w : Word) → pairFits (split 32 changes-text) w ≡ pairFits (wides changes) w
+changes-list w = ap (λ (ts : List Word). pairFits ts w) changes-wide
+
+-- with what Rattle says of `&w[i..]`
+pub climbs-list : (w : Word) (i : ℕ) → pairFits (split 32 climbs-text) (take (length w - i) (drop i w)) ≡ pairFits (wides climbs) (drop i w)
+climbs-list w i = ap (pairFits (split 32 climbs-text)) (rest w i) ∙ ap (λ (ts : List Word). pairFits ts (drop i w)) climbs-wide
+
+-- A WORD AT ITS OBLIQUE, which stands at o
 
 module _ (w : Word) (o : ℕ) (at : o ≡ 0 + upTo 47 w) where
   at′ : o ≡ upTo 47 w
@@ -55,11 +75,7 @@ module _ (w : Word) (o : ℕ) (at : o ≡ 0 + upTo 47 w) where
   unfolding elementFits
   element-at last ne le = rw (← at′, lt-ltb o (length w) (lt-of-le-ne le ne), add-one o)
 
--- what Rattle says of `pair(list, &w[i..])`
-pub pair-rest : {ts us : List Word} → ts ≡ us → (w : Word) (i : ℕ) → pairFits us (take (length w - i) (drop i w)) ≡ pairFits ts (drop i w)
-pair-rest {ts} {us} e w i = ap (pairFits us) (rest w i) ∙ ap (λ (vs : List Word). pairFits vs (drop i w)) (sym e)
-
--- the words
+-- THE WORDS ONE BY ONE
 
 and-true : (a : Bool) → (a && true) ≡ a
 and-true true = refl

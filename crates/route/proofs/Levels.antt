@@ -5,7 +5,7 @@ use mathlib.Core.Bool.{Bool, true, false, cond, _&&_, not, false≢true, true≢
 use mathlib.Core.List.{List, [], _∷_, _++_}
 use native.Mathlib.Omega.{arith}
 use lib.Dec.{ltb, eqb}
-use lib.ListN.{length, take, drop, getD}
+use lib.ListN.{length, take, drop}
 use lib.Seq.{take-at, drop-at}
 use borrow.Author.Tests.{not-true, ltb-true, lt-ltb, eqb-true}
 use Rattle.alphabet.specs.Text.{bytes}
@@ -17,7 +17,7 @@ use Rattle.shape.specs.Shape.{letters, fits, copies, wide, wides, any}
 use Rattle.shape.proofs.Numbers.{value-below, digits-value, digits-length, value-digits, digits-digits}
 use Rattle.route.specs.Levels.{Speed, Level, StartLevel, vfr, cruising, UpperLevel, plus, upper, speedDigits, levelDigits, inDigits, validSpeed}
 use Rattle.route.specs.Levels.{validLevel, validStart, validUpper, spellSpeed, spellLevel, spellStart, spellUpper, speeds, levels, each, starts}
-use Rattle.route.specs.Levels.{changes, climbs, speedOf, pastSpeed, levelOf, pastLevel, startOf, upperOf}
+use Rattle.route.specs.Levels.{changes, climbs, numberAt, letterOf, speedOf, pastSpeed, levelOf, pastLevel, startOf, upperOf}
 use Rattle.route.proofs.Parts.{Part, Front, any-append, alone, then}
 
 -- A LETTER AND AS MANY DIGITS AS ARE DUE BEHIND IT
@@ -35,12 +35,16 @@ fit-digits (suc k) (b ∷ d) e =
     let i = fit-digits k d (h .1) in
     (ap suc (i .0), and-both (digit b) (all digit d) (h .0) (i .1))
 
--- digits d behind a letter that is one of the first kind, k digits being due then, or one of the second, with l
+-- d is the n digits that are due
 record Due (n : ℕ) (d : Word) : Type 0 where
   some : 0 < n
   size : length d ≡ n
   digits : all digit d ≡ true
 
+due-fit : (n : ℕ) (d : Word) → Due n d → fits (copies n) d ≡ true
+due-fit n d h = ap (λ (m : ℕ). fits (copies m) d) (sym (h .size)) ∙ digits-fit d (h .digits)
+
+-- d behind a letter of one kind, where k digits are due, or of another, where l are
 module _ (k l : ℕ) (d : Word) where
   abbrev either : Bool → Bool → Bool
   either p q = cond (p && fits (copies k) d) true (cond (q && fits (copies l) d) true false)
@@ -60,14 +64,8 @@ module _ (k l : ℕ) (d : Word) where
   due hk hl false false a e = absurd (false≢true e)
 
   made : (p q : Bool) → Due (cond p k (cond q l 0)) d → either p q ≡ true
-  made true q h = rw (fit k (h .size))
-    where
-      fit : (n : ℕ) → length d ≡ n → fits (copies n) d ≡ true
-      fit n e = ap (λ (m : ℕ). fits (copies m) d) (sym e) ∙ digits-fit d (h .digits)
-  made false true h = rw (fit l (h .size))
-    where
-      fit : (n : ℕ) → length d ≡ n → fits (copies n) d ≡ true
-      fit n e = ap (λ (m : ℕ). fits (copies m) d) (sym e) ∙ digits-fit d (h .digits)
+  made true q h = rw (due-fit k d h)
+  made false true h = rw (due-fit l d h)
   made false false h = let z = h .some in absurd (omega arith)
 
 -- a byte of one set is not of another that has none of its bytes
@@ -101,26 +99,26 @@ level-made b d h = made 3 4 d (oneOf b (bytes "FA")) (oneOf b (bytes "SM")) h
 -- at the front of a word
 
 abbrev numberIn : (ℕ → ℕ) → Word → ℕ
-numberIn size w = value (take (size (getD w 0 0)) (drop 1 w))
+numberIn size w = numberAt 1 (size (letterOf w)) w
 
 module _ (size : ℕ → ℕ) (ts : List Word) (none : any (wides ts) [] ≡ false)
     (due : (b : ℕ) (d : Word) → any (wides ts) (b ∷ d) ≡ true → Due (size b) d)
     (made : (b : ℕ) (d : Word) → Due (size b) d → any (wides ts) (b ∷ d) ≡ true) where
-  front-spelled : (v t : Word) → any (wides ts) v ≡ true → getD (v ++ t) 0 0 ∷ digits (size (getD (v ++ t) 0 0)) (numberIn size (v ++ t)) ≡ v
+  front-spelled : (v t : Word) → any (wides ts) v ≡ true → letterOf (v ++ t) ∷ digits (size (letterOf (v ++ t))) (numberIn size (v ++ t)) ≡ v
   front-spelled [] t e = absurd (false≢true (sym none ∙ e))
   front-spelled (b ∷ d) t e =
       let h = due b d e in
       let n : digits (size b) (value d) ≡ d = ap (λ (k : ℕ). digits k (value d)) (sym (h .size)) ∙ digits-value d (h .digits) in
       rw (take-at d t (size b) (h .size), n)
 
-  front-held : (v t : Word) → any (wides ts) v ≡ true → inDigits (size (getD (v ++ t) 0 0)) (numberIn size (v ++ t)) ≡ true
+  front-held : (v t : Word) → any (wides ts) v ≡ true → inDigits (size (letterOf (v ++ t))) (numberIn size (v ++ t)) ≡ true
   front-held [] t e = absurd (false≢true (sym none ∙ e))
   front-held (b ∷ d) t e =
       let h = due b d e in
       let l : value d < 10 ^ size b = rw (h .size) at (value-below d (h .digits)) in
       rw (take-at d t (size b) (h .size), lt-ltb 0 (size b) (h .some), lt-ltb (value d) (10 ^ size b) l)
 
-  front-left : (v t : Word) → any (wides ts) v ≡ true → drop (size (getD (v ++ t) 0 0)) (drop 1 (v ++ t)) ≡ t
+  front-left : (v t : Word) → any (wides ts) v ≡ true → drop (size (letterOf (v ++ t))) (drop 1 (v ++ t)) ≡ t
   front-left [] t e = absurd (false≢true (sym none ∙ e))
   front-left (b ∷ d) t e = drop-at d t (size b) (due b d e .size)
 

@@ -1,11 +1,8 @@
 -- `route::element` meets its contract. Assumes nothing.
-use mathlib.Core.Path.{sym, ap, _∙_}
+use mathlib.Core.Path.{sym, _∙_}
 use Prim.Native.Nat.{_+_}
-use mathlib.Core.List.{List}
 use lib.Seq.{length-take-le}
-use Rattle.text.specs.Words.{Word}
-use Rattle.route.proofs.Index.{pair-rest, element-plain, element-at, changes-wide, climbs-wide}
-use Rattle.route.specs.Field15.{pairFits}
+use Rattle.route.proofs.Index.{element-plain, element-at, changes-list, climbs-list}
 use borrow.Author.Needs.{needs}
 use Rattle.route.proofs.element.Statement.{statement}
 use Rattle.route.proofs.element.Tie as tie
@@ -54,7 +51,7 @@ returns-2 c =
     let a = k .before .before .before .before .before .before .args in
     let f = k .before .before .before .before .find in
     let at = element-at (a .w .now) (f .result) (f .ensures .0) (a .last) (k .before .before .before .if1 .left) (f .ensures .1 .1) in
-    rw (at, sym (k .same-bytes .ensures) ∙ c .before .before .before .if2 .taken) (c .pair .ensures ∙ pair-rest climbs-wide (a .w .now) (f .result + 1))
+    rw (at, sym (k .same-bytes .ensures) ∙ c .before .before .before .if2 .taken) (c .pair .ensures ∙ climbs-list (a .w .now) (f .result + 1))
 
 slice-aggregate-pair-2 : tie.Need-slice-aggregate-pair-2
 slice-aggregate-pair-2 c = search needs
@@ -68,7 +65,7 @@ returns-3 c =
     let a = k .before .before .before .before .before .before .args in
     let f = k .before .before .before .before .find in
     let at = element-at (a .w .now) (f .result) (f .ensures .0) (a .last) (k .before .before .before .if1 .left) (f .ensures .1 .1) in
-    rw (at, sym (k .same-bytes .ensures) ∙ c .before .before .if2 .left) (c .pair2 .ensures ∙ ap (λ (ts : List Word). pairFits ts (a .w .now)) (sym changes-wide))
+    rw (at, sym (k .same-bytes .ensures) ∙ c .before .before .if2 .left) (c .pair2 .ensures ∙ changes-list (a .w .now))
 
 pub element-spec : {M : Type 1} → statement M
 element-spec =

@@ -1,13 +1,11 @@
 -- `route::fits_field15` meets its contract. Assumes nothing.
-use mathlib.Core.Path.{sym, ap, _∙_}
+use mathlib.Core.Path.{sym, _∙_}
 use native.Mathlib.Omega.{arith}
-use mathlib.Core.List.{List}
 use lib.ListN.{take}
 use lib.Seq.{length-take-le}
 use borrow.Author.Tests.{not-true, not-false}
-use Rattle.text.specs.Words.{Word}
 use Rattle.shape.specs.Shape.{any}
-use Rattle.route.proofs.Index.{field-one, field-more, starts-wide}
+use Rattle.route.proofs.Index.{field-one, field-more, starts-list}
 use borrow.Author.Needs.{needs}
 use Rattle.route.proofs.fits_field15.Statement.{statement}
 use Rattle.route.proofs.fits_field15.Tie as tie
@@ -33,8 +31,8 @@ returns-2 : tie.Need-returns-2
 returns-2 c =
     let s = c .before .before .before .before .before .before .before .args .s .now in
     let f = c .before .before .before .before .before .find in
-    let start = sym (c .before .any .ensures) ∙ not-true _ (c .if2 .taken) in
-    rw (field-more s (f .result) (f .ensures .0) (omega arith), ap (λ (ts : List Word). any ts (take (f .result) s)) starts-wide ∙ start)
+    let start = sym (c .before .any .ensures ∙ starts-list (take (f .result) s)) ∙ not-true _ (c .if2 .taken) in
+    rw (field-more s (f .result) (f .ensures .0) (omega arith), start)
 
 add-elements : tie.Need-add-elements
 add-elements c = search needs
@@ -46,8 +44,8 @@ returns-3 : tie.Need-returns-3
 returns-3 c =
     let s = c .before .before .before .before .before .before .before .before .args .s .now in
     let f = c .before .before .before .before .before .before .find in
-    let start = sym (c .before .before .any .ensures) ∙ not-false _ (c .before .if2 .left) in
-    rw (field-more s (f .result) (f .ensures .0) (omega arith), ap (λ (ts : List Word). any ts (take (f .result) s)) starts-wide ∙ start) (c .elements .ensures)
+    let start = sym (c .before .before .any .ensures ∙ starts-list (take (f .result) s)) ∙ not-false _ (c .before .if2 .left) in
+    rw (field-more s (f .result) (f .ensures .0) (omega arith), start) (c .elements .ensures)
 
 pub fits-field15-spec : {M : Type 1} → statement M
 fits-field15-spec =

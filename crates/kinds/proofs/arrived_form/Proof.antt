@@ -1,0 +1,31 @@
+-- `kinds::arrived_form` meets its contract. Assumes nothing.
+use mathlib.Core.Path.{sym}
+use lib.ListN.{List·getD-eq-default}
+use Rattle.kinds.specs.Kinds.{arrivalForms}
+use Rattle.kinds.specs.declared.Form.the-variants.{Field22}
+use native.Mathlib.Omega.{arith}
+use Rattle.kinds.proofs.arrived_form.Statement.{statement}
+use Rattle.kinds.proofs.arrived_form.Tie as tie
+
+returns : tie.Need-returns
+unfolding arrivalForms
+returns c = rw (c .match .keys1)
+
+returns-2 : tie.Need-returns-2
+unfolding arrivalForms
+returns-2 c = rw (c .match .keys2)
+
+returns-3 : tie.Need-returns-3
+unfolding arrivalForms
+returns-3 c = rw (c .match .keys3)
+
+returns-4 : tie.Need-returns-4
+unfolding arrivalForms
+returns-4 c = rw (c .match .keys4)
+
+returns-5 : tie.Need-returns-5
+unfolding arrivalForms
+returns-5 c = sym (List·getD-eq-default arrivalForms Field22 {n = c .before .args .j} (omega arith))
+
+pub arrived-form-spec : {M : Type 1} → statement M
+arrived-form-spec = tie.close (tie.spec returns returns-2 returns-3 returns-4 returns-5)

@@ -1,0 +1,5 @@
+pub mod Bytes
+pub mod Ends
+pub mod Letters
+pub mod Passed
+pub mod Sent

@@ -1,0 +1,1 @@
+// Definitions and proofs only: a message as sent and its reduction.

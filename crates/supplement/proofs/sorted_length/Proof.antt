@@ -1,0 +1,65 @@
+-- `.::sorted_length` meets its contract. Assumes nothing.
+use Prim.Native.Nat.{ℕ, _+_, _-_, _≤_}
+use mathlib.Core.Path.{_≡_, sym, ap, _∙_}
+use mathlib.Core.List.{List}
+use lib.ListN.{length, drop}
+use Rattle.text.proofs.Index.{drop-end}
+use Rattle.supplement.specs.Field19.{sorted}
+use Rattle.supplement.proofs.Steps.{sorted-take, sorted-skip}
+use borrow.Author.Needs.{needs}
+use native.Mathlib.Omega.{arith}
+use Rattle.supplement.proofs.sorted_length.Statement.{statement}
+use Rattle.supplement.proofs.sorted_length.Tie as tie
+
+abbrev Inv-loop : tie.InvT-loop
+Inv-loop set w i₀ n₀ i n = (i ≤ length set) × (n ≤ i) × (n + length (sorted (drop i set) w) ≡ length (sorted set w))
+
+abbrev μ-loop : tie.MeasureT-loop
+μ-loop set w i₀ n₀ i n = length set - i
+
+loop-holds : tie.Need-loop-holds Inv-loop μ-loop
+loop-holds c = (omega arith, omega arith, omega arith)
+
+shared-slice-read-b : tie.Need-shared-slice-read-b Inv-loop μ-loop
+shared-slice-read-b c = search needs
+
+add-i : tie.Need-add-i Inv-loop μ-loop
+add-i c = search needs
+
+one-of-requires : tie.Need-one-of-requires Inv-loop μ-loop
+one-of-requires c κs = search needs
+
+add-n : tie.Need-add-n Inv-loop μ-loop
+add-n c = search needs
+
+loop-less : tie.Need-loop-less Inv-loop μ-loop
+loop-less c = search needs
+
+loop-again : tie.Need-loop-again Inv-loop μ-loop
+loop-again c = let a = c .before .before .before .before .before .before .before .args in let l = c .before .before .before .before .loop in (omega arith, omega arith, omega (arith, l .inv .2, ap length (sorted-take (a .set .now) (a .w .now) (l .i) (c .before .before .before .loop-test .taken) (sym (c .before .one-of .ensures) ∙ c .if1 .taken))))
+
+loop-less-2 : tie.Need-loop-less-2 Inv-loop μ-loop
+loop-less-2 c = search needs
+
+loop-again-2 : tie.Need-loop-again-2 Inv-loop μ-loop
+loop-again-2 c = let a = c .before .before .before .before .before .before .before .args in let l = c .before .before .before .before .loop in (omega arith, omega arith, omega (arith, l .inv .2, ap length (sorted-skip (a .set .now) (a .w .now) (l .i) (c .before .before .before .loop-test .taken) (sym (c .before .one-of .ensures) ∙ c .if1 .left))))
+
+returns : tie.Need-returns Inv-loop μ-loop
+returns c = let a = c .before .before .before .before .args in let l = c .before .loop in omega (arith, l .inv .2, ap (λ (s : List ℕ). length (sorted s (a .w .now))) (drop-end (a .set .now) (l .i) (c .loop-test .left)))
+
+pub sorted-length-spec : {M : Type 1} → statement M
+sorted-length-spec =
+    tie.close
+    (tie.spec
+    Inv-loop
+    μ-loop
+    loop-holds
+    shared-slice-read-b
+    add-i
+    one-of-requires
+    add-n
+    loop-less
+    loop-again
+    loop-less-2
+    loop-again-2
+    returns)

@@ -1,0 +1,55 @@
+-- `.::word_length` meets its contract. Assumes nothing.
+use mathlib.Core.Path.{_≡_, ap, _∙_}
+use Prim.Native.Nat.{ℕ}
+use mathlib.Core.List.{List}
+use lib.ListN.{length, drop, length-drop}
+use Rattle.text.proofs.Index.{rest}
+use Rattle.supplement.specs.Walk.{changed}
+use Rattle.supplement.proofs.Steps.{changed-shorter, rewrite-length, rewrite-shorter}
+use borrow.Author.Needs.{needs}
+use native.Mathlib.Omega.{arith}
+use Rattle.supplement.proofs.word_length.Statement.{statement}
+use Rattle.supplement.proofs.word_length.Tie as tie
+
+lead-requires : tie.Need-lead-requires
+lead-requires c κs = search needs
+
+sub-changed-length : tie.Need-sub-changed-length
+sub-changed-length c = search needs
+
+part-changed-length-start : tie.Need-part-changed-length-start
+part-changed-length-start c = search needs
+
+part-changed-length-end : tie.Need-part-changed-length-end
+part-changed-length-end c = search needs
+
+changed-length-requires : tie.Need-changed-length-requires
+changed-length-requires c κs = search needs
+
+add-result : tie.Need-add-result
+add-result c =
+    let w = c .before .before .before .before .args .w .now in
+    let o = c .before .before .lead .result in
+    let n : c .changed-length .result ≡ length (changed (c .before .before .before .before .args .stage) (drop o w)) = c .changed-length .ensures ∙ ap (λ (v : List ℕ). length (changed (c .before .before .before .before .args .stage) v)) (rest w o) in
+    omega (arith, n, changed-shorter (c .before .before .before .before .args .stage) (drop o w), length-drop o w, c .before .before .lead .ensures .1)
+
+returns : tie.Need-returns
+returns c =
+    let w = c .before .before .before .before .args .w .now in
+    let o = c .before .before .lead .result in
+    let stage = c .before .before .before .before .args .stage in
+    let n : c .changed-length .result ≡ length (changed stage (drop o w)) = c .changed-length .ensures ∙ ap (λ (v : List ℕ). length (changed stage v)) (rest w o) in
+    let l = rewrite-length stage w o (c .before .before .lead .ensures .0) (c .before .before .lead .ensures .1) in
+    (omega (arith, n, l), omega (arith, n, l, rewrite-shorter stage w o (c .before .before .lead .ensures .0) (c .before .before .lead .ensures .1)))
+
+pub word-length-spec : {M : Type 1} → statement M
+word-length-spec =
+    tie.close
+    (tie.spec
+    lead-requires
+    sub-changed-length
+    part-changed-length-start
+    part-changed-length-end
+    changed-length-requires
+    add-result
+    returns)

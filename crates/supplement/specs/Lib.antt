@@ -1,0 +1,2 @@
+pub mod Field19
+pub mod Walk

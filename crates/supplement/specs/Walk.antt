@@ -1,0 +1,125 @@
+-- Field 19 word by word, as the code walks it: what has been read so far, what the next word may be, and how each word is rewritten.
+-- Assumes nothing.
+use Prim.Native.Nat.{ℕ, suc}
+use mathlib.Core.Bool.{Bool, true, false, cond}
+use mathlib.Core.List.{List, [], _∷_, _++_}
+use lib.Dec.{ltb}
+use lib.ListN.{take, drop}
+use Rattle.text.specs.Words.{Word, split, join, upTo, holds, before, behind, same}
+use Rattle.shape.specs.Time.{elapsedFits}
+use Rattle.supplement.specs.declared.Key.{Key}
+use Rattle.supplement.specs.declared.Key.the-variants.{E, P, R, S, J, D, A, N, C, Other}
+use Rattle.supplement.specs.declared.Stage.{Stage}
+use Rattle.supplement.specs.declared.Stage.the-variants.{Start, Endurance, Persons, Radio, Survival, Lights, JacketRadio, Number, Capacity, Colours, Aircraft, Remarks, Pilot, Refused}
+use Rattle.supplement.specs.Field19.{keyed, place, count, someOf, colour, textWord, radioLetters, survivalLetters, lightLetters, jacketRadioLetters, cover, sorted, stripped}
+
+-- the place that the next item's key has to be behind; none is behind 9
+abbrev pub past : Stage → ℕ
+past Start = 0
+past Endurance = 1
+past Persons = 2
+past Radio = 3
+past Survival = 4
+past Lights = 5
+past JacketRadio = 5
+past Number = 9
+past Capacity = 6
+past Colours = 6
+past Aircraft = 7
+past Remarks = 8
+past Pilot = 9
+past Refused = 9
+
+-- the words may end here
+abbrev pub complete : Stage → Bool
+complete Start = false
+complete Endurance = true
+complete Persons = true
+complete Radio = true
+complete Survival = true
+complete Lights = true
+complete JacketRadio = true
+complete Number = false
+complete Capacity = true
+complete Colours = true
+complete Aircraft = true
+complete Remarks = true
+complete Pilot = true
+complete Refused = false
+
+-- the cover, or a colour
+abbrev pub shaded : Word → Stage
+shaded w = cond (same w cover) Colours (cond (colour w) Colours Refused)
+
+-- the first word of an item, behind its oblique
+abbrev pub first : Key → Word → Stage
+first E w = cond (elapsedFits w) Endurance Refused
+first P w = cond (count 3 w) Persons Refused
+first R w = cond (someOf radioLetters w) Radio Refused
+first S w = cond (someOf survivalLetters w) Survival Refused
+first J w = cond (someOf lightLetters w) Lights Refused
+first D w = cond (count 2 w) Number (shaded w)
+first A w = cond (textWord w) Aircraft Refused
+first N w = cond (textWord w) Remarks Refused
+first C w = cond (textWord w) Pilot Refused
+first Other w = Refused
+
+-- a further word of an item
+abbrev pub further : Stage → Word → Stage
+further Start w = Refused
+further Endurance w = Refused
+further Persons w = Refused
+further Radio w = Refused
+further Survival w = Refused
+further Lights w = cond (someOf jacketRadioLetters w) JacketRadio Refused
+further JacketRadio w = Refused
+further Number w = cond (count 3 w) Capacity Refused
+further Capacity w = shaded w
+further Colours w = cond (colour w) Colours Refused
+further Aircraft w = cond (textWord w) Aircraft Refused
+further Remarks w = cond (textWord w) Remarks Refused
+further Pilot w = cond (textWord w) Pilot Refused
+further Refused w = Refused
+
+-- a word: it begins an item where it holds an oblique
+abbrev pub opens : Stage → Key → Word → Stage
+opens stage key w = cond (ltb (past stage) (place key)) (first key w) Refused
+
+unfoldable pub step : Stage → Word → Stage
+step stage w = cond (holds 47 w) (opens stage (keyed (before 47 w)) (behind 47 w)) (further stage w)
+
+abbrev pub walked : Stage → List Word → Bool
+walked stage [] = complete stage
+walked stage (w ∷ ws) = walked (step stage w) ws
+
+-- REWRITING a word, by what it was read as
+
+abbrev pub changed : Stage → Word → Word
+changed Start w = w
+changed Endurance w = w
+changed Persons w = stripped w
+changed Radio w = sorted radioLetters w
+changed Survival w = sorted survivalLetters w
+changed Lights w = sorted lightLetters w
+changed JacketRadio w = sorted jacketRadioLetters w
+changed Number w = stripped w
+changed Capacity w = stripped w
+changed Colours w = w
+changed Aircraft w = w
+changed Remarks w = w
+changed Pilot w = w
+changed Refused w = w
+
+-- how many bytes stand up to the oblique, and it; none where there is none
+abbrev pub lead : Word → ℕ
+lead w = cond (holds 47 w) (suc (upTo 47 w)) 0
+
+unfoldable pub rewrite : Stage → Word → Word
+rewrite stage w = take (lead w) w ++ changed stage (drop (lead w) w)
+
+abbrev pub rewritten : Stage → List Word → List Word
+rewritten stage [] = []
+rewritten stage (w ∷ ws) = rewrite (step stage w) w ∷ rewritten (step stage w) ws
+
+unfoldable pub rewrittenText : List ℕ → List ℕ
+rewrittenText s = join 32 (rewritten Start (split 32 s))
