@@ -10,7 +10,9 @@ use Rattle.text.specs.Words.{Word, join, all}
 use Rattle.text.proofs.Tests.{both, and-both}
 use Rattle.shape.specs.Field.{Laws}
 use Rattle.shape.proofs.Fields.{laws}
-use Rattle.supplement.specs.Field19.{Part, endurance, persons, radio, survival, jackets, dinghies, aircraft, remarks, pilot, Field19, keyOf, spellKey, place, count, someOf, radioLetters, survivalLetters, lightLetters, jacketRadioLetters, cover, pairFits, wordsOf, validPart, inOrder, valid19, opened, spelt, spell19, canonicalPart, canonical19, field19}
+use Rattle.supplement.specs.Field19.{Part, endurance, persons, radio, survival, jackets, dinghies, aircraft, remarks, pilot, Field19, keyOf, spellKey}
+use Rattle.supplement.specs.Field19.{place, count, someOf, radioLetters, survivalLetters, lightLetters, jacketRadioLetters, cover, pairFits, wordsOf}
+use Rattle.supplement.specs.Field19.{validPart, inOrder, valid19, opened, spelt, spell19, canonicalPart, canonical19, field19}
 use Rattle.supplement.proofs.Orders.{sorted-settled, sorted-some, sorted-shorter, stripped-settled, stripped-shorter, stripped-count}
 use Rattle.supplement.proofs.Exact.{facts}
 

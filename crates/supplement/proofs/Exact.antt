@@ -8,7 +8,8 @@ use Rattle.text.proofs.Tests.{both, and-both, all-imp}
 use Rattle.text.proofs.Joined.{join-split, split-join}
 use Rattle.text.proofs.Tidy.{word-free, tidy-join}
 use Rattle.shape.proofs.Fields.{Facts}
-use Rattle.supplement.specs.Field19.{Field19, validPart, inOrder, valid19, spelt, spell19, Item, Groups, group, itemsFit, groupsFit, fits19, partsOf, record19, field19}
+use Rattle.supplement.specs.Field19.{Field19, validPart, inOrder, valid19, spelt, spell19, Item, Groups, group, itemsFit, groupsFit, fits19, partsOf}
+use Rattle.supplement.specs.Field19.{record19, field19}
 use Rattle.supplement.proofs.Items.{spelt-group, items-valid, itemsOf, group-spelt, items-fit, parts-back, spelt-tidy, spelt-some}
 
 -- WHAT FITS, taken apart

@@ -7,7 +7,6 @@ use native.Mathlib.Omega.{arith}
 use lib.Dec.{leb, ltb}
 use lib.ListN.{length, length-append}
 use borrow.Author.Tests.{leb-true, ltb-true, lt-ltb}
-use Rattle.alphabet.specs.Text.{bytes}
 use Rattle.alphabet.specs.Alphabet.{text, inAlphabet, white}
 use Rattle.text.specs.Words.{Word, holds, before, behind, all, null, free, same, tidyByte, tidyWord}
 use Rattle.text.proofs.Tests.{both, all-imp, all-append, all-free, some-length, same-eq}
@@ -15,31 +14,24 @@ use Rattle.text.proofs.Tidy.{text-tidy, tidy-word}
 use Rattle.text.proofs.Joined.{seam, holds-seam, before-seam, behind-seam, holds-free}
 use Rattle.supplement.specs.declared.Key.{Key}
 use Rattle.supplement.specs.declared.Key.the-variants.{E, P, R, S, J, D, A, N, C, Other}
-use Rattle.supplement.specs.Field19.{keyed, spellKey, place, Part, Field19, keyOf, textWord, wordsOf, validPart, inOrder, opened, spelt, Item, Groups, put, group, itemFits, itemsFit, partsOf}
+use Rattle.supplement.specs.Field19.{keyAmong, keys, keyed, spellKey, place, Part, Field19, keyOf, textWord, wordsOf, validPart, inOrder, opened}
+use Rattle.supplement.specs.Field19.{spelt, Item, Groups, put, group, itemFits, itemsFit, partsOf}
 use Rattle.supplement.proofs.Parts.{part-read, part-back, part-texts}
 
 -- KEYS AND THEIR LETTERS
 
-pick : (w v : Word) (k other : Key) → spellKey k ≡ v → (ltb 0 (place other) ≡ true → spellKey other ≡ w)
-    → ltb 0 (place (cond (same w v) k other)) ≡ true → spellKey (cond (same w v) k other) ≡ w
-pick w v k other e f = go (same w v) refl
+among-spelled : (ks : List Key) (w : Word) → ltb 0 (place (keyAmong ks w)) ≡ true → spellKey (keyAmong ks w) ≡ w
+among-spelled [] w h = absurd (false≢true h)
+among-spelled (k ∷ ks) w h = go (among-spelled ks w) (same w (spellKey k)) refl h
   where
-    go : (b : Bool) → same w v ≡ b → ltb 0 (place (cond b k other)) ≡ true → spellKey (cond b k other) ≡ w
-    go true q h = e ∙ sym (same-eq w v q)
-    go false q h = f h
+    go : (ltb 0 (place (keyAmong ks w)) ≡ true → spellKey (keyAmong ks w) ≡ w)
+        → (b : Bool) → same w (spellKey k) ≡ b → ltb 0 (place (cond b k (keyAmong ks w))) ≡ true → spellKey (cond b k (keyAmong ks w)) ≡ w
+    go ih true q h = sym (same-eq w (spellKey k) q)
+    go ih false q h = ih h
 
 pub key-spelled : (w : Word) → ltb 0 (place (keyed w)) ≡ true → spellKey (keyed w) ≡ w
 unfolding keyed
-key-spelled w =
-    pick w (bytes "E") E _ refl
-    (pick w (bytes "P") P _ refl
-    (pick w (bytes "R") R _ refl
-    (pick w (bytes "S") S _ refl
-    (pick w (bytes "J") J _ refl
-    (pick w (bytes "D") D _ refl
-    (pick w (bytes "A") A _ refl
-    (pick w (bytes "N") N _ refl
-    (pick w (bytes "C") C Other refl (λ h. absurd (false≢true h))))))))))
+key-spelled w h = among-spelled keys w h
 
 key-read : (k : Key) → keyed (spellKey k) ≡ k
 unfolding keyed

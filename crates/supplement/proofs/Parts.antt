@@ -15,7 +15,9 @@ use Rattle.shape.specs.declared.Elapsed.{Elapsed}
 use Rattle.shape.proofs.Times.{time-exact, time-valid, time-fits, time-minutes, time-digits}
 use Rattle.supplement.specs.declared.Key.{Key}
 use Rattle.supplement.specs.declared.Key.the-variants.{E, P, R, S, J, D, A, N, C, Other}
-use Rattle.supplement.specs.Field19.{Part, endurance, persons, radio, survival, jackets, dinghies, aircraft, remarks, pilot, keyOf, count, someOf, colour, textWord, radioLetters, survivalLetters, lightLetters, jacketRadioLetters, cover, texts, optionally, pairFits, pairWords, wordsOf, validPart, afterPair, afterCover, dinghiesFit, itemFits, pairOf, covered, partOf}
+use Rattle.supplement.specs.Field19.{Part, endurance, persons, radio, survival, jackets, dinghies, aircraft, remarks, pilot, keyOf, count, someOf}
+use Rattle.supplement.specs.Field19.{colour, textWord, radioLetters, survivalLetters, lightLetters, jacketRadioLetters, cover, texts, optionally}
+use Rattle.supplement.specs.Field19.{pairFits, pairWords, wordsOf, validPart, afterPair, afterCover, dinghiesFit, itemFits, pairOf, covered, partOf}
 use Rattle.supplement.proofs.Words.{colour-no-count, colour-no-cover, digit-text, count-text, some-text, colour-text}
 
 -- FROM WORDS THAT FIT TO THEIR PART

@@ -13,8 +13,11 @@ use Rattle.shape.proofs.Times.{time-exact}
 use Rattle.supplement.specs.declared.Key.{Key}
 use Rattle.supplement.specs.declared.Key.the-variants.{E, P, R, S, J, D, A, N, C, Other}
 use Rattle.supplement.specs.declared.Stage.{Stage}
-use Rattle.supplement.specs.declared.Stage.the-variants.{Start, Endurance, Persons, Radio, Survival, Lights, JacketRadio, Number, Capacity, Colours, Aircraft, Remarks, Pilot, Refused}
-use Rattle.supplement.specs.Field19.{keyed, spellKey, place, keyOf, count, someOf, colour, textWord, radioLetters, survivalLetters, lightLetters, jacketRadioLetters, cover, wordsOf, opened, spelt, spell19, Item, Groups, put, group, afterPair, afterCover, itemFits, fits19, partOf, partsOf, record19, sorted, stripped, canonicalPart, canonical19, written19}
+use Rattle.supplement.specs.declared.Stage.the-variants.{Start, Endurance, Persons, Radio, Survival, Lights, JacketRadio, Number, Capacity, Colours}
+use Rattle.supplement.specs.declared.Stage.the-variants.{Aircraft, Remarks, Pilot, Refused}
+use Rattle.supplement.specs.Field19.{keyed, spellKey, place, keyOf, count, someOf, colour, textWord, radioLetters, survivalLetters, lightLetters}
+use Rattle.supplement.specs.Field19.{jacketRadioLetters, cover, wordsOf, opened, spelt, spell19, Item, Groups, put, group, afterPair, afterCover}
+use Rattle.supplement.specs.Field19.{itemFits, fits19, partOf, partsOf, record19, sorted, stripped, canonicalPart, canonical19, written19}
 use Rattle.supplement.specs.Walk.{past, shaded, first, further, opens, step, changed, rewrite, rewritten, rewrittenText}
 use Rattle.supplement.proofs.Walk.{goes, first-go, step-go, no-colours}
 use Rattle.supplement.proofs.Parts.{part-read, cover-words}

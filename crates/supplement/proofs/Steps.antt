@@ -1,19 +1,21 @@
 -- Words at an index: letters of a set, leading zeros, a step over a word, and how a word is rewritten. Assumes nothing.
-use Prim.Native.Nat.{ℕ, _+_, _<_, _≤_}
-use mathlib.Core.Path.{_≡_, refl, ap, _∙_}
-use mathlib.Core.Bool.{true, false}
+use Prim.Native.Nat.{ℕ, _+_, _-_, _<_, _≤_}
+use mathlib.Core.Path.{_≡_, refl, sym, ap, _∙_}
+use mathlib.Core.Bool.{Bool, true, false, cond}
 use mathlib.Core.List.{List, _∷_, _++_}
 use native.Mathlib.Omega.{arith}
 use native.Mathlib.Numerals.{add-one}
 use lib.ListN.{length, take, drop, getD, length-append, length-drop}
 use lib.Seq.{length-take-le}
-use borrow.Author.Tests.{lt-ltb, le-ltb, eq-eqb, ne-eqb}
+use borrow.Author.Tests.{lt-ltb, le-ltb, lt-leb, le-leb, eq-eqb, ne-eqb}
 use Rattle.alphabet.specs.Alphabet.{oneOf}
 use Rattle.text.specs.Words.{Word, upTo}
 use Rattle.text.proofs.Index.{drop-here, drop-end}
+use Rattle.supplement.specs.declared.Key.{Key}
 use Rattle.supplement.specs.declared.Stage.{Stage}
-use Rattle.supplement.specs.declared.Stage.the-variants.{Start, Endurance, Persons, Radio, Survival, Lights, JacketRadio, Number, Capacity, Colours, Aircraft, Remarks, Pilot, Refused}
-use Rattle.supplement.specs.Field19.{keyed, place, lettersFit, radioLetters, survivalLetters, lightLetters, jacketRadioLetters, sorted, stripped}
+use Rattle.supplement.specs.declared.Stage.the-variants.{Start, Endurance, Persons, Radio, Survival, Lights, JacketRadio, Number, Capacity, Colours}
+use Rattle.supplement.specs.declared.Stage.the-variants.{Aircraft, Remarks, Pilot, Refused}
+use Rattle.supplement.specs.Field19.{keyed, place, lettersFit, someOf, radioLetters, survivalLetters, lightLetters, jacketRadioLetters, sorted, stripped}
 use Rattle.supplement.specs.Walk.{past, first, further, step, changed, lead, rewrite}
 use Rattle.supplement.proofs.Orders.{sorted-shorter, stripped-shorter}
 
@@ -28,6 +30,13 @@ module _ (set : List ℕ) (w : Word) (i : ℕ) (h : i < length w) where
 
   pub letters-next : oneOf (getD w i 0) set ≡ true → oneOf (getD w i 0) (drop (i + 1) w) ≡ false → lettersFit set (drop i w) ≡ lettersFit set (drop (i + 1) w)
   letters-next e f = rw (drop-here w i h, e, f)
+
+-- some of a set: one at least, and letters of it from an index on
+pub some-from : {t : Bool} (set : List ℕ) (w : Word) (i : ℕ) → 1 ≤ length w → lettersFit set w ≡ lettersFit set (drop i w) → lettersFit set (drop i w) ≡ t → t ≡ someOf set w
+some-from set w i h e f = sym (rw (le-leb 1 (length w) h, e) f)
+
+pub some-none : (set : List ℕ) (w : Word) → length w < 1 → false ≡ someOf set w
+some-none set w h = sym (rw (lt-leb 1 (length w) h))
 
 -- and those of the set that stand in a word
 module _ (set : List ℕ) (w : Word) (i : ℕ) (h : i < length set) where
@@ -52,7 +61,20 @@ module _ (w : Word) (i : ℕ) where
   pub stripped-end : length w ≤ i → stripped (drop i w) ≡ drop i w
   stripped-end h = rw (drop-end w i h)
 
+pub stripped-length : (w : Word) (z : ℕ) → drop z w ≡ stripped w → length w - z ≡ length (stripped w)
+stripped-length w z e = sym (length-drop z w) ∙ ap length e
+
 -- A STEP
+
+-- a test that decides for a stage
+pub as-taken : {r : Stage} {b p : Bool} (stage : Stage) → r ≡ cond b stage Refused → b ≡ p → r ≡ cond p stage Refused
+as-taken stage e f = e ∙ ap (λ (x : Bool). cond x stage Refused) f
+
+pub by-key : {key k : Key} {r : Stage} (w : Word) → key ≡ k → r ≡ first k w → r ≡ first key w
+by-key w e h = h ∙ sym (ap (λ (x : Key). first x w) e)
+
+pub by-stage : {stage k : Stage} {r : Stage} (w : Word) → stage ≡ k → r ≡ further k w → r ≡ further stage w
+by-stage w e h = h ∙ sym (ap (λ (x : Stage). further x w) e)
 
 module _ (stage : Stage) (w : Word) (o : ℕ) (end : o ≡ 0 + upTo 47 w) where
   at : o ≡ upTo 47 w

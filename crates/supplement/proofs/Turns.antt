@@ -5,23 +5,25 @@ use mathlib.Core.Bool.{Bool, true, false, cond}
 use mathlib.Core.List.{List, [], _∷_, _++_, append-assoc, append-nil}
 use native.Mathlib.Omega.{arith}
 use lib.Dec.{eqb}
-use lib.ListN.{length, take, drop, set, length-append}
+use lib.ListN.{length, take, drop, length-append, length-drop}
 use lib.Seq.{drop-drop, take-append-seam, drop-append-seam}
 use Rattle.text.specs.Words.{Word, onto, split, join, after, upTo}
 use Rattle.text.specs.Lent.{front}
 use Rattle.text.proofs.Index.{split-at, after-here, after-end}
-use Rattle.text.proofs.Lent.{store, next-out, next-rest, next-fits}
+use Rattle.text.proofs.Lent.{next-out, next-rest, next-fits, whole-out}
 use Rattle.supplement.specs.declared.Stage.{Stage}
 use Rattle.supplement.specs.Walk.{step, changed, rewrite, rewritten}
 
 -- BY ITS STAGE: what is asked and what is ensured of a word read as k
 
-pub room-as : (stage k : Stage) (w out : List ℕ) → stage ≡ k → length (changed stage w) ≤ length out → length (changed k w) ≤ length out
-room-as stage k w out e h = subst (λ (x : Stage). length (changed x w) ≤ length out) e h
+pub put-same : {v w ys : List ℕ} {r : ℕ} (out : List ℕ) → v ≡ w → (r ≡ length v) × (ys ≡ front v out) → (r ≡ length w) × (ys ≡ front w out)
+put-same {ys = ys} {r = r} out e h = subst (λ (x : List ℕ). (r ≡ length x) × (ys ≡ front x out)) e h
 
-pub put-as : (stage k : Stage) (w out ys : List ℕ) (r : ℕ) → stage ≡ k
-    → (r ≡ length (changed k w)) × (ys ≡ front (changed k w) out) → (r ≡ length (changed stage w)) × (ys ≡ front (changed stage w) out)
-put-as stage k w out ys r e h = subst (λ (x : Stage). (r ≡ length (changed x w)) × (ys ≡ front (changed x w) out)) (sym e) h
+pub room-same : {v w : List ℕ} (out : List ℕ) → v ≡ w → length v ≤ length out → length w ≤ length out
+room-same out e h = subst (λ (x : List ℕ). length x ≤ length out) e h
+
+pub read-as : {stage k : Stage} (w : Word) → stage ≡ k → changed stage w ≡ changed k w
+read-as w e = ap (λ (x : Stage). changed x w) e
 
 -- IN TWO PARTS: u first, and v behind it
 pub halves : (u v out mid : List ℕ) (n : ℕ) → n ≡ length u → mid ≡ front u out → take n mid ++ front v (drop n mid) ≡ front (u ++ v) out
@@ -54,35 +56,45 @@ spaced-split stage (b ∷ t) = go (eqb b 32)
 
 module _ (stage read : Stage) (s : List ℕ) (at e : ℕ) (end : e ≡ at + upTo 32 (drop at s)) (stepped : read ≡ step stage (take (e - at) (drop at s))) where
   -- the word at `at`
-  abbrev due : Word
-  due = rewrite read (take (e - at) (drop at s))
+  abbrev word : Word
+  word = rewrite read (take (e - at) (drop at s))
 
-  pub text-at : join 32 (rewritten stage (split 32 (drop at s))) ≡ due ++ spaced read (after 32 (drop e s))
-  text-at = rw (split-at 32 s at e end, ← stepped) (join-spaced due read (after 32 (drop e s)))
+  pub text-at : join 32 (rewritten stage (split 32 (drop at s))) ≡ word ++ spaced read (after 32 (drop e s))
+  text-at = rw (split-at 32 s at e end, ← stepped) (join-spaced word read (after 32 (drop e s)))
 
-  pub none-left : length s ≤ e → spaced read (after 32 (drop e s)) ≡ []
-  none-left h = ap (spaced read) (after-end 32 s e h)
+  pub text-last : length s ≤ e → join 32 (rewritten stage (split 32 (drop at s))) ≡ word ++ []
+  text-last h = text-at ∙ ap (λ (ws : List Word). word ++ spaced read ws) (after-end 32 s e h)
 
-  pub text-last : length s ≤ e → join 32 (rewritten stage (split 32 (drop at s))) ≡ due
-  text-last h = text-at ∙ ap (λ (t : List ℕ). due ++ t) (none-left h) ∙ append-nil due
-
-  pub text-next : e < length s → join 32 (rewritten stage (split 32 (drop at s))) ≡ due ++ (32 ∷ join 32 (rewritten read (split 32 (drop (e + 1) s))))
+  pub text-next : e < length s → join 32 (rewritten stage (split 32 (drop at s))) ≡ word ++ (32 ∷ join 32 (rewritten read (split 32 (drop (e + 1) s))))
   text-next h =
-      text-at ∙ ap (λ (t : List ℕ). due ++ t) (ap (spaced read) (after-here 32 s e h) ∙ spaced-split read (drop (e + 1) s))
+      text-at ∙ ap (λ (t : List ℕ). word ++ t) (ap (spaced read) (after-here 32 s e h) ∙ spaced-split read (drop (e + 1) s))
 
--- A WORD AND A SPACE behind it, written where `whole` has them
-module _ (whole out₀ out : List ℕ) (o : ℕ) (e : out ≡ take o whole ++ drop o out₀) (h : o ≤ length whole) (w : Word) (b : ℕ) (left : List ℕ)
-    (d : drop o whole ≡ w ++ (b ∷ left)) (mid : List ℕ) (m : mid ≡ take o out ++ front w (drop o out)) where
-  pub spaced-room : o + length w + 1 ≤ length whole
-  spaced-room = omega (arith, next-fits whole out₀ out o e h w (b ∷ left) d)
+-- A WHOLE TEXT IN TURNS: out holds the first o bytes of the whole and is else as it was, and `left` is what is left of it
+pub record Writing (whole out₀ out : List ℕ) (o : ℕ) (left : List ℕ) : Type 0 where
+  pub inside : o ≤ length whole
+  pub ahead : drop o whole ≡ left
+  pub held : out ≡ take o whole ++ drop o out₀
 
-  pub spaced-out : o + length w < length mid → set mid (o + length w) b ≡ take (o + length w + 1) whole ++ drop (o + length w + 1) out₀
-  spaced-out l =
-      store mid (o + length w) b l
-      ∙ next-out whole out₀ mid (o + length w) (m ∙ next-out whole out₀ out o e h w (b ∷ left) d) (omega (arith, spaced-room)) (b ∷ []) left
-      (next-rest whole out₀ out o e h w (b ∷ left) d)
+pub begin : (whole out₀ : List ℕ) → Writing whole out₀ out₀ 0 whole
+begin whole out₀ = record { inside = omega arith; ahead = refl; held = refl }
 
-  pub spaced-rest : drop (o + length w + 1) whole ≡ left
-  spaced-rest =
-      next-rest whole out₀ mid (o + length w) (m ∙ next-out whole out₀ out o e h w (b ∷ left) d) (omega (arith, spaced-room)) (b ∷ []) left
-      (next-rest whole out₀ out o e h w (b ∷ left) d)
+pub due : {whole out₀ out left left₁ : List ℕ} {o : ℕ} → Writing whole out₀ out o left → left ≡ left₁ → Writing whole out₀ out o left₁
+due t e = record { inside = t .inside; ahead = t .ahead ∙ e; held = t .held }
+
+module _ {whole out₀ out : List ℕ} {o : ℕ} (w left : List ℕ) (t : Writing whole out₀ out o (w ++ left)) where
+  pub room : o + length w + length left ≡ length whole
+  room = next-fits whole out₀ out o (t .held) (t .inside) w left (t .ahead)
+
+  -- after w was put at the front of what is behind o
+  pub onward : (mid : List ℕ) → mid ≡ take o out ++ front w (drop o out) → Writing whole out₀ mid (o + length w) left
+  onward mid e =
+      record {
+        inside = omega (arith, room);
+        ahead = next-rest whole out₀ out o (t .held) (t .inside) w left (t .ahead);
+        held = e ∙ next-out whole out₀ out o (t .held) (t .inside) w left (t .ahead);
+      }
+
+pub all-written : {whole out₀ out : List ℕ} {o : ℕ} → Writing whole out₀ out o [] → (o ≡ length whole) × (out ≡ front whole out₀)
+all-written {whole = whole} {out₀ = out₀} {out = out} {o = o} t =
+    let z : o ≡ length whole = omega (arith, t .inside, ap length (t .ahead), length-drop o whole) in
+    (z, whole-out whole out₀ out o (t .held) z)

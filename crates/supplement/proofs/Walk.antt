@@ -1,16 +1,20 @@
 -- Walking word by word comes out as the items do: whether a content fits is what the code's steps find. Assumes nothing.
-use Prim.Native.Nat.{ℕ}
+use Prim.Native.Nat.{ℕ, _+_, _-_, _<_, _≤_}
 use mathlib.Core.Path.{_≡_, refl, _∙_}
 use mathlib.Core.Bool.{Bool, true, false, cond, _&&_, _||_}
 use mathlib.Core.List.{List, [], _∷_}
+use lib.ListN.{length, take, drop}
 use lib.Dec.{ltb}
-use Rattle.text.specs.Words.{Word, split, holds, before, behind, all, null, same}
+use Rattle.text.specs.Words.{Word, split, holds, before, behind, all, null, same, upTo}
+use Rattle.text.proofs.Index.{split-at, after-here, after-end}
 use Rattle.shape.specs.Time.{elapsedFits}
 use Rattle.supplement.specs.declared.Key.{Key}
 use Rattle.supplement.specs.declared.Key.the-variants.{E, P, R, S, J, D, A, N, C, Other}
 use Rattle.supplement.specs.declared.Stage.{Stage}
-use Rattle.supplement.specs.declared.Stage.the-variants.{Start, Endurance, Persons, Radio, Survival, Lights, JacketRadio, Number, Capacity, Colours, Aircraft, Remarks, Pilot, Refused}
-use Rattle.supplement.specs.Field19.{keyed, place, count, someOf, colour, textWord, radioLetters, survivalLetters, lightLetters, jacketRadioLetters, cover, Item, Groups, put, group, one, afterPair, afterCover, itemFits, itemsFit, groupsFit, fits19}
+use Rattle.supplement.specs.declared.Stage.the-variants.{Start, Endurance, Persons, Radio, Survival, Lights, JacketRadio, Number, Capacity, Colours}
+use Rattle.supplement.specs.declared.Stage.the-variants.{Aircraft, Remarks, Pilot, Refused}
+use Rattle.supplement.specs.Field19.{keyed, place, count, someOf, colour, textWord, radioLetters, survivalLetters, lightLetters, jacketRadioLetters}
+use Rattle.supplement.specs.Field19.{cover, Item, Groups, put, group, one, afterPair, afterCover, itemFits, itemsFit, groupsFit, fits19}
 use Rattle.supplement.proofs.Words.{no-shade}
 use Rattle.supplement.specs.Walk.{complete, shaded, first, further, opens, step, walked}
 
@@ -228,3 +232,14 @@ walked-goes stage (w ∷ ws) = walked-goes (step stage w) ws ∙ step-go stage w
 pub walk-fits : (s : List ℕ) → walked Start (split 32 s) ≡ fits19 s
 unfolding fits19
 walk-fits s = walked-goes Start (split 32 s)
+
+-- word by word at an index, where the next word ends at e
+module _ (stage : Stage) (s : List ℕ) (at e : ℕ) (end : e ≡ at + upTo 32 (drop at s)) where
+  abbrev word : Word
+  word = take (e - at) (drop at s)
+
+  pub walked-last : length s ≤ e → walked stage (split 32 (drop at s)) ≡ complete (step stage word)
+  walked-last h = rw (split-at 32 s at e end, after-end 32 s e h)
+
+  pub walked-next : e < length s → walked stage (split 32 (drop at s)) ≡ walked (step stage word) (split 32 (drop (e + 1) s))
+  walked-next h = rw (split-at 32 s at e end, after-here 32 s e h)

@@ -17,19 +17,6 @@ use Rattle.supplement.specs.declared.Key.the-variants.{E, P, R, S, J, D,
 
 -- THE KEYS, each by its letter, and their order
 
-unfoldable pub keyed : Word → Key
-keyed w =
-    cond (same w (bytes "E")) E
-    (cond (same w (bytes "P")) P
-    (cond (same w (bytes "R")) R
-    (cond (same w (bytes "S")) S
-    (cond (same w (bytes "J")) J
-    (cond (same w (bytes "D")) D
-    (cond (same w (bytes "A")) A
-    (cond (same w (bytes "N")) N
-    (cond (same w (bytes "C")) C
-    Other))))))))
-
 abbrev pub spellKey : Key → Word
 spellKey E = bytes "E"
 spellKey P = bytes "P"
@@ -41,6 +28,17 @@ spellKey A = bytes "A"
 spellKey N = bytes "N"
 spellKey C = bytes "C"
 spellKey Other = []
+
+-- the key whose letter w is
+abbrev pub keyAmong : List Key → Word → Key
+keyAmong [] w = Other
+keyAmong (k ∷ ks) w = cond (same w (spellKey k)) k (keyAmong ks w)
+
+abbrev pub keys : List Key
+keys = E ∷ (P ∷ (R ∷ (S ∷ (J ∷ (D ∷ (A ∷ (N ∷ (C ∷ []))))))))
+
+unfoldable pub keyed : Word → Key
+keyed w = keyAmong keys w
 
 abbrev pub place : Key → ℕ
 place Other = 0

@@ -7,7 +7,8 @@ ghost use Rattle.text.specs.Lent.{front};
 ghost use Rattle.supplement.specs.declared.Key.the-variants.{D};
 ghost use Rattle.supplement.specs.declared.Stage.the-variants.{Refused};
 ghost use Rattle.supplement.specs.Field19.{keyed, place as placeOf, count, someOf, colour, textWord, fits19, sorted, stripped, written19};
-ghost use Rattle.supplement.specs.Walk.{past as pastOf, complete as completeAt, shaded, first as firstOf, further as furtherOf, step as stepOf, changed, lead as leadOf, rewrite, rewrittenText};
+ghost use Rattle.supplement.specs.Walk.{past as pastOf, complete as completeAt, shaded, first as firstOf, further as furtherOf, step as stepOf};
+ghost use Rattle.supplement.specs.Walk.{changed, lead as leadOf, rewrite, rewrittenText};
 
 // An item's key, by its letter.
 enum Key {
@@ -41,6 +42,7 @@ enum Stage {
     Refused,
 }
 
+// The key whose letter w is.
 fn key_of(w: &[u8]) -> Key
     ensures { λ r. ⌜ r ≡ keyed (now (w .entry)) ⌝ }
 {
@@ -179,6 +181,7 @@ fn is_colour(w: &[u8]) -> bool
     text::all_of(text::Kind::Letter, w)
 }
 
+// Whether w is a text word.
 fn is_text_word(w: &[u8]) -> bool
     ensures { λ r. ⌜ r ≡ textWord (now (w .entry)) ⌝ }
 {
@@ -346,7 +349,7 @@ fn put_stripped(w: &[u8], out: &mut [u8]) -> usize
     text::put(&w[z..], out)
 }
 
-// How many bytes w has as it is written, behind an oblique if there was one.
+// How many bytes are written of w, what stands behind an oblique or a whole word, by what it was read as.
 fn changed_length(stage: Stage, w: &[u8]) -> usize
     ensures { λ r. ⌜ r ≡ length (changed stage (now (w .entry))) ⌝ }
 {
@@ -368,6 +371,7 @@ fn changed_length(stage: Stage, w: &[u8]) -> usize
     }
 }
 
+// Writes them.
 fn put_changed(stage: Stage, w: &[u8], out: &mut [u8]) -> usize
     requires { ⌜ length (changed stage (now w)) ≤ length (now out) ⌝ }
     ensures { λ r. ⌜ (r ≡ length (changed stage (now (w .entry)))) × (now (out .exit) ≡ front (changed stage (now (w .entry))) (now (out .entry))) ⌝ }

@@ -1,8 +1,8 @@
--- `.::changed_length` meets its contract. Assumes nothing.
+-- `supplement::changed_length` meets its contract. Assumes nothing.
 use mathlib.Core.Path.{sym, ap, _∙_}
-use lib.ListN.{length, length-drop}
-use Rattle.supplement.specs.declared.Stage.{Stage}
-use Rattle.supplement.specs.Walk.{changed}
+use lib.ListN.{length}
+use Rattle.supplement.proofs.Steps.{stripped-length}
+use Rattle.supplement.proofs.Turns.{read-as}
 use borrow.Author.Needs.{needs}
 use Rattle.supplement.proofs.changed_length.Statement.{statement}
 use Rattle.supplement.proofs.changed_length.Tie as tie
@@ -92,46 +92,52 @@ enum-told-14 : tie.Need-enum-told-14
 enum-told-14 c = search needs
 
 returns : tie.Need-returns
-returns c = sym (ap (λ (k : Stage). length (changed k (c .before .before .before .args .w .now))) (c .enum-told .given .1))
+returns c = sym (ap length (read-as (c .before .before .before .args .w .now) (c .enum-told .given .1)))
 
 returns-2 : tie.Need-returns-2
-returns-2 c = sym (ap (λ (k : Stage). length (changed k (c .before .before .before .args .w .now))) (c .enum-told2 .given .1))
+returns-2 c = sym (ap length (read-as (c .before .before .before .args .w .now) (c .enum-told2 .given .1)))
 
 returns-3 : tie.Need-returns-3
-returns-3 c = let w = c .before .before .before .before .args .w .now in sym (ap (λ (k : Stage). length (changed k w)) (c .before .enum-told3 .given .1) ∙ ap length (sym (c .zeros .ensures .1)) ∙ length-drop (c .zeros .result) w)
+returns-3 c =
+    let w = c .before .before .before .before .args .w .now in
+    stripped-length w (c .zeros .result) (c .zeros .ensures .1) ∙ sym (ap length (read-as w (c .before .enum-told3 .given .1)))
 
 returns-4 : tie.Need-returns-4
-returns-4 c = c .sorted-length .ensures ∙ sym (ap (λ (k : Stage). length (changed k (c .before .before .before .before .before .args .w .now))) (c .before .before .enum-told4 .given .1))
+returns-4 c = c .sorted-length .ensures ∙ sym (ap length (read-as (c .before .before .before .before .before .args .w .now) (c .before .before .enum-told4 .given .1)))
 
 returns-5 : tie.Need-returns-5
-returns-5 c = c .sorted-length2 .ensures ∙ sym (ap (λ (k : Stage). length (changed k (c .before .before .before .before .before .args .w .now))) (c .before .before .enum-told5 .given .1))
+returns-5 c = c .sorted-length2 .ensures ∙ sym (ap length (read-as (c .before .before .before .before .before .args .w .now) (c .before .before .enum-told5 .given .1)))
 
 returns-6 : tie.Need-returns-6
-returns-6 c = c .sorted-length3 .ensures ∙ sym (ap (λ (k : Stage). length (changed k (c .before .before .before .before .before .args .w .now))) (c .before .before .enum-told6 .given .1))
+returns-6 c = c .sorted-length3 .ensures ∙ sym (ap length (read-as (c .before .before .before .before .before .args .w .now) (c .before .before .enum-told6 .given .1)))
 
 returns-7 : tie.Need-returns-7
-returns-7 c = c .sorted-length4 .ensures ∙ sym (ap (λ (k : Stage). length (changed k (c .before .before .before .before .before .args .w .now))) (c .before .before .enum-told7 .given .1))
+returns-7 c = c .sorted-length4 .ensures ∙ sym (ap length (read-as (c .before .before .before .before .before .args .w .now) (c .before .before .enum-told7 .given .1)))
 
 returns-8 : tie.Need-returns-8
-returns-8 c = let w = c .before .before .before .before .args .w .now in sym (ap (λ (k : Stage). length (changed k w)) (c .before .enum-told8 .given .1) ∙ ap length (sym (c .zeros2 .ensures .1)) ∙ length-drop (c .zeros2 .result) w)
+returns-8 c =
+    let w = c .before .before .before .before .args .w .now in
+    stripped-length w (c .zeros2 .result) (c .zeros2 .ensures .1) ∙ sym (ap length (read-as w (c .before .enum-told8 .given .1)))
 
 returns-9 : tie.Need-returns-9
-returns-9 c = let w = c .before .before .before .before .args .w .now in sym (ap (λ (k : Stage). length (changed k w)) (c .before .enum-told9 .given .1) ∙ ap length (sym (c .zeros3 .ensures .1)) ∙ length-drop (c .zeros3 .result) w)
+returns-9 c =
+    let w = c .before .before .before .before .args .w .now in
+    stripped-length w (c .zeros3 .result) (c .zeros3 .ensures .1) ∙ sym (ap length (read-as w (c .before .enum-told9 .given .1)))
 
 returns-10 : tie.Need-returns-10
-returns-10 c = sym (ap (λ (k : Stage). length (changed k (c .before .before .before .args .w .now))) (c .enum-told10 .given .1))
+returns-10 c = sym (ap length (read-as (c .before .before .before .args .w .now) (c .enum-told10 .given .1)))
 
 returns-11 : tie.Need-returns-11
-returns-11 c = sym (ap (λ (k : Stage). length (changed k (c .before .before .before .args .w .now))) (c .enum-told11 .given .1))
+returns-11 c = sym (ap length (read-as (c .before .before .before .args .w .now) (c .enum-told11 .given .1)))
 
 returns-12 : tie.Need-returns-12
-returns-12 c = sym (ap (λ (k : Stage). length (changed k (c .before .before .before .args .w .now))) (c .enum-told12 .given .1))
+returns-12 c = sym (ap length (read-as (c .before .before .before .args .w .now) (c .enum-told12 .given .1)))
 
 returns-13 : tie.Need-returns-13
-returns-13 c = sym (ap (λ (k : Stage). length (changed k (c .before .before .before .args .w .now))) (c .enum-told13 .given .1))
+returns-13 c = sym (ap length (read-as (c .before .before .before .args .w .now) (c .enum-told13 .given .1)))
 
 returns-14 : tie.Need-returns-14
-returns-14 c = sym (ap (λ (k : Stage). length (changed k (c .before .before .before .args .w .now))) (c .enum-told14 .given .1))
+returns-14 c = sym (ap length (read-as (c .before .before .before .args .w .now) (c .enum-told14 .given .1)))
 
 pub changed-length-spec : {M : Type 1} → statement M
 changed-length-spec =

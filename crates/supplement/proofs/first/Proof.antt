@@ -1,9 +1,6 @@
--- `.::first` meets its contract. Assumes nothing.
-use mathlib.Core.Path.{sym, ap, _∙_}
-use mathlib.Core.Bool.{Bool, cond}
-use Rattle.supplement.specs.declared.Key.{Key}
-use Rattle.supplement.specs.declared.Stage.the-variants.{Endurance, Persons, Radio, Survival, Lights, Aircraft, Remarks, Pilot, Refused}
-use Rattle.supplement.specs.Walk.{first as firstOf}
+-- `supplement::first` meets its contract. Assumes nothing.
+use Rattle.supplement.specs.declared.Stage.the-variants.{Endurance, Persons, Radio, Survival, Lights, Aircraft, Remarks, Pilot}
+use Rattle.supplement.proofs.Steps.{as-taken, by-key}
 use borrow.Author.Needs.{needs}
 use Rattle.supplement.proofs.first.Statement.{statement}
 use Rattle.supplement.proofs.first.Tie as tie
@@ -99,31 +96,31 @@ enum-told-10 : tie.Need-enum-told-10
 enum-told-10 c = search needs
 
 returns : tie.Need-returns
-returns c = c .taken .ensures ∙ ap (λ (b : Bool). cond b Endurance Refused) (c .before .fits2 .ensures) ∙ sym (ap (λ (k : Key). firstOf k (c .before .before .before .before .before .args .w .now)) (c .before .before .enum-told .given .1))
+returns c = by-key (c .before .before .before .before .before .args .w .now) (c .before .before .enum-told .given .1) (as-taken Endurance (c .taken .ensures) (c .before .fits2 .ensures))
 
 returns-2 : tie.Need-returns-2
-returns-2 c = c .taken2 .ensures ∙ ap (λ (b : Bool). cond b Persons Refused) (c .before .is-count .ensures) ∙ sym (ap (λ (k : Key). firstOf k (c .before .before .before .before .before .args .w .now)) (c .before .before .enum-told2 .given .1))
+returns-2 c = by-key (c .before .before .before .before .before .args .w .now) (c .before .before .enum-told2 .given .1) (as-taken Persons (c .taken2 .ensures) (c .before .is-count .ensures))
 
 returns-3 : tie.Need-returns-3
-returns-3 c = c .taken3 .ensures ∙ ap (λ (b : Bool). cond b Radio Refused) (c .before .is-some-of .ensures) ∙ sym (ap (λ (k : Key). firstOf k (c .before .before .before .before .before .before .args .w .now)) (c .before .before .before .enum-told3 .given .1))
+returns-3 c = by-key (c .before .before .before .before .before .before .args .w .now) (c .before .before .before .enum-told3 .given .1) (as-taken Radio (c .taken3 .ensures) (c .before .is-some-of .ensures))
 
 returns-4 : tie.Need-returns-4
-returns-4 c = c .taken4 .ensures ∙ ap (λ (b : Bool). cond b Survival Refused) (c .before .is-some-of2 .ensures) ∙ sym (ap (λ (k : Key). firstOf k (c .before .before .before .before .before .before .args .w .now)) (c .before .before .before .enum-told4 .given .1))
+returns-4 c = by-key (c .before .before .before .before .before .before .args .w .now) (c .before .before .before .enum-told4 .given .1) (as-taken Survival (c .taken4 .ensures) (c .before .is-some-of2 .ensures))
 
 returns-5 : tie.Need-returns-5
-returns-5 c = c .taken5 .ensures ∙ ap (λ (b : Bool). cond b Lights Refused) (c .before .is-some-of3 .ensures) ∙ sym (ap (λ (k : Key). firstOf k (c .before .before .before .before .before .before .args .w .now)) (c .before .before .before .enum-told5 .given .1))
+returns-5 c = by-key (c .before .before .before .before .before .before .args .w .now) (c .before .before .before .enum-told5 .given .1) (as-taken Lights (c .taken5 .ensures) (c .before .is-some-of3 .ensures))
 
 returns-6 : tie.Need-returns-6
-returns-6 c = c .first-of-dinghies .ensures ∙ sym (ap (λ (k : Key). firstOf k (c .before .before .before .before .args .w .now)) (c .before .enum-told6 .given .1))
+returns-6 c = by-key (c .before .before .before .before .args .w .now) (c .before .enum-told6 .given .1) (c .first-of-dinghies .ensures)
 
 returns-7 : tie.Need-returns-7
-returns-7 c = c .taken6 .ensures ∙ ap (λ (b : Bool). cond b Aircraft Refused) (c .before .is-text-word .ensures) ∙ sym (ap (λ (k : Key). firstOf k (c .before .before .before .before .before .args .w .now)) (c .before .before .enum-told7 .given .1))
+returns-7 c = by-key (c .before .before .before .before .before .args .w .now) (c .before .before .enum-told7 .given .1) (as-taken Aircraft (c .taken6 .ensures) (c .before .is-text-word .ensures))
 
 returns-8 : tie.Need-returns-8
-returns-8 c = c .taken7 .ensures ∙ ap (λ (b : Bool). cond b Remarks Refused) (c .before .is-text-word2 .ensures) ∙ sym (ap (λ (k : Key). firstOf k (c .before .before .before .before .before .args .w .now)) (c .before .before .enum-told8 .given .1))
+returns-8 c = by-key (c .before .before .before .before .before .args .w .now) (c .before .before .enum-told8 .given .1) (as-taken Remarks (c .taken7 .ensures) (c .before .is-text-word2 .ensures))
 
 returns-9 : tie.Need-returns-9
-returns-9 c = c .taken8 .ensures ∙ ap (λ (b : Bool). cond b Pilot Refused) (c .before .is-text-word3 .ensures) ∙ sym (ap (λ (k : Key). firstOf k (c .before .before .before .before .before .args .w .now)) (c .before .before .enum-told9 .given .1))
+returns-9 c = by-key (c .before .before .before .before .before .args .w .now) (c .before .before .enum-told9 .given .1) (as-taken Pilot (c .taken8 .ensures) (c .before .is-text-word3 .ensures))
 
 returns-10 : tie.Need-returns-10
 returns-10 c = search needs

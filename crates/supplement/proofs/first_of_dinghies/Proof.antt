@@ -1,4 +1,4 @@
--- `.::first_of_dinghies` meets its contract. Assumes nothing.
+-- `supplement::first_of_dinghies` meets its contract. Assumes nothing.
 use mathlib.Core.Path.{sym, _∙_}
 use borrow.Author.Needs.{needs}
 use Rattle.supplement.proofs.first_of_dinghies.Statement.{statement}

@@ -1,16 +1,14 @@
--- `.::fits_field19` meets its contract. Assumes nothing.
+-- `supplement::fits_field19` meets its contract. Assumes nothing.
 use Prim.Native.Nat.{_+_, _-_, _≤_}
 use mathlib.Core.Path.{_≡_, refl, sym, ap, _∙_}
-use mathlib.Core.List.{List, _∷_}
-use lib.ListN.{length, take, drop}
-use Rattle.text.specs.Words.{Word, split}
-use Rattle.text.proofs.Index.{split-at, after-here, after-end}
+use native.Mathlib.Omega.{arith}
+use lib.ListN.{length, drop}
+use Rattle.text.specs.Words.{split}
 use Rattle.supplement.specs.declared.Stage.{Stage}
 use Rattle.supplement.specs.declared.Stage.the-variants.{Start}
 use Rattle.supplement.specs.Walk.{walked, complete as completeAt}
-use Rattle.supplement.proofs.Walk.{walk-fits}
+use Rattle.supplement.proofs.Walk.{walk-fits, walked-last, walked-next}
 use borrow.Author.Needs.{needs}
-use native.Mathlib.Omega.{arith}
 use Rattle.supplement.proofs.fits_field19.Statement.{statement}
 use Rattle.supplement.proofs.fits_field19.Tie as tie
 
@@ -43,11 +41,10 @@ complete-requires c κs = search needs
 
 returns : tie.Need-returns Inv-loop μ-loop
 returns c =
-    let s = c .before .before .before .before .before .before .before .args .s .now in
     let l = c .before .before .before .before .before .loop in
-    let e = c .before .before .before .before .find .result in
-    sym (sym (walk-fits s) ∙ l .inv .1 ∙ ap (walked (l .stage)) (split-at 32 s (l .at) e (c .before .before .before .before .find .ensures .0) ∙ ap (λ (ws : List Word). take (e - l .at) (drop (l .at) s) ∷ ws) (after-end 32 s e (omega arith)))
-    ∙ sym (ap completeAt (c .before .before .step .ensures)) ∙ sym (c .complete .ensures))
+    let e = c .before .before .before .before .find in
+    let t = walked-last (l .stage) (c .before .before .before .before .before .before .before .args .s .now) (l .at) (e .result) (e .ensures .0) (omega arith) in
+    c .complete .ensures ∙ ap completeAt (c .before .before .step .ensures) ∙ sym (sym (walk-fits (c .before .before .before .before .before .before .before .args .s .now)) ∙ l .inv .1 ∙ t)
 
 add-at : tie.Need-add-at Inv-loop μ-loop
 add-at c = search needs
@@ -59,11 +56,9 @@ loop-again : tie.Need-loop-again Inv-loop μ-loop
 loop-again c =
     let s = c .before .before .before .before .before .before .args .s .now in
     let l = c .before .before .before .before .loop in
-    let e = c .before .before .before .find .result in (
-      search needs,
-      l .inv .1 ∙ ap (walked (l .stage)) (split-at 32 s (l .at) e (c .before .before .before .find .ensures .0) ∙ ap (λ (ws : List Word). take (e - l .at) (drop (l .at) s) ∷ ws) (after-here 32 s e (omega arith)))
-          ∙ sym (ap (λ (st : Stage). walked st (split 32 (drop (e + 1) s))) (c .before .step .ensures)),
-    )
+    let e = c .before .before .before .find in
+    let t = walked-next (l .stage) s (l .at) (e .result) (e .ensures .0) (omega arith) in
+    (search needs, l .inv .1 ∙ t ∙ sym (ap (λ (x : Stage). walked x (split 32 (drop (e .result + 1) s))) (c .before .step .ensures)))
 
 pub fits-field19-spec : {M : Type 1} → statement M
 fits-field19-spec =

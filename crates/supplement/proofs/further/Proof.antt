@@ -1,9 +1,6 @@
--- `.::further` meets its contract. Assumes nothing.
-use mathlib.Core.Path.{sym, ap, _∙_}
-use mathlib.Core.Bool.{Bool, cond}
-use Rattle.supplement.specs.declared.Stage.{Stage}
-use Rattle.supplement.specs.declared.Stage.the-variants.{JacketRadio, Capacity, Colours, Aircraft, Remarks, Pilot, Refused}
-use Rattle.supplement.specs.Walk.{further as furtherOf}
+-- `supplement::further` meets its contract. Assumes nothing.
+use Rattle.supplement.specs.declared.Stage.the-variants.{JacketRadio, Capacity, Colours, Aircraft, Remarks, Pilot}
+use Rattle.supplement.proofs.Steps.{as-taken, by-stage}
 use borrow.Author.Needs.{needs}
 use Rattle.supplement.proofs.further.Statement.{statement}
 use Rattle.supplement.proofs.further.Tie as tie
@@ -108,28 +105,28 @@ returns-5 : tie.Need-returns-5
 returns-5 c = search needs
 
 returns-6 : tie.Need-returns-6
-returns-6 c = c .taken .ensures ∙ ap (λ (b : Bool). cond b JacketRadio Refused) (c .before .is-some-of .ensures) ∙ sym (ap (λ (k : Stage). furtherOf k (c .before .before .before .before .before .before .args .w .now)) (c .before .before .before .enum-told6 .given .1))
+returns-6 c = by-stage (c .before .before .before .before .before .before .args .w .now) (c .before .before .before .enum-told6 .given .1) (as-taken JacketRadio (c .taken .ensures) (c .before .is-some-of .ensures))
 
 returns-7 : tie.Need-returns-7
 returns-7 c = search needs
 
 returns-8 : tie.Need-returns-8
-returns-8 c = c .taken2 .ensures ∙ ap (λ (b : Bool). cond b Capacity Refused) (c .before .is-count .ensures) ∙ sym (ap (λ (k : Stage). furtherOf k (c .before .before .before .before .before .args .w .now)) (c .before .before .enum-told8 .given .1))
+returns-8 c = by-stage (c .before .before .before .before .before .args .w .now) (c .before .before .enum-told8 .given .1) (as-taken Capacity (c .taken2 .ensures) (c .before .is-count .ensures))
 
 returns-9 : tie.Need-returns-9
-returns-9 c = c .shade .ensures ∙ sym (ap (λ (k : Stage). furtherOf k (c .before .before .before .before .args .w .now)) (c .before .enum-told9 .given .1))
+returns-9 c = by-stage (c .before .before .before .before .args .w .now) (c .before .enum-told9 .given .1) (c .shade .ensures)
 
 returns-10 : tie.Need-returns-10
-returns-10 c = c .taken3 .ensures ∙ ap (λ (b : Bool). cond b Colours Refused) (c .before .is-colour .ensures) ∙ sym (ap (λ (k : Stage). furtherOf k (c .before .before .before .before .before .args .w .now)) (c .before .before .enum-told10 .given .1))
+returns-10 c = by-stage (c .before .before .before .before .before .args .w .now) (c .before .before .enum-told10 .given .1) (as-taken Colours (c .taken3 .ensures) (c .before .is-colour .ensures))
 
 returns-11 : tie.Need-returns-11
-returns-11 c = c .taken4 .ensures ∙ ap (λ (b : Bool). cond b Aircraft Refused) (c .before .is-text-word .ensures) ∙ sym (ap (λ (k : Stage). furtherOf k (c .before .before .before .before .before .args .w .now)) (c .before .before .enum-told11 .given .1))
+returns-11 c = by-stage (c .before .before .before .before .before .args .w .now) (c .before .before .enum-told11 .given .1) (as-taken Aircraft (c .taken4 .ensures) (c .before .is-text-word .ensures))
 
 returns-12 : tie.Need-returns-12
-returns-12 c = c .taken5 .ensures ∙ ap (λ (b : Bool). cond b Remarks Refused) (c .before .is-text-word2 .ensures) ∙ sym (ap (λ (k : Stage). furtherOf k (c .before .before .before .before .before .args .w .now)) (c .before .before .enum-told12 .given .1))
+returns-12 c = by-stage (c .before .before .before .before .before .args .w .now) (c .before .before .enum-told12 .given .1) (as-taken Remarks (c .taken5 .ensures) (c .before .is-text-word2 .ensures))
 
 returns-13 : tie.Need-returns-13
-returns-13 c = c .taken6 .ensures ∙ ap (λ (b : Bool). cond b Pilot Refused) (c .before .is-text-word3 .ensures) ∙ sym (ap (λ (k : Stage). furtherOf k (c .before .before .before .before .before .args .w .now)) (c .before .before .enum-told13 .given .1))
+returns-13 c = by-stage (c .before .before .before .before .before .args .w .now) (c .before .before .enum-told13 .given .1) (as-taken Pilot (c .taken6 .ensures) (c .before .is-text-word3 .ensures))
 
 returns-14 : tie.Need-returns-14
 returns-14 c = search needs

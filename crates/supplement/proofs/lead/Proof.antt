@@ -1,6 +1,6 @@
--- `.::lead` meets its contract. Assumes nothing.
-use Rattle.supplement.proofs.Steps.{lead-none, lead-some}
+-- `supplement::lead` meets its contract. Assumes nothing.
 use native.Mathlib.Omega.{arith}
+use Rattle.supplement.proofs.Steps.{lead-none, lead-some}
 use borrow.Author.Needs.{needs}
 use Rattle.supplement.proofs.lead.Statement.{statement}
 use Rattle.supplement.proofs.lead.Tie as tie

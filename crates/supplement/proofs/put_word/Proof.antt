@@ -1,7 +1,10 @@
--- `.::put_word` meets its contract. Assumes nothing.
+-- `supplement::put_word` meets its contract. Assumes nothing.
 use Prim.Native.Nat.{ℕ, _+_, _-_, _≤_}
 use mathlib.Core.List.{List, _++_}
+use mathlib.Core.Path.{_≡_, sym, ap, _∙_}
+use native.Mathlib.Omega.{arith}
 use lib.ListN.{length, take, drop, length-drop}
+use lib.Seq.{length-take-le}
 use Rattle.text.specs.Lent.{front}
 use Rattle.text.proofs.Index.{rest}
 use Rattle.text.proofs.Lent.{lent, length-front}
@@ -9,26 +12,26 @@ use Rattle.supplement.specs.declared.Stage.{Stage}
 use Rattle.supplement.specs.Walk.{changed, rewrite}
 use Rattle.supplement.proofs.Steps.{rewrite-parts, rewrite-length, rewrite-shorter}
 use Rattle.supplement.proofs.Turns.{halves}
-use mathlib.Core.Path.{_≡_, sym, ap, _∙_}
-use lib.Seq.{length-take-le}
-use native.Mathlib.Omega.{arith}
 use borrow.Author.Needs.{needs}
 use Rattle.supplement.proofs.put_word.Statement.{statement}
 use Rattle.supplement.proofs.put_word.Tie as tie
 
 -- what is put first, and what is put behind it
 
+abbrev Led : tie.After-put → tie.After-lead
+Led p = p .before .before .before
+
 abbrev W : tie.After-put → List ℕ
-W p = p .before .before .before .before .before .before .args .w .now
+W p = Led p .before .before .before .args .w .now
 
 abbrev Out : tie.After-put → List ℕ
-Out p = p .before .before .before .before .before .before .args .out .now
+Out p = Led p .before .before .before .args .out .now
 
 abbrev St : tie.After-put → Stage
-St p = p .before .before .before .before .before .before .args .stage
+St p = Led p .before .before .before .args .stage
 
 abbrev O : tie.After-put → ℕ
-O p = p .before .before .before .lead .result
+O p = Led p .lead .result
 
 abbrev behindIt : tie.After-put → List ℕ
 behindIt p = changed (St p) (drop (O p) (W p))
@@ -37,18 +40,18 @@ behind-same : (p : tie.After-put) → changed (St p) (take (length (W p) - O p) 
 behind-same p = ap (changed (St p)) (rest (W p) (O p))
 
 head-length : (p : tie.After-put) → length (take (O p) (W p)) ≡ O p
-head-length p = length-take-le (O p) (W p) (p .before .before .before .lead .ensures .1)
+head-length p = length-take-le (O p) (W p) (Led p .lead .ensures .1)
 
 whole-length : (p : tie.After-put) → length (rewrite (St p) (W p)) ≡ O p + length (behindIt p)
-whole-length p = rewrite-length (St p) (W p) (O p) (p .before .before .before .lead .ensures .0) (p .before .before .before .lead .ensures .1)
+whole-length p = rewrite-length (St p) (W p) (O p) (Led p .lead .ensures .0) (Led p .lead .ensures .1)
 
 middle-length : (p : tie.After-put) → length (p .put .last .1 .0) ≡ length (Out p)
 middle-length p =
     ap length (p .put .ensures .1)
-    ∙ length-front (take (O p) (W p)) (Out p) (omega (arith, head-length p, whole-length p, p .before .before .before .before .before .before .pre))
+    ∙ length-front (take (O p) (W p)) (Out p) (omega (arith, head-length p, whole-length p, Led p .before .before .before .pre))
 
 inside : (p : tie.After-put) → p .put .result ≤ length (p .put .last .1 .0)
-inside p = omega (arith, p .put .ensures .0, middle-length p, head-length p, whole-length p, p .before .before .before .before .before .before .pre)
+inside p = omega (arith, p .put .ensures .0, middle-length p, head-length p, whole-length p, Led p .before .before .before .pre)
 
 lead-requires : tie.Need-lead-requires
 lead-requires c κs = search needs
@@ -58,10 +61,12 @@ slice-aggregate-put c = sym (length-take-le _ _ (omega arith))
 
 put-requires : tie.Need-put-requires
 put-requires c κs =
-    let w = c .before .before .before .before .before .args .w .now in
+    let a = c .before .before .before .before .before in
+    let w = a .args .w .now in
     let o = c .before .before .lead .result in
-    let h : length (take o w) ≤ length (c .before .before .before .before .before .args .out .now)
-    = omega (arith, length-take-le o w (c .before .before .lead .ensures .1), rewrite-length (c .before .before .before .before .before .args .stage) w o (c .before .before .lead .ensures .0) (c .before .before .lead .ensures .1), c .before .before .before .before .before .pre) in
+    let e = c .before .before .lead .ensures in
+    let h : length (take o w) ≤ length (a .args .out .now)
+    = omega (arith, length-take-le o w (e .1), rewrite-length (a .args .stage) w o (e .0) (e .1), a .pre) in
     h
 
 sub-put-changed : tie.Need-sub-put-changed
@@ -88,13 +93,13 @@ put-changed-requires c κs =
     let mid = p .put .last .1 .0 in
     let n = p .put .result in
     let h : length (changed (St p) (take (length (W p) - O p) (drop (O p) (W p)))) ≤ length (take (length mid - n) (drop n mid))
-    = omega (arith, ap length (behind-same p), ap length (rest mid n), length-drop n mid, p .put .ensures .0, middle-length p, head-length p, whole-length p, c .before .before .before .before .before .before .before .before .before .before .pre) in
+    = omega (arith, ap length (behind-same p), ap length (rest mid n), length-drop n mid, p .put .ensures .0, middle-length p, head-length p, whole-length p, Led p .before .before .before .pre) in
     h
 
 add-result : tie.Need-add-result
 add-result c =
     let p = c .before .before .before .before .before .before .before in
-    let s = rewrite-shorter (St p) (W p) (O p) (p .before .before .before .lead .ensures .0) (p .before .before .before .lead .ensures .1) in
+    let s = rewrite-shorter (St p) (W p) (O p) (Led p .lead .ensures .0) (Led p .lead .ensures .1) in
     omega (arith, c .before .before .put-changed .ensures .0, ap length (behind-same p), p .put .ensures .0, head-length p, whole-length p, s)
 
 same-length : tie.Need-same-length
@@ -110,7 +115,7 @@ returns c =
       lent mid second n _ (c .before .before .put-changed .ensures .1)
           ∙ halves (take (O p) (W p)) second (Out p) mid n (p .put .ensures .0) (p .put .ensures .1)
           ∙ ap (λ (v : List ℕ). front (take (O p) (W p) ++ v) (Out p)) (behind-same p)
-          ∙ ap (λ (v : List ℕ). front v (Out p)) (sym (rewrite-parts (St p) (W p) (O p) (p .before .before .before .lead .ensures .0) (p .before .before .before .lead .ensures .1))),
+          ∙ ap (λ (v : List ℕ). front v (Out p)) (sym (rewrite-parts (St p) (W p) (O p) (Led p .lead .ensures .0) (Led p .lead .ensures .1))),
     )
 
 pub put-word-spec : {M : Type 1} → statement M

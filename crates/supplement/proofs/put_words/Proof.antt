@@ -1,29 +1,26 @@
--- `.::put_words` meets its contract. Assumes nothing.
+-- `supplement::put_words` meets its contract. Assumes nothing.
 use Prim.Native.Nat.{ℕ, _+_, _-_, _≤_, _<_}
+use mathlib.Core.Path.{_≡_, refl, ap, _∙_}
+use mathlib.Core.List.{List, [], _∷_, _++_}
+use native.Mathlib.Omega.{arith}
 use lib.ListN.{length, take, drop, length-set, length-drop}
+use Rattle.text.proofs.Lent.{lent, store}
 use Rattle.text.specs.Words.{split, join, after}
 use Rattle.text.proofs.Index.{rest}
-use Rattle.text.proofs.Lent.{lent, next-out, next-fits, whole-out}
 use Rattle.supplement.specs.Walk.{rewrite, rewritten, rewrittenText}
-use Rattle.supplement.proofs.Turns.{spaced, text-at, none-left, text-next, spaced-rest, spaced-out}
-use Prim.Native.Nat.{_+_, _-_, _≤_, _<_}
-use mathlib.Core.Path.{_≡_, refl, ap, _∙_}
-use mathlib.Core.List.{List, _∷_, _++_}
-use lib.ListN.{length, take, drop}
-use Rattle.text.specs.Words.{split, join}
-use Rattle.supplement.specs.Walk.{rewritten, rewrittenText}
+use Rattle.supplement.proofs.Turns.{spaced, text-at, text-last, text-next, Writing, begin, due, room, onward, all-written}
 use borrow.Author.Needs.{needs}
-use native.Mathlib.Omega.{arith}
 use Rattle.supplement.proofs.put_words.Statement.{statement}
 use Rattle.supplement.proofs.put_words.Tie as tie
 
 abbrev Inv-loop : tie.InvT-loop
-Inv-loop s out₀ at₀ o₀ stage₀ out at o stage = (at ≤ length s) × (o ≤ length (rewrittenText s)) × (length out ≡ length out₀) × (drop o (rewrittenText s) ≡ join 32 (rewritten stage (split 32 (drop at s)))) × (out ≡ take o (rewrittenText s) ++ drop o out₀)
+Inv-loop s out₀ at₀ o₀ stage₀ out at o stage =
+    (at ≤ length s) × (length out ≡ length out₀) × Writing (rewrittenText s) out₀ out o (join 32 (rewritten stage (split 32 (drop at s))))
 
 abbrev μ-loop : tie.MeasureT-loop
 μ-loop s out₀ at₀ o₀ stage₀ out at o stage = length s - at
 
--- before the call that writes a word: the loop's head, the whole text, what is due, and what is left then
+-- before the call that writes a word: the loop's head, the word, and what is due
 
 abbrev At : tie.After-step Inv-loop μ-loop → tie.At-loop Inv-loop μ-loop
 At f = f .before .before .before
@@ -31,34 +28,39 @@ At f = f .before .before .before
 abbrev S : tie.After-step Inv-loop μ-loop → List ℕ
 S f = At f .before .before .before .args .s .now
 
-abbrev Out₀ : tie.After-step Inv-loop μ-loop → List ℕ
-Out₀ f = At f .before .before .before .args .out .now
-
 abbrev E : tie.After-step Inv-loop μ-loop → ℕ
 E f = f .before .before .find .result
 
-abbrev due : tie.After-step Inv-loop μ-loop → List ℕ
-due f = rewrite (f .step .result) (take (E f - At f .loop .at) (drop (At f .loop .at) (S f)))
+abbrev word : tie.After-step Inv-loop μ-loop → List ℕ
+word f = rewrite (f .step .result) (take (E f - At f .loop .at) (drop (At f .loop .at) (S f)))
 
-abbrev left : tie.After-step Inv-loop μ-loop → List ℕ
-left f = spaced (f .step .result) (after 32 (drop (E f) (S f)))
+-- behind the last word nothing is left
+last : (f : tie.After-step Inv-loop μ-loop) → length (S f) ≤ E f
+    → Writing (rewrittenText (S f)) (At f .before .before .before .args .out .now) (At f .loop .out) (At f .loop .o) (word f ++ [])
+last f h =
+    let l = At f .loop in
+    due (l .inv .2) (text-last (l .stage) (f .step .result) (S f) (l .at) (E f) (f .before .before .find .ensures .0) (f .step .ensures) h)
 
-cut : (f : tie.After-step Inv-loop μ-loop) → drop (At f .loop .o) (rewrittenText (S f)) ≡ due f ++ left f
-cut f = At f .loop .inv .3 ∙ text-at (At f .loop .stage) (f .step .result) (S f) (At f .loop .at) (E f) (f .before .before .find .ensures .0) (f .step .ensures)
+-- behind another, a space and the words that follow
 
-room : (f : tie.After-step Inv-loop μ-loop) → At f .loop .o + length (due f) + length (left f) ≡ length (rewrittenText (S f))
-room f = let l = At f .loop in next-fits (rewrittenText (S f)) (Out₀ f) (l .out) (l .o) (l .inv .4) (l .inv .1) (due f) (left f) (cut f)
+abbrev following : tie.After-step Inv-loop μ-loop → List ℕ
+following f = 32 ∷ join 32 (rewritten (f .step .result) (split 32 (drop (E f + 1) (S f))))
 
--- where a space follows
-abbrev then-due : tie.After-step Inv-loop μ-loop → List ℕ
-then-due f = join 32 (rewritten (f .step .result) (split 32 (drop (E f + 1) (S f))))
+next : (f : tie.After-step Inv-loop μ-loop) → E f < length (S f)
+    → Writing (rewrittenText (S f)) (At f .before .before .before .args .out .now) (At f .loop .out) (At f .loop .o) (word f ++ following f)
+next f h =
+    let l = At f .loop in
+    due (l .inv .2) (text-next (l .stage) (f .step .result) (S f) (l .at) (E f) (f .before .before .find .ensures .0) (f .step .ensures) h)
 
-cut-on : (f : tie.After-step Inv-loop μ-loop) → E f < length (S f) → drop (At f .loop .o) (rewrittenText (S f)) ≡ due f ++ (32 ∷ then-due f)
-cut-on f h = At f .loop .inv .3 ∙ text-next (At f .loop .stage) (f .step .result) (S f) (At f .loop .at) (E f) (f .before .before .find .ensures .0) (f .step .ensures) h
+fits : (f : tie.After-step Inv-loop μ-loop) → At f .loop .o + length (word f) ≤ length (rewrittenText (S f))
+fits f =
+    let l = At f .loop in
+    let t = text-at (l .stage) (f .step .result) (S f) (l .at) (E f) (f .before .before .find .ensures .0) (f .step .ensures) in
+    omega (arith, room (word f) (spaced (f .step .result) (after 32 (drop (E f) (S f)))) (due (l .inv .2) t))
 
 loop-holds : tie.Need-loop-holds Inv-loop μ-loop
 unfolding rewrittenText
-loop-holds c = (omega arith, omega arith, refl, refl, refl)
+loop-holds c = let a = c .before .before .args in (omega arith, refl, begin (rewrittenText (a .s .now)) (a .out .now))
 
 find-requires : tie.Need-find-requires Inv-loop μ-loop
 find-requires c κs = search needs
@@ -88,12 +90,12 @@ put-word-requires : tie.Need-put-word-requires Inv-loop μ-loop
 put-word-requires c κs =
     let f = c .before in
     let l = At f .loop in
-    omega (arith, room f, ap length (rest (l .out) (l .o)), length-drop (l .o) (l .out), l .inv .2, c .before .before .before .before .before .before .before .pre)
+    omega (arith, fits f, ap length (rest (l .out) (l .o)), length-drop (l .o) (l .out), l .inv .1, c .before .before .before .before .before .before .before .pre)
 
 add-o : tie.Need-add-o Inv-loop μ-loop
 add-o c =
-    let f = c .before .before .before .before in
-    omega (arith, room f, c .before .before .put-word .ensures .0, c .before .before .before .before .before .before .before .before .before .before .pre, c .before .before .before .before .before .before .before .before .before .before .good .1 .0)
+    let a = c .before .before .before .before .before .before .before .before .before .before in
+    omega (arith, fits (c .before .before .before .before), c .before .before .put-word .ensures .0, a .pre, a .good .1 .0)
 
 same-length : tie.Need-same-length Inv-loop μ-loop
 same-length c = search needs
@@ -103,27 +105,21 @@ returns c =
     let f = c .before .before .before .before .before in
     let l = At f .loop in
     let r = c .before .before .before .put-word .ensures in
-    let z : l .o + length (due f) ≡ length (rewrittenText (S f))
-    = omega (arith, room f, ap length (none-left (l .stage) (f .step .result) (S f) (l .at) (E f) (f .before .before .find .ensures .0) (f .step .ensures) (omega arith))) in (
-      omega (arith, z, r .0),
-      whole-out (rewrittenText (S f)) (Out₀ f) _ (l .o + length (due f))
-          (lent (l .out) (due f) (l .o) _ (r .1) ∙ next-out (rewrittenText (S f)) (Out₀ f) (l .out) (l .o) (l .inv .4) (l .inv .1) (due f) (left f) (cut f))
-          z,
-    )
+    rw (r .0) (all-written (onward (word f) [] (last f (omega arith)) _ (lent (l .out) (word f) (l .o) _ (r .1))))
 
 slice-write-out : tie.Need-slice-write-out Inv-loop μ-loop
 slice-write-out c =
+    let a = c .before .before .before .before .before .before .before .before .before .before .before in
     let f = c .before .before .before .before .before in
-    let l = At f .loop in
-    let d = cut-on f (omega arith) in
-    omega (arith, c .before .before .before .put-word .ensures .0, next-fits (rewrittenText (S f)) (Out₀ f) (l .out) (l .o) (l .inv .4) (l .inv .1) (due f) (32 ∷ then-due f) d, c .before .before .out .given .1, l .inv .2, c .before .before .before .before .before .before .before .before .before .before .before .pre)
+    let q = room (word f) (following f) (next f (omega arith)) in
+    omega (arith, c .before .before .before .put-word .ensures .0, q, c .before .before .out .given .1, At f .loop .inv .1, a .pre)
 
 add-o-2 : tie.Need-add-o-2 Inv-loop μ-loop
 add-o-2 c =
+    let a = c .before .before .before .before .before .before .before .before .before .before .before in
     let f = c .before .before .before .before .before in
-    let l = At f .loop in
-    let d = cut-on f (omega arith) in
-    omega (arith, c .before .before .before .put-word .ensures .0, next-fits (rewrittenText (S f)) (Out₀ f) (l .out) (l .o) (l .inv .4) (l .inv .1) (due f) (32 ∷ then-due f) d, c .before .before .before .before .before .before .before .before .before .before .before .pre, c .before .before .before .before .before .before .before .before .before .before .before .good .1 .0)
+    let q = room (word f) (following f) (next f (omega arith)) in
+    omega (arith, c .before .before .before .put-word .ensures .0, q, a .pre, a .good .1 .0)
 
 add-at : tie.Need-add-at Inv-loop μ-loop
 add-at c = search needs
@@ -133,18 +129,17 @@ loop-less c = search needs
 
 loop-again : tie.Need-loop-again Inv-loop μ-loop
 loop-again c =
+    let a = c .before .before .before .before .before .before .before .before .before .before .before in
     let f = c .before .before .before .before .before in
     let l = At f .loop in
-    let W = rewrittenText (S f) in
-    let d = cut-on f (omega arith) in
-    let r = c .before .before .before .put-word .ensures .0 in
-    let m = lent (l .out) (due f) (l .o) _ (c .before .before .before .put-word .ensures .1) in
-    let n = next-fits W (Out₀ f) (l .out) (l .o) (l .inv .4) (l .inv .1) (due f) (32 ∷ then-due f) d in (
+    let r = c .before .before .before .put-word .ensures in
+    let n = next f (omega arith) in
+    let t = onward (word f) (following f) n _ (lent (l .out) (word f) (l .o) _ (r .1)) in
+    let q = room (word f) (following f) n in
+    let k = c .before .before .out .given .1 in (
       omega arith,
-      omega (arith, r, n),
-      simp length-set (c .before .before .out .given .1 ∙ l .inv .2),
-      rw r (spaced-rest W (Out₀ f) (l .out) (l .o) (l .inv .4) (l .inv .1) (due f) 32 (then-due f) d _ m),
-      rw r (spaced-out W (Out₀ f) (l .out) (l .o) (l .inv .4) (l .inv .1) (due f) 32 (then-due f) d _ m (omega (arith, n, c .before .before .out .given .1, l .inv .2, c .before .before .before .before .before .before .before .before .before .before .before .pre))),
+      simp length-set (k ∙ l .inv .1),
+      rw (r .0) (onward (32 ∷ []) (drop 1 (following f)) t _ (store _ (l .o + length (word f)) 32 (omega (arith, q, k, l .inv .1, a .pre)))),
     )
 
 pub put-words-spec : {M : Type 1} → statement M

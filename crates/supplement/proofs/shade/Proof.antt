@@ -1,4 +1,4 @@
--- `.::shade` meets its contract. Assumes nothing.
+-- `supplement::shade` meets its contract. Assumes nothing.
 use mathlib.Core.Path.{sym, _∙_}
 use borrow.Author.Needs.{needs}
 use Rattle.supplement.proofs.shade.Statement.{statement}

@@ -1,13 +1,13 @@
--- `.::sorted_length` meets its contract. Assumes nothing.
+-- `supplement::sorted_length` meets its contract. Assumes nothing.
 use Prim.Native.Nat.{ℕ, _+_, _-_, _≤_}
 use mathlib.Core.Path.{_≡_, sym, ap, _∙_}
 use mathlib.Core.List.{List}
+use native.Mathlib.Omega.{arith}
 use lib.ListN.{length, drop}
 use Rattle.text.proofs.Index.{drop-end}
 use Rattle.supplement.specs.Field19.{sorted}
 use Rattle.supplement.proofs.Steps.{sorted-take, sorted-skip}
 use borrow.Author.Needs.{needs}
-use native.Mathlib.Omega.{arith}
 use Rattle.supplement.proofs.sorted_length.Statement.{statement}
 use Rattle.supplement.proofs.sorted_length.Tie as tie
 
@@ -36,16 +36,28 @@ loop-less : tie.Need-loop-less Inv-loop μ-loop
 loop-less c = search needs
 
 loop-again : tie.Need-loop-again Inv-loop μ-loop
-loop-again c = let a = c .before .before .before .before .before .before .before .args in let l = c .before .before .before .before .loop in (omega arith, omega arith, omega (arith, l .inv .2, ap length (sorted-take (a .set .now) (a .w .now) (l .i) (c .before .before .before .loop-test .taken) (sym (c .before .one-of .ensures) ∙ c .if1 .taken))))
+loop-again c =
+    let a = c .before .before .before .before .before .before .before .args in
+    let l = c .before .before .before .before .loop in
+    let t = sorted-take (a .set .now) (a .w .now) (l .i) (c .before .before .before .loop-test .taken) (sym (c .before .one-of .ensures) ∙ c .if1 .taken) in
+    (omega arith, omega arith, omega (arith, l .inv .2, ap length t))
 
 loop-less-2 : tie.Need-loop-less-2 Inv-loop μ-loop
 loop-less-2 c = search needs
 
 loop-again-2 : tie.Need-loop-again-2 Inv-loop μ-loop
-loop-again-2 c = let a = c .before .before .before .before .before .before .before .args in let l = c .before .before .before .before .loop in (omega arith, omega arith, omega (arith, l .inv .2, ap length (sorted-skip (a .set .now) (a .w .now) (l .i) (c .before .before .before .loop-test .taken) (sym (c .before .one-of .ensures) ∙ c .if1 .left))))
+loop-again-2 c =
+    let a = c .before .before .before .before .before .before .before .args in
+    let l = c .before .before .before .before .loop in
+    let t = sorted-skip (a .set .now) (a .w .now) (l .i) (c .before .before .before .loop-test .taken) (sym (c .before .one-of .ensures) ∙ c .if1 .left) in
+    (omega arith, omega arith, omega (arith, l .inv .2, ap length t))
 
 returns : tie.Need-returns Inv-loop μ-loop
-returns c = let a = c .before .before .before .before .args in let l = c .before .loop in omega (arith, l .inv .2, ap (λ (s : List ℕ). length (sorted s (a .w .now))) (drop-end (a .set .now) (l .i) (c .loop-test .left)))
+returns c =
+    let a = c .before .before .before .before .args in
+    let l = c .before .loop in
+    let t = ap (λ (s : List ℕ). sorted s (a .w .now)) (drop-end (a .set .now) (l .i) (c .loop-test .left)) in
+    omega (arith, l .inv .2, ap length t)
 
 pub sorted-length-spec : {M : Type 1} → statement M
 sorted-length-spec =

@@ -1,4 +1,4 @@
--- `.::spelled_length` meets its contract. Assumes nothing.
+-- `supplement::spelled_length` meets its contract. Assumes nothing.
 use mathlib.Core.Path.{sym, ap, _∙_}
 use lib.ListN.{length}
 use borrow.Author.Tests.{not-true, not-false}
@@ -18,7 +18,9 @@ words-length-requires : tie.Need-words-length-requires
 words-length-requires c κs = search needs
 
 returns-2 : tie.Need-returns-2
-returns-2 c = c .words-length .ensures ∙ sym (ap length (written-words (c .before .before .before .before .args .s .now) (sym (c .before .before .fits-field19 .ensures) ∙ not-false _ (c .before .if1 .left))))
+returns-2 c =
+    let f = sym (c .before .before .fits-field19 .ensures) ∙ not-false _ (c .before .if1 .left) in
+    c .words-length .ensures ∙ sym (ap length (written-words (c .before .before .before .before .args .s .now) f))
 
 pub spelled-length-spec : {M : Type 1} → statement M
 spelled-length-spec =

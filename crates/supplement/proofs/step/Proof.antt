@@ -1,13 +1,12 @@
--- `.::step` meets its contract. Assumes nothing.
-use mathlib.Core.Path.{sym, ap, ap₂, _∙_}
+-- `supplement::step` meets its contract. Assumes nothing.
 use Prim.Native.Nat.{_+_}
+use mathlib.Core.Path.{sym, ap, ap₂, _∙_}
+use native.Mathlib.Omega.{arith}
+use lib.Seq.{length-take-le}
 use Rattle.text.proofs.Index.{rest}
 use Rattle.supplement.specs.Field19.{place as placeOf}
 use Rattle.supplement.specs.Walk.{first as firstOf}
 use Rattle.supplement.proofs.Steps.{step-further, step-late, step-first}
-use mathlib.Core.Path.{sym, _∙_}
-use lib.Seq.{length-take-le}
-use native.Mathlib.Omega.{arith}
 use borrow.Author.Needs.{needs}
 use Rattle.supplement.proofs.step.Statement.{statement}
 use Rattle.supplement.proofs.step.Tie as tie
@@ -19,7 +18,10 @@ further-requires : tie.Need-further-requires
 further-requires c κs = search needs
 
 returns : tie.Need-returns
-returns c = c .further .ensures ∙ sym (step-further (c .before .before .before .before .args .stage) (c .before .before .before .before .args .w .now) (c .before .before .find .result) (c .before .before .find .ensures .0) (omega arith))
+returns c =
+    let a = c .before .before .before .before .args in
+    let o = c .before .before .find in
+    c .further .ensures ∙ sym (step-further (a .stage) (a .w .now) (o .result) (o .ensures .0) (omega arith))
 
 slice-aggregate-key-of : tie.Need-slice-aggregate-key-of
 slice-aggregate-key-of c = sym (length-take-le _ _ (omega arith))
@@ -34,7 +36,12 @@ past-requires : tie.Need-past-requires
 past-requires c κs = search needs
 
 returns-2 : tie.Need-returns-2
-returns-2 c = let w = c .before .before .before .before .before .before .before .before .args .w .now in sym (step-late (c .before .before .before .before .before .before .before .before .args .stage) w (c .before .before .before .before .before .before .find .result) (c .before .before .before .before .before .before .find .ensures .0) (omega arith) (omega (arith, c .if2 .taken, c .before .before .place .ensures, c .before .past .ensures, ap placeOf (c .before .before .before .key-of .ensures))))
+returns-2 c =
+    let a = c .before .before .before .before .before .before .before .before .args in
+    let o = c .before .before .before .before .before .before .find in
+    let k = ap placeOf (c .before .before .before .key-of .ensures) in
+    sym
+    (step-late (a .stage) (a .w .now) (o .result) (o .ensures .0) (omega arith) (omega (arith, c .if2 .taken, c .before .before .place .ensures, c .before .past .ensures, k)))
 
 add-first : tie.Need-add-first
 add-first c = search needs
@@ -53,10 +60,13 @@ first-requires c κs = search needs
 
 returns-3 : tie.Need-returns-3
 returns-3 c =
-    let w = c .before .before .before .before .before .before .before .before .before .before .args .w .now in
-    let o = c .before .before .before .before .before .before .before .before .find .result in
-    c .first .ensures ∙ ap₂ firstOf (c .before .before .before .before .before .key-of .ensures) (rest w (o + 1))
-    ∙ sym (step-first (c .before .before .before .before .before .before .before .before .before .before .args .stage) w o (c .before .before .before .before .before .before .before .before .find .ensures .0) (omega arith) (omega (arith, c .before .before .if2 .left, c .before .before .before .before .place .ensures, c .before .before .before .past .ensures, ap placeOf (c .before .before .before .before .before .key-of .ensures))))
+    let a = c .before .before .before .before .before .before .before .before .before .before .args in
+    let w = a .w .now in
+    let o = c .before .before .before .before .before .before .before .before .find in
+    let k = ap placeOf (c .before .before .before .before .before .key-of .ensures) in
+    c .first .ensures ∙ ap₂ firstOf (c .before .before .before .before .before .key-of .ensures) (rest w (o .result + 1))
+    ∙ sym
+    (step-first (a .stage) w (o .result) (o .ensures .0) (omega arith) (omega (arith, c .before .before .if2 .left, c .before .before .before .before .place .ensures, c .before .before .before .past .ensures, k)))
 
 pub step-spec : {M : Type 1} → statement M
 step-spec =

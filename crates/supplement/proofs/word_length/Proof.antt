@@ -1,13 +1,13 @@
--- `.::word_length` meets its contract. Assumes nothing.
-use mathlib.Core.Path.{_≡_, ap, _∙_}
+-- `supplement::word_length` meets its contract. Assumes nothing.
 use Prim.Native.Nat.{ℕ}
+use mathlib.Core.Path.{ap, _∙_}
 use mathlib.Core.List.{List}
+use native.Mathlib.Omega.{arith}
 use lib.ListN.{length, drop, length-drop}
 use Rattle.text.proofs.Index.{rest}
 use Rattle.supplement.specs.Walk.{changed}
 use Rattle.supplement.proofs.Steps.{changed-shorter, rewrite-length, rewrite-shorter}
 use borrow.Author.Needs.{needs}
-use native.Mathlib.Omega.{arith}
 use Rattle.supplement.proofs.word_length.Statement.{statement}
 use Rattle.supplement.proofs.word_length.Tie as tie
 
@@ -28,19 +28,20 @@ changed-length-requires c κs = search needs
 
 add-result : tie.Need-add-result
 add-result c =
-    let w = c .before .before .before .before .args .w .now in
+    let a = c .before .before .before .before .args in
+    let w = a .w .now in
     let o = c .before .before .lead .result in
-    let n : c .changed-length .result ≡ length (changed (c .before .before .before .before .args .stage) (drop o w)) = c .changed-length .ensures ∙ ap (λ (v : List ℕ). length (changed (c .before .before .before .before .args .stage) v)) (rest w o) in
-    omega (arith, n, changed-shorter (c .before .before .before .before .args .stage) (drop o w), length-drop o w, c .before .before .lead .ensures .1)
+    let n = c .changed-length .ensures ∙ ap (λ (v : List ℕ). length (changed (a .stage) v)) (rest w o) in
+    omega (arith, n, changed-shorter (a .stage) (drop o w), length-drop o w, c .before .before .lead .ensures .1)
 
 returns : tie.Need-returns
 returns c =
-    let w = c .before .before .before .before .args .w .now in
-    let o = c .before .before .lead .result in
-    let stage = c .before .before .before .before .args .stage in
-    let n : c .changed-length .result ≡ length (changed stage (drop o w)) = c .changed-length .ensures ∙ ap (λ (v : List ℕ). length (changed stage v)) (rest w o) in
-    let l = rewrite-length stage w o (c .before .before .lead .ensures .0) (c .before .before .lead .ensures .1) in
-    (omega (arith, n, l), omega (arith, n, l, rewrite-shorter stage w o (c .before .before .lead .ensures .0) (c .before .before .lead .ensures .1)))
+    let a = c .before .before .before .before .args in
+    let w = a .w .now in
+    let o = c .before .before .lead in
+    let n = c .changed-length .ensures ∙ ap (λ (v : List ℕ). length (changed (a .stage) v)) (rest w (o .result)) in
+    let l = rewrite-length (a .stage) w (o .result) (o .ensures .0) (o .ensures .1) in
+    (omega (arith, n, l), omega (arith, n, l, rewrite-shorter (a .stage) w (o .result) (o .ensures .0) (o .ensures .1)))
 
 pub word-length-spec : {M : Type 1} → statement M
 word-length-spec =

@@ -1,14 +1,13 @@
--- `.::words_length` meets its contract. Assumes nothing.
-use lib.ListN.{length, drop, length-append, length-drop}
-use lib.Seq.{length-take-le}
-use Rattle.supplement.proofs.Turns.{text-last, text-next}
+-- `supplement::words_length` meets its contract. Assumes nothing.
 use Prim.Native.Nat.{_+_, _-_, _≤_}
 use mathlib.Core.Path.{_≡_, ap}
-use lib.ListN.{length, drop}
+use native.Mathlib.Omega.{arith}
+use lib.ListN.{length, drop, length-append, length-drop}
+use lib.Seq.{length-take-le}
 use Rattle.text.specs.Words.{split, join}
 use Rattle.supplement.specs.Walk.{rewritten, rewrittenText}
+use Rattle.supplement.proofs.Turns.{text-last, text-next}
 use borrow.Author.Needs.{needs}
-use native.Mathlib.Omega.{arith}
 use Rattle.supplement.proofs.words_length.Statement.{statement}
 use Rattle.supplement.proofs.words_length.Tie as tie
 
@@ -45,9 +44,11 @@ add-n c = search needs
 
 returns : tie.Need-returns Inv-loop μ-loop
 returns c =
-    let s = c .before .before .before .before .before .before .before .args .s .now in
     let l = c .before .before .before .before .before .loop in
-    omega (arith, l .inv .2, c .before .word-length .ensures .0, ap length (text-last (l .stage) (c .before .before .step .result) s (l .at) (c .before .before .before .before .find .result) (c .before .before .before .before .find .ensures .0) (c .before .before .step .ensures) (omega arith)))
+    let r = c .before .before .step in
+    let e = c .before .before .before .before .find in
+    let t = text-last (l .stage) (r .result) (c .before .before .before .before .before .before .before .args .s .now) (l .at) (e .result) (e .ensures .0) (r .ensures) (omega arith) in
+    omega (arith, l .inv .2, c .before .word-length .ensures .0, simp length-append at (ap length t))
 
 add-n-2 : tie.Need-add-n-2 Inv-loop μ-loop
 add-n-2 c = search needs
@@ -62,11 +63,12 @@ loop-again : tie.Need-loop-again Inv-loop μ-loop
 loop-again c =
     let s = c .before .before .before .before .before .before .before .args .s .now in
     let l = c .before .before .before .before .before .loop in
-    let e = c .before .before .before .before .find .result in
-    let n = ap length (text-next (l .stage) (c .before .before .step .result) s (l .at) e (c .before .before .before .before .find .ensures .0) (c .before .before .step .ensures) (omega arith)) in
+    let r = c .before .before .step in
+    let e = c .before .before .before .before .find in
+    let t = text-next (l .stage) (r .result) s (l .at) (e .result) (e .ensures .0) (r .ensures) (omega arith) in
     let w = c .before .word-length .ensures in
-    let k = length-take-le (e - l .at) (drop (l .at) s) (rw length-drop (omega arith)) in
-    (omega arith, omega (arith, w .1, k, l .inv .1), omega (arith, l .inv .2, w .0, simp length-append at n))
+    let k = length-take-le (e .result - l .at) (drop (l .at) s) (rw length-drop (omega arith)) in
+    (omega arith, omega (arith, w .1, k, l .inv .1), omega (arith, l .inv .2, w .0, simp length-append at (ap length t)))
 
 pub words-length-spec : {M : Type 1} → statement M
 words-length-spec =

@@ -1,10 +1,7 @@
--- `.::write_field19` meets its contract. Assumes nothing.
-use mathlib.Core.Path.{_≡_, sym, subst, _∙_}
-use Prim.Native.Nat.{ℕ, _≤_}
-use mathlib.Core.List.{List}
-use lib.ListN.{length}
+-- `supplement::write_field19` meets its contract. Assumes nothing.
+use mathlib.Core.Path.{sym, _∙_}
 use borrow.Author.Tests.{not-true, not-false}
-use Rattle.text.specs.Lent.{front}
+use Rattle.supplement.proofs.Turns.{put-same, room-same}
 use Rattle.supplement.proofs.Written.{written-other}
 use Rattle.supplement.proofs.Rewritten.{written-words}
 use borrow.Author.Needs.{needs}
@@ -16,29 +13,33 @@ fits-field19-requires c κs = search needs
 
 put-requires : tie.Need-put-requires
 put-requires c κs =
-    let s = c .before .before .before .before .before .args .s .now in
-    subst (λ (v : List ℕ). length v ≤ length (c .before .before .before .before .before .args .out .now)) (written-other s (sym (c .before .before .fits-field19 .ensures) ∙ not-true _ (c .before .if1 .taken))) (c .before .before .before .before .before .pre)
+    let a = c .before .before .before .before .before in
+    let f = sym (c .before .before .fits-field19 .ensures) ∙ not-true _ (c .before .if1 .taken) in
+    room-same (a .args .out .now) (written-other (a .args .s .now) f) (a .pre)
 
 same-length : tie.Need-same-length
 same-length c = search needs
 
 returns : tie.Need-returns
 returns c =
-    let s = c .before .before .before .before .before .before .before .before .args .s .now in
-    subst (λ (v : List ℕ). (c .before .before .put .result ≡ length v) × (c .before .before .put .last .1 .0 ≡ front v (c .before .before .before .before .before .before .before .before .args .out .now))) (sym (written-other s (sym (c .before .before .before .before .before .fits-field19 .ensures) ∙ not-true _ (c .before .before .before .before .if1 .taken)))) (c .before .before .put .ensures)
+    let a = c .before .before .before .before .before .before .before .before .args in
+    let f = sym (c .before .before .before .before .before .fits-field19 .ensures) ∙ not-true _ (c .before .before .before .before .if1 .taken) in
+    put-same (a .out .now) (sym (written-other (a .s .now) f)) (c .before .before .put .ensures)
 
 put-words-requires : tie.Need-put-words-requires
 put-words-requires c κs =
-    let s = c .before .before .before .before .before .args .s .now in
-    subst (λ (v : List ℕ). length v ≤ length (c .before .before .before .before .before .args .out .now)) (written-words s (sym (c .before .before .fits-field19 .ensures) ∙ not-false _ (c .before .if1 .left))) (c .before .before .before .before .before .pre)
+    let a = c .before .before .before .before .before in
+    let f = sym (c .before .before .fits-field19 .ensures) ∙ not-false _ (c .before .if1 .left) in
+    room-same (a .args .out .now) (written-words (a .args .s .now) f) (a .pre)
 
 same-length-2 : tie.Need-same-length-2
 same-length-2 c = search needs
 
 returns-2 : tie.Need-returns-2
 returns-2 c =
-    let s = c .before .before .before .before .before .before .before .before .args .s .now in
-    subst (λ (v : List ℕ). (c .before .before .put-words .result ≡ length v) × (c .before .before .put-words .last .1 .0 ≡ front v (c .before .before .before .before .before .before .before .before .args .out .now))) (sym (written-words s (sym (c .before .before .before .before .before .fits-field19 .ensures) ∙ not-false _ (c .before .before .before .before .if1 .left)))) (c .before .before .put-words .ensures)
+    let a = c .before .before .before .before .before .before .before .before .args in
+    let f = sym (c .before .before .before .before .before .fits-field19 .ensures) ∙ not-false _ (c .before .before .before .before .if1 .left) in
+    put-same (a .out .now) (sym (written-words (a .s .now) f)) (c .before .before .put-words .ensures)
 
 pub write-field19-spec : {M : Type 1} → statement M
 write-field19-spec =

@@ -1,11 +1,11 @@
--- `.::zeros` meets its contract. Assumes nothing.
+-- `supplement::zeros` meets its contract. Assumes nothing.
 use Prim.Native.Nat.{_-_, _≤_}
 use mathlib.Core.Path.{_≡_, refl, sym, _∙_}
+use native.Mathlib.Omega.{arith}
 use lib.ListN.{length, drop}
 use Rattle.supplement.specs.Field19.{stripped}
 use Rattle.supplement.proofs.Steps.{stripped-last, stripped-stop, stripped-next, stripped-end}
 use borrow.Author.Needs.{needs}
-use native.Mathlib.Omega.{arith}
 use Rattle.supplement.proofs.zeros.Statement.{statement}
 use Rattle.supplement.proofs.zeros.Tie as tie
 
@@ -22,13 +22,17 @@ add-if1 : tie.Need-add-if1 Inv-loop μ-loop
 add-if1 c = search needs
 
 returns : tie.Need-returns Inv-loop μ-loop
-returns c = let w = c .before .before .before .args .w .now in (search needs, sym (c .before .before .loop .inv .1 ∙ stripped-last w (c .before .before .loop .i) (c .if1 .taken)))
+returns c =
+    let l = c .before .before .loop in
+    (search needs, sym (l .inv .1 ∙ stripped-last (c .before .before .before .args .w .now) (l .i) (c .if1 .taken)))
 
 shared-slice-read-if2 : tie.Need-shared-slice-read-if2 Inv-loop μ-loop
 shared-slice-read-if2 c = search needs
 
 returns-2 : tie.Need-returns-2 Inv-loop μ-loop
-returns-2 c = let w = c .before .before .before .before .before .args .w .now in (search needs, sym (c .before .before .before .before .loop .inv .1 ∙ stripped-stop w (c .before .before .before .before .loop .i) (omega arith) (c .if2 .taken)))
+returns-2 c =
+    let l = c .before .before .before .before .loop in
+    (search needs, sym (l .inv .1 ∙ stripped-stop (c .before .before .before .before .before .args .w .now) (l .i) (omega arith) (c .if2 .taken)))
 
 add-i : tie.Need-add-i Inv-loop μ-loop
 add-i c = search needs
@@ -37,10 +41,14 @@ loop-less : tie.Need-loop-less Inv-loop μ-loop
 loop-less c = search needs
 
 loop-again : tie.Need-loop-again Inv-loop μ-loop
-loop-again c = let w = c .before .before .before .before .before .args .w .now in (search needs, c .before .before .before .before .loop .inv .1 ∙ stripped-next w (c .before .before .before .before .loop .i) (omega arith) (c .if2 .left))
+loop-again c =
+    let l = c .before .before .before .before .loop in
+    (search needs, l .inv .1 ∙ stripped-next (c .before .before .before .before .before .args .w .now) (l .i) (omega arith) (c .if2 .left))
 
 returns-3 : tie.Need-returns-3 Inv-loop μ-loop
-returns-3 c = let w = c .before .before .args .w .now in (search needs, sym (c .before .loop .inv .1 ∙ stripped-end w (c .before .loop .i) (c .loop-test .left)))
+returns-3 c =
+    let l = c .before .loop in
+    (search needs, sym (l .inv .1 ∙ stripped-end (c .before .before .args .w .now) (l .i) (c .loop-test .left)))
 
 pub zeros-spec : {M : Type 1} → statement M
 zeros-spec =

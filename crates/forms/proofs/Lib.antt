@@ -1,0 +1,5 @@
+pub mod Labels
+pub mod Field22
+pub mod Faults
+pub mod Index
+pub mod Forms

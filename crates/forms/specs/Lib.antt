@@ -1,0 +1,2 @@
+pub mod Field22
+pub mod Forms

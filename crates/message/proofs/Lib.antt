@@ -1,0 +1,13 @@
+pub mod Faults
+pub mod Written
+pub mod Reached
+pub mod Walk
+pub mod Writing
+pub mod Nth
+pub mod Steps
+pub mod Valid
+pub mod Accepted
+pub mod Canonical
+pub mod Answers
+pub mod Examples
+pub mod Readers

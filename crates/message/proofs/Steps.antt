@@ -1,0 +1,188 @@
+-- The answers, as the code comes to them: of each number its answer, and what the output then holds. Assumes nothing.
+use Prim.Native.Nat.{ℕ, suc, _-_, _<_, _≤_}
+use mathlib.Core.Path.{_≡_, refl, sym, ap, ap₂, _∙_}
+use mathlib.Core.Bool.{Bool, true, false, cond, false≢true}
+use mathlib.Core.List.{List, [], _∷_}
+use native.Mathlib.Omega.{arith}
+use lib.Dec.{eqb}
+use lib.ListN.{length, take, drop, length-take, length-drop}
+use lib.Seq.{drop-append-le, take-append-le}
+use borrow.Author.Tests.{lt-ltb, le-ltb, ne-eqb}
+use Rattle.text.specs.Words.{split}
+use Rattle.text.specs.Lent.{front}
+use Rattle.space.specs.Reduced.{reduced}
+use Rattle.space.specs.Hyphens.{hyphens, oneMore, placeOfHyphen}
+use Rattle.space.proofs.Reduced.{never-longer}
+use Rattle.space.proofs.Frame.{frame-stays}
+use Rattle.sent.specs.Sent.{contents}
+use Rattle.sent.proofs.Passed.{passed-count}
+use Rattle.outer.specs.declared.Outer.{Outer}
+use Rattle.outer.specs.declared.Outer.the-variants.{Good}
+use Rattle.outer.specs.Outer.{outer, Passed}
+use Rattle.outer.proofs.Good.{good-passed}
+use Rattle.kinds.specs.declared.MessageType.{MessageType}
+use Rattle.kinds.specs.declared.MessageType.the-variants.{Fpl, Chg, Cnl, Dla, Dep, Arr, Rqp, Rqs, Spl}
+use Rattle.kinds.specs.declared.Named.{Named}
+use Rattle.kinds.specs.Kinds.{leastOf, greatestOf, planForms, formsOf, formAt, numberOf, typeNamed}
+use Rattle.kinds.proofs.Fields.{forms-length}
+use Rattle.message.specs.declared.Fault.{Fault}
+use Rattle.message.specs.declared.Fault.the-variants.{Clear, At}
+use Rattle.message.specs.declared.Answer.{Answer}
+use Rattle.message.specs.declared.Answer.the-variants.{Accepted, Refused}
+use Rattle.message.specs.Reading.{textOf, countOf, spelledFrom, spellingOf, faultIn, isPlan, unexplainedIn, placeInPlan, roomAs, faultAs, fieldsAs, countAs, Counted, typeAs, three, outerAs, answerOf, writtenAs, outAfter}
+
+-- WHAT IS ANSWERED, AND WHAT IS WRITTEN
+
+-- the answer due, and the output that goes with it
+abbrev pub Due : Answer → List ℕ → List ℕ → Answer → List ℕ → Type 0
+Due due m out answer after = (answer ≡ due) × (after ≡ writtenAs due m out)
+
+-- an answer that is the one due
+pub told : (due answer : Answer) (m out after : List ℕ) → due ≡ answer → after ≡ writtenAs answer m out → Due due m out answer after
+told due answer m out after e w = (sym e, w ∙ ap (λ (a : Answer). writtenAs a m out) (sym e))
+
+-- a callee's answer, where what is due is due there
+pub passed-on : (due there answer : Answer) (m out after : List ℕ) → due ≡ there → Due there m out answer after → Due due m out answer after
+passed-on due there answer m out after e d = (d .0 ∙ sym e, d .1 ∙ ap (λ (a : Answer). writtenAs a m out) (sym e))
+
+nine-forms : (n : ℕ) → length (formsOf Fpl n) ≡ 9
+unfolding formsOf planForms
+nine-forms n = refl
+
+-- NUMBERS 10 AND 11
+
+module _ (t : MessageType) (m : List ℕ) (count : ℕ) (s : List ℕ) (k : Counted t m count s) where
+  pub spelling-is : spelledFrom 40 (formsOf t count) (split 45 s) ≡ spellingOf t m
+  unfolding spellingOf
+  spelling-is = rw (k .count-is, k .text-is)
+
+  pub room-short : (room due : ℕ) → due ≡ length (spelledFrom 40 (formsOf t count) (split 45 s)) → room < due → roomAs t m room ≡ Refused 11 0 0
+  room-short room due e h = rw (lt-ltb room (length (spellingOf t m)) (omega (arith, e ∙ ap length spelling-is)))
+
+  pub room-enough : (room n : ℕ) → n ≡ length (spelledFrom 40 (formsOf t count) (split 45 s)) → n ≤ room → roomAs t m room ≡ Accepted t n
+  room-enough room n e h =
+      let z : n ≡ length (spellingOf t m) = e ∙ ap length spelling-is in
+      rw (le-ltb room (length (spellingOf t m)) (omega arith)) (ap (Accepted t) (sym z))
+
+  pub contents-are : split 45 s ≡ contents m
+  contents-are = ap (split 45) (k .text-is)
+
+  pub plan-nine : isPlan t ≡ true → length (split 45 s) ≡ 9
+  plan-nine p = sym (k .even) ∙ nine t p
+    where
+      nine : (u : MessageType) → isPlan u ≡ true → length (formsOf u count) ≡ 9
+      nine Fpl q = nine-forms count
+      nine Chg q = absurd (false≢true q)
+      nine Cnl q = absurd (false≢true q)
+      nine Dla q = absurd (false≢true q)
+      nine Dep q = absurd (false≢true q)
+      nine Arr q = absurd (false≢true q)
+      nine Rqp q = absurd (false≢true q)
+      nine Rqs q = absurd (false≢true q)
+      nine Spl q = absurd (false≢true q)
+
+  pub left-unexplained : (room field : ℕ) → isPlan t ≡ true → field ≡ unexplainedIn (split 45 s) → (field ≡ 0 → ⊥)
+      → faultAs Clear t m room ≡ Refused 10 field (placeOfHyphen (placeInPlan field) m)
+  left-unexplained room field p e ne =
+      let z : unexplainedIn (contents m) ≡ field = ap unexplainedIn (sym contents-are) ∙ sym e in
+      rw (p, z, ne-eqb field 0 ne)
+
+  pub none-unexplained : (room field : ℕ) → isPlan t ≡ true → field ≡ unexplainedIn (split 45 s) → field ≡ 0 → faultAs Clear t m room ≡ roomAs t m room
+  none-unexplained room field p e z =
+      let y : unexplainedIn (contents m) ≡ 0 = ap unexplainedIn (sym contents-are) ∙ sym e ∙ z in
+      rw (p, y)
+
+  pub no-plan : (room : ℕ) → isPlan t ≡ false → faultAs Clear t m room ≡ roomAs t m room
+  no-plan room p = rw p
+
+  -- NUMBERS 7, 8 AND 9
+
+  fault-is : faultIn t count (split 45 s) ≡ faultIn t (countOf m) (contents m)
+  fault-is = ap₂ (faultIn t) (k .count-is) contents-are
+
+  pub field-fault : (room number j : ℕ) → faultIn t count (split 45 s) ≡ At number j → fieldsAs t m room ≡ Refused number (numberOf (formAt t count j)) (placeOfHyphen j m)
+  field-fault room number j e =
+      ap (λ (f : Fault). faultAs f t m room) (sym fault-is ∙ e)
+      ∙ ap₂ (λ (n p : ℕ). Refused number (numberOf (formAt t n j)) p) (sym (k .count-is)) (either (eqb number 7))
+    where
+      either : (b : Bool) → cond b (placeOfHyphen j m) (placeOfHyphen j m) ≡ placeOfHyphen j m
+      either true = refl
+      either false = refl
+
+  pub fields-clear : (room : ℕ) → faultIn t count (split 45 s) ≡ Clear → fieldsAs t m room ≡ faultAs Clear t m room
+  fields-clear room e = ap (λ (f : Fault). faultAs f t m room) (sym fault-is ∙ e)
+
+-- THE SCRATCH: what stands between the parentheses of a message that has been reduced into it
+
+module _ (m buf : List ℕ) (n : ℕ) (g : outer m ≡ Good) (long : n ≡ length (reduced m)) where
+  passed : Passed m
+  passed = good-passed m g
+
+  pub reduced-two : 2 ≤ n
+  reduced-two = omega (arith, frame-stays m (passed .framed) .long)
+
+  pub reduced-short : n ≤ 1800
+  reduced-short = omega (arith, never-longer m, passed .short)
+
+  pub text-in : take (n - 1 - 1) (drop 1 (front (reduced m) buf)) ≡ textOf m
+  unfolding front
+  text-in =
+      let h : 1 ≤ length (reduced m) = omega (arith, reduced-two) in
+      let l : n - 1 - 1 ≤ length (drop 1 (reduced m)) = omega (arith, length-drop 1 (reduced m)) in
+      let z : n - 1 - 1 ≡ length (reduced m) - 2 = omega arith in
+      rw (drop-append-le 1 (reduced m) (drop (length (reduced m)) buf) h, take-append-le (n - 1 - 1) (drop 1 (reduced m)) (drop (length (reduced m)) buf) l, z)
+
+  -- so the fields can be read there
+  pub counted : (t : MessageType) (count : ℕ) → count ≡ countOf m → leastOf t ≤ count → count ≤ greatestOf t → (s : List ℕ) → s ≡ textOf m → Counted t m count s
+  counted t count c l u s e =
+      let w : length s ≤ length (reduced m) = omega (arith, ap length e, length-take (length (reduced m) - 2) (drop 1 (reduced m)), length-drop 1 (reduced m)) in
+      record {
+        count-is = c;
+        text-is = e;
+        short = omega (arith, reduced-short);
+        even = forms-length t count l u ∙ c ∙ sym (passed-count m passed) ∙ ap (λ (x : List ℕ). length (split 45 x)) (sym e);
+      }
+
+-- NUMBER 6
+
+hyphens-short : (m : List ℕ) → hyphens m ≤ length m
+unfolding hyphens
+hyphens-short [] = omega arith
+hyphens-short (b ∷ m) = go (hyphens-short m) (eqb b 45)
+  where
+    go : hyphens m ≤ length m → (t : Bool) → oneMore t (hyphens m) ≤ suc (length m)
+    go ih true = omega arith
+    go ih false = omega arith
+
+-- a message that numbers 1 to 3 let pass has some bytes, and few hyphens
+pub some-bytes : (m : List ℕ) → outer m ≡ Good → (1 ≤ length m) × (hyphens m ≤ 1800)
+some-bytes m g =
+    let p = good-passed m g in
+    (omega (arith, p .framed .long), omega (arith, p .short, hyphens-short m))
+
+module _ (t : MessageType) (m : List ℕ) (room count : ℕ) (c : count ≡ countOf m) where
+  pub too-few : count < leastOf t → countAs t m room ≡ Refused 6 0 (length m - 1)
+  unfolding countAs
+  too-few h = rw (lt-ltb (countOf m) (leastOf t) (omega arith))
+
+  pub too-many : leastOf t ≤ count → greatestOf t < count → countAs t m room ≡ Refused 6 0 (placeOfHyphen (greatestOf t) m)
+  unfolding countAs
+  too-many l h = rw (le-ltb (countOf m) (leastOf t) (omega arith), lt-ltb (greatestOf t) (countOf m) (omega arith))
+
+  pub enough : leastOf t ≤ count → count ≤ greatestOf t → countAs t m room ≡ fieldsAs t m room
+  unfolding countAs
+  enough l h = rw (le-ltb (countOf m) (leastOf t) (omega arith), le-ltb (greatestOf t) (countOf m) (omega arith))
+
+-- NUMBERS 1 TO 5
+
+pub type-as : (m : List ℕ) (room : ℕ) (k : Named) → typeNamed (three m) ≡ k → outerAs Good m room ≡ typeAs k m room
+type-as m room k e = ap (λ (x : Named). typeAs x m room) e
+
+pub outer-as : (m : List ℕ) (room : ℕ) (o : Outer) → outer m ≡ o → answerOf m room ≡ outerAs o m room
+unfolding answerOf
+outer-as m room o e = ap (λ (x : Outer). outerAs x m room) e
+
+-- the whole: what is due is the answer, and the output after it
+pub whole-answer : (m out : List ℕ) (answer : Answer) (after : List ℕ) → Due (answerOf m (length out)) m out answer after → (answer ≡ answerOf m (length out)) × (after ≡ outAfter m out)
+unfolding outAfter
+whole-answer m out answer after d = d

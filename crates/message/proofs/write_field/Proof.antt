@@ -1,0 +1,56 @@
+-- `message::write_field` meets its contract. Assumes nothing.
+use mathlib.Core.Path.{ap, _∙_}
+use lib.ListN.{length, set, length-set, length-drop}
+use Rattle.text.proofs.Index.{rest}
+use Rattle.text.proofs.Lent.{lent}
+use Rattle.forms.specs.Forms.{writtenOf}
+use Rattle.message.proofs.Walk.{lead-write}
+use native.Mathlib.Omega.{arith}
+use borrow.Author.Needs.{needs}
+use Rattle.message.proofs.write_field.Statement.{statement}
+use Rattle.message.proofs.write_field.Tie as tie
+
+slice-write-out : tie.Need-slice-write-out
+slice-write-out c = search needs
+
+sub-write-form : tie.Need-sub-write-form
+sub-write-form c = simp length-set (omega arith)
+
+part-write-form-start : tie.Need-part-write-form-start
+part-write-form-start c = simp length-set (omega arith)
+
+part-write-form-end : tie.Need-part-write-form-end
+part-write-form-end c = search needs
+
+write-form-requires : tie.Need-write-form-requires
+write-form-requires c κs =
+    let d = c .before .before .before in
+    let out = set (d .args .out .now) 0 (d .args .lead) in
+    omega (arith, ap length (rest out 1), length-drop 1 out, length-set (d .args .out .now) 0 (d .args .lead), d .pre)
+
+add-result : tie.Need-add-result
+add-result c = search needs
+
+same-length : tie.Need-same-length
+same-length c = c .before .out .given .1 ∙ simp length-set
+
+returns : tie.Need-returns
+returns c =
+    let d = c .before .before .before .before .before .before in
+    let a = d .args in
+    let p = c .before .before .write-form in
+    let w = writtenOf (a .form) (a .part .now) in
+    (omega (arith, p .ensures .0), lent (set (a .out .now) 0 (a .lead)) w 1 _ (p .ensures .1) ∙ lead-write (a .out .now) w (a .lead) (omega (arith, d .pre)))
+
+pub write-field-spec : {M : Type 1} → statement M
+write-field-spec =
+    tie.close
+    (tie.spec
+    slice-write-out
+    sub-write-form
+    part-write-form-start
+    part-write-form-end
+    write-form-requires
+    add-result
+    same-length
+    returns)

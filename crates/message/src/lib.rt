@@ -1,0 +1,316 @@
+// Reading a message: its answer, and its spelling written to the room that is lent.
+ghost use mathlib.Core.Path.{_≡_};
+ghost use mathlib.Core.List.{_∷_};
+ghost use Prim.Native.Nat.{_≤_};
+ghost use lib.ListN.{length, drop};
+ghost use Rattle.text.specs.Words.{split};
+ghost use Rattle.text.specs.Lent.{front};
+ghost use Rattle.space.specs.Hyphens.{behindHyphen};
+ghost use Rattle.outer.specs.declared.Outer as Outer;
+ghost use Rattle.outer.specs.Outer.{outer};
+ghost use Rattle.kinds.specs.Kinds.{formsOf, leastOf, greatestOf};
+ghost use Rattle.forms.specs.Forms.{writtenOf};
+ghost use Rattle.message.specs.Reading.{
+  faultIn,
+  unexplainedIn,
+  leadOf,
+  spelledFrom,
+  isPlan,
+  placeInPlan,
+  Counted,
+  countOf,
+  three,
+  roomAs,
+  faultAs,
+  fieldsAs,
+  countAs,
+  outerAs,
+  answerOf,
+  writtenAs,
+  outAfter,
+};
+use kinds::Form;
+use kinds::MessageType;
+use kinds::Named;
+use outer::Outer;
+use text::Cursor;
+
+// What is wrong with a message's fields: a number and the place of the field, counted from 0.
+pub enum Fault {
+    Clear,
+    At { number: u8, field: usize },
+}
+
+pub enum Answer {
+    Accepted(MessageType, usize),
+    Refused { number: u8, field: u8, place: usize },
+}
+
+// The byte before a field: `(` before the first, `-` before the others.
+fn lead_of(j: usize) -> u8
+    ensures { λ r. ⌜ r ≡ leadOf j ⌝ }
+{
+    if j == 0 { b'(' } else { b'-' }
+}
+
+// The leftmost field of a text that has a number 7, 8 or 9. An entry names a field by its rank; `seen` marks the ranks named before.
+fn fields_fault(t: MessageType, count: usize, s: &[u8]) -> Fault
+    requires { ⌜ length (formsOf t count) ≡ length (split 45 (now s)) ⌝ }
+    ensures { λ r. ⌜ r ≡ faultIn t count (split 45 (now (s .entry))) ⌝ }
+{
+    let mut seen = [false; 9];
+    let mut at = 0;
+    let mut j = 0;
+    loop {
+        let e = text::find(s, at, b'-');
+        let form = t.form_at(count, j);
+        let rank = forms::rank_in(form, &s[at..e]);
+        let number = forms::fault_of(seen[rank], form, &s[at..e]);
+        if number != 0 {
+            return Fault::At { number, field: j };
+        }
+        if e == s.len() {
+            return Fault::Clear;
+        }
+        seen[rank] = true;
+        at = e + 1;
+        j += 1;
+    }
+}
+
+// How many bytes the spelling of a text's fields takes, with the parentheses.
+fn spelled_length(t: MessageType, count: usize, s: &[u8]) -> usize
+    requires { ⌜ (length (now s) ≤ 1800) × (length (formsOf t count) ≡ length (split 45 (now s))) ⌝ }
+    ensures { λ r. ⌜ r ≡ length (spelledFrom 40 (formsOf t count) (split 45 (now (s .entry)))) ⌝ }
+{
+    let mut n = 0;
+    let mut at = 0;
+    let mut j = 0;
+    loop {
+        let e = text::find(s, at, b'-');
+        n += 1 + forms::spelled_length(t.form_at(count, j), &s[at..e]);
+        if e == s.len() {
+            return n + 1;
+        }
+        at = e + 1;
+        j += 1;
+    }
+}
+
+// Writes a field behind the byte that leads to it, at the front of `out`.
+fn write_field(lead: u8, form: Form, part: &[u8], out: &mut [u8]) -> usize
+    requires { ⌜ length (lead ∷ writtenOf form (now part)) ≤ length (now out) ⌝ }
+    ensures { λ r. ⌜ (r ≡ length (lead ∷ writtenOf form (now (part .entry)))) × (now (out .exit) ≡ front (lead ∷ writtenOf form (now (part .entry))) (now (out .entry))) ⌝ }
+{
+    out[0] = lead;
+    let n = forms::write_form(form, part, &mut out[1..]);
+    n + 1
+}
+
+// Writes the spelling of a text's fields at the front of `out`: each field goes behind the last one, in the rest that is lent to it.
+fn write_fields(t: MessageType, count: usize, s: &[u8], out: &mut [u8]) -> usize
+    requires { ⌜ (length (spelledFrom 40 (formsOf t count) (split 45 (now s))) ≤ length (now out)) × (length (formsOf t count) ≡ length (split 45 (now s))) ⌝ }
+    ensures { λ r. ⌜ (r ≡ length (spelledFrom 40 (formsOf t count) (split 45 (now (s .entry))))) × (now (out .exit) ≡ front (spelledFrom 40 (formsOf t count) (split 45 (now (s .entry)))) (now (out .entry))) ⌝ }
+{
+    let mut o = 0;
+    let mut at = 0;
+    let mut j = 0;
+    loop {
+        let e = text::find(s, at, b'-');
+        o += write_field(lead_of(j), t.form_at(count, j), &s[at..e], &mut out[o..]);
+        if e == s.len() {
+            out[o] = b')';
+            return o + 1;
+        }
+        at = e + 1;
+        j += 1;
+    }
+}
+
+// The cursor at field j of a text.
+fn seek(s: &[u8], j: usize) -> Cursor
+    ensures { λ r. ⌜ (r .at ≤ length (now (s .entry))) × (drop (r .at) (now (s .entry)) ≡ behindHyphen j (now (s .entry))) ⌝ }
+{
+    let mut c = Cursor { at: 0 };
+    let mut left = j;
+    while left > 0 {
+        c = c.next(s, b'-');
+        left -= 1;
+    }
+    c
+}
+
+// The field of an FPL that is left unexplained, by its number; 0 for none. Fields 9, 13, 16 and 18 are the fourth, sixth, eighth and ninth.
+fn unexplained_in(s: &[u8]) -> u8
+    requires { ⌜ length (split 45 (now s)) ≡ 9 ⌝ }
+    ensures { λ r. ⌜ r ≡ unexplainedIn (split 45 (now (s .entry))) ⌝ }
+{
+    let nine = seek(s, 3);
+    let thirteen = seek(s, 5);
+    let sixteen = seek(s, 7);
+    let eighteen = seek(s, 8);
+    plan::unexplained_field(
+        nine.part(s, b'-'),
+        thirteen.part(s, b'-'),
+        sixteen.part(s, b'-'),
+        eighteen.part(s, b'-'),
+    )
+}
+
+fn is_plan(t: MessageType) -> bool
+    ensures { λ r. ⌜ r ≡ isPlan t ⌝ }
+{
+    match t {
+        MessageType::Fpl => true,
+        MessageType::Chg => false,
+        MessageType::Cnl => false,
+        MessageType::Dla => false,
+        MessageType::Dep => false,
+        MessageType::Arr => false,
+        MessageType::Rqp => false,
+        MessageType::Rqs => false,
+        MessageType::Spl => false,
+    }
+}
+
+// Where an FPL has field 9, 13 or 16.
+fn place_in_plan(field: u8) -> usize
+    ensures { λ r. ⌜ r ≡ placeInPlan field ⌝ }
+{
+    if field == 9 {
+        return 3;
+    }
+    if field == 13 { 5 } else { 7 }
+}
+
+// Number 11, and the acceptance: everything is checked before the first byte is written.
+fn read_room(t: MessageType, count: usize, msg: &[u8], s: &[u8], out: &mut [u8]) -> Answer
+    requires { ⌜ Counted t (now msg) count (now s) ⌝ }
+    ensures { λ a. ⌜ (a ≡ roomAs t (now (msg .entry)) (length (now (out .entry)))) × (now (out .exit) ≡ writtenAs (roomAs t (now (msg .entry)) (length (now (out .entry)))) (now (msg .entry)) (now (out .entry))) ⌝ }
+{
+    let due = spelled_length(t, count, s);
+    if out.len() < due {
+        return Answer::Refused {
+            number: 11,
+            field: 0,
+            place: 0,
+        };
+    }
+    let n = write_fields(t, count, s, out);
+    Answer::Accepted(t, n)
+}
+
+// Numbers 10 and 11.
+fn read_explained(t: MessageType, count: usize, msg: &[u8], s: &[u8], out: &mut [u8]) -> Answer
+    requires { ⌜ Counted t (now msg) count (now s) ⌝ }
+    ensures { λ a. ⌜ (a ≡ faultAs Fault.Clear t (now (msg .entry)) (length (now (out .entry)))) × (now (out .exit) ≡ writtenAs (faultAs Fault.Clear t (now (msg .entry)) (length (now (out .entry)))) (now (msg .entry)) (now (out .entry))) ⌝ }
+{
+    if is_plan(t) {
+        let field = unexplained_in(s);
+        if field != 0 {
+            return Answer::Refused {
+                number: 10,
+                field,
+                place: space::place_of_hyphen(msg, place_in_plan(field)),
+            };
+        }
+        return read_room(t, count, msg, s, out);
+    }
+    read_room(t, count, msg, s, out)
+}
+
+// Numbers 7 to 11, for the text of a message whose fields are as many as its type allows.
+fn read_text(t: MessageType, count: usize, msg: &[u8], s: &[u8], out: &mut [u8]) -> Answer
+    requires { ⌜ Counted t (now msg) count (now s) ⌝ }
+    ensures { λ a. ⌜ (a ≡ fieldsAs t (now (msg .entry)) (length (now (out .entry)))) × (now (out .exit) ≡ writtenAs (fieldsAs t (now (msg .entry)) (length (now (out .entry)))) (now (msg .entry)) (now (out .entry))) ⌝ }
+{
+    match fields_fault(t, count, s) {
+        Fault::At { number, field } => Answer::Refused {
+            number,
+            field: t.form_at(count, field).number(),
+            place: space::place_of_hyphen(msg, field),
+        },
+        Fault::Clear => read_explained(t, count, msg, s, out),
+    }
+}
+
+// Numbers 7 to 11: white space is reduced into a scratch, and the text between the parentheses is read there.
+fn read_reduced(t: MessageType, count: usize, msg: &[u8], out: &mut [u8]) -> Answer
+    requires { ⌜ (outer (now msg) ≡ Outer.Good) × (count ≡ countOf (now msg)) × (leastOf t ≤ count) × (count ≤ greatestOf t) ⌝ }
+    ensures { λ a. ⌜ (a ≡ fieldsAs t (now (msg .entry)) (length (now (out .entry)))) × (now (out .exit) ≡ writtenAs (fieldsAs t (now (msg .entry)) (length (now (out .entry)))) (now (msg .entry)) (now (out .entry))) ⌝ }
+{
+    let mut scratch = [0u8; 1800];
+    let n = space::reduce(msg, &mut scratch);
+    let e = n - 1;
+    read_text(t, count, msg, &scratch[1..e], out)
+}
+
+// Numbers 6 to 11, for a message of a type.
+fn read_count(t: MessageType, msg: &[u8], out: &mut [u8]) -> Answer
+    requires { ⌜ outer (now msg) ≡ Outer.Good ⌝ }
+    ensures { λ a. ⌜ (a ≡ countAs t (now (msg .entry)) (length (now (out .entry)))) × (now (out .exit) ≡ writtenAs (countAs t (now (msg .entry)) (length (now (out .entry)))) (now (msg .entry)) (now (out .entry))) ⌝ }
+{
+    let count = space::count_hyphens(msg) + 1;
+    if count < t.least() {
+        return Answer::Refused {
+            number: 6,
+            field: 0,
+            place: msg.len() - 1,
+        };
+    }
+    let greatest = t.greatest();
+    if greatest < count {
+        return Answer::Refused {
+            number: 6,
+            field: 0,
+            place: space::place_of_hyphen(msg, greatest),
+        };
+    }
+    read_reduced(t, count, msg, out)
+}
+
+// The three bytes after `(`, or fewer.
+fn three_of<'a>(msg: &'a [u8]) -> &'a [u8]
+    requires { ⌜ 1 ≤ length (now msg) ⌝ }
+    ensures { λ r. ⌜ now r ≡ three (now (msg .entry)) ⌝ }
+{
+    if msg.len() < 4 {
+        return &msg[1..];
+    }
+    &msg[1..4]
+}
+
+// Numbers 4 to 11, for a message that numbers 1 to 3 let pass.
+fn read_type(msg: &[u8], out: &mut [u8]) -> Answer
+    requires { ⌜ outer (now msg) ≡ Outer.Good ⌝ }
+    ensures { λ a. ⌜ (a ≡ outerAs Outer.Good (now (msg .entry)) (length (now (out .entry)))) × (now (out .exit) ≡ writtenAs (outerAs Outer.Good (now (msg .entry)) (length (now (out .entry)))) (now (msg .entry)) (now (out .entry))) ⌝ }
+{
+    match kinds::type_named(three_of(msg)) {
+        Named::Read(t) => read_count(t, msg, out),
+        Named::NotRead => Answer::Refused {
+            number: 5,
+            field: 3,
+            place: 0,
+        },
+        Named::NoType => Answer::Refused {
+            number: 4,
+            field: 3,
+            place: 0,
+        },
+    }
+}
+
+// Reads a message. Accepted: its type and the length of its spelling, which is then at the front of `out`, and the bytes behind it stay.
+// Refused: the number, the field and the place in the message as sent, and every byte of `out` stays.
+pub fn read(msg: &[u8], out: &mut [u8]) -> Answer
+    ensures { λ a. ⌜ (a ≡ answerOf (now (msg .entry)) (length (now (out .entry)))) × (now (out .exit) ≡ outAfter (now (msg .entry)) (now (out .entry))) ⌝ }
+{
+    match outer::check_outer(msg) {
+        Outer::Bad { number, place } => Answer::Refused {
+            number,
+            field: 0,
+            place,
+        },
+        Outer::Good => read_type(msg, out),
+    }
+}
