@@ -1,0 +1,25 @@
+//! An independent second reader of nine ATS messages, written from document 01 alone.
+//!
+//! It reads the message as sent, word by word, and spells each word as it goes: there is no
+//! buffer of reduced white space and no cutting into fields beforehand.
+
+mod alphabet;
+mod explained;
+mod forms;
+pub mod generate;
+mod kind;
+mod message;
+mod other;
+mod pieces;
+pub mod programs;
+mod refusal;
+mod route;
+mod strip;
+mod supplement;
+mod words;
+
+pub use forms::{field_fits, spelling19, Form};
+pub use kind::Kind;
+pub use message::{read, Accepted, LONGEST};
+pub use refusal::Refusal;
+pub use strip::{in_force, update, State, Updated};

@@ -1,0 +1,94 @@
+//! Field 18.
+
+use crate::alphabet::*;
+use crate::forms::codes;
+use crate::words::Words;
+
+/// The keys in their order.
+pub const KEYS: [&[u8]; 23] = [
+    b"STS", b"PBN", b"NAV", b"COM", b"DAT", b"SUR", b"DEP", b"DEST", b"DOF", b"REG", b"EET", b"SEL", b"TYP", b"CODE",
+    b"DLE", b"OPR", b"ORGN", b"PER", b"ALTN", b"RALT", b"TALT", b"RIF", b"RMK",
+];
+
+/// The words that STS may have.
+pub const STATUSES: [&[u8]; 13] = [
+    b"ALTRV", b"ATFMX", b"FFR", b"FLTCK", b"HAZMAT", b"HEAD", b"HOSP", b"HUM", b"MARSA", b"MEDEVAC", b"NONRVSM",
+    b"SAR", b"STATE",
+];
+
+/// `0` alone, or items.
+pub fn other_information(words: &mut Words) -> bool {
+    let Some(first) = words.word() else { return false };
+    first == b"0" || items(first, words)
+}
+
+/// A word with an oblique ends the item before it and begins the next; any other goes on with it.
+fn items(first: &[u8], words: &mut Words) -> bool {
+    let mut rank = None;
+    let mut next = Some(first);
+    while let Some(word) = next {
+        let fits = match at_oblique(word) {
+            Some((key, value)) => begins(&mut rank, key) && fits_key(key, value),
+            None => rank.is_some_and(|rank: usize| !is_one_word(KEYS[rank]) && fits_key(KEYS[rank], word)),
+        };
+        if !fits {
+            return false;
+        }
+        next = words.word();
+    }
+    true
+}
+
+/// Goes on to a key, which must stand behind the last one in the order.
+fn begins(rank: &mut Option<usize>, key: &[u8]) -> bool {
+    let found = KEYS.iter().position(|own| *own == key);
+    let in_order = found > *rank;
+    *rank = found;
+    in_order
+}
+
+fn is_one_word(key: &[u8]) -> bool {
+    matches!(key, b"PBN" | b"DOF" | b"SEL" | b"CODE")
+}
+
+/// Whether a word may stand in an item with this key. No such word holds an oblique.
+fn fits_key(key: &[u8], word: &[u8]) -> bool {
+    match key {
+        b"STS" => STATUSES.contains(&word),
+        b"PBN" => codes(word, is_pbn_code).is_some_and(|count| count <= 8),
+        b"DOF" => is_date(word),
+        b"SEL" => is_four_letters(word),
+        b"CODE" => word.len() == 6 && some_of(word, 6, |b| matches!(b, b'0'..=b'9' | b'A'..=b'F')),
+        b"EET" | b"DLE" => is_place_and_elapsed(word),
+        _ => is_text_word(word),
+    }
+}
+
+fn is_pbn_code(letter: u8, digit: u8) -> bool {
+    match letter {
+        b'A' | b'L' => digit == 1,
+        b'B' => matches!(digit, 1..=6),
+        b'C' | b'D' | b'O' => matches!(digit, 1..=4),
+        b'S' | b'T' => matches!(digit, 1 | 2),
+        _ => false,
+    }
+}
+
+/// YYMMDD in 2000 to 2099, where every fourth year is a leap year.
+fn is_date(word: &[u8]) -> bool {
+    let part = |from: usize| word.get(from..from + 2).and_then(number);
+    let (Some(year), Some(month), Some(day)) = (part(0), part(2), part(4)) else { return false };
+    let days = match month {
+        2 if year % 4 == 0 => 29,
+        2 => 28,
+        4 | 6 | 9 | 11 => 30,
+        1..=12 => 31,
+        _ => 0,
+    };
+    word.len() == 6 && (1..=days).contains(&day)
+}
+
+/// 6 to 15 signs, the last four an elapsed time.
+fn is_place_and_elapsed(word: &[u8]) -> bool {
+    word.len() >= 6 && some_of(word, 15, is_sign) && minutes(&word[word.len() - 4..]).is_some()
+}
