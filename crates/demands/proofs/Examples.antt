@@ -1,5 +1,6 @@
 -- Every example of the list holds: one statement, which is computed. Assumes nothing.
 use mathlib.Core.Path.{refl}
+use mathlib.Core.List.{List, [], _∷_, _++_}
 use Rattle.alphabet.specs.Alphabet.{text, inAlphabet, white}
 use Rattle.shape.specs.Shape.{letters}
 use Rattle.shape.specs.Time.{timeFits}
@@ -13,9 +14,30 @@ use Rattle.route.specs.Points.{within, radialFits, indicators, nameFits, pointF
 use Rattle.route.specs.Field15.{pairFits, elementFits, fits15}
 use Rattle.other.specs.Rules.{statuses, approvals, approved, daysIn, date, timed as timedWord, hexadecimal, base}
 use Rattle.other.specs.Field18.{fitsIn}
-use Rattle.demands.specs.Examples.{AllHold, examples}
+use Rattle.head.specs.Field3.{types, fits3, numbersFit}
+use Rattle.space.specs.Reduced.{opens, closes, standsForRun, reducedFrom, reduced}
+use Rattle.space.specs.Hyphens.{hyphens, upToHyphen, placeOfHyphen}
+use Rattle.outer.specs.Outer.{parensFrom, parens, lettersFrom, outer}
+use Rattle.kinds.specs.Kinds.{briefForms, formsOf, formAt, typesRead, typeRanked, typeNamed}
+use Rattle.message.specs.Reading.{spellingOf, faultIn, countAs, answerOf}
+use Rattle.demands.specs.Examples.{Example, AllHold, ofFields, ofMessages, examples}
+
+-- two lists joined
+both-hold : (xs ys : List Example) → AllHold xs → AllHold ys → AllHold (xs ++ ys)
+both-hold [] ys h k = k
+both-hold (x ∷ xs) ys h k = (h .0, both-hold xs ys (h .1) k)
+
+fields-hold : AllHold ofFields
+unfolding text inAlphabet white letters timeFits fits7 fits9 countFits aircraftFits fits10 valid10 present fourLetters timed fits17 unlisted speedDigits
+    levelDigits speeds levels starts changes climbs within radialFits indicators nameFits pointFits pairFits elementFits fits15 statuses approvals
+    approved daysIn date timedWord hexadecimal base fitsIn
+fields-hold =
+    (refl, (refl, (refl, (refl, (refl, (refl, (refl, (refl, (refl, (refl, (refl, (refl, (refl, (refl, (refl, (refl, (refl, (refl, (refl, (refl, (refl, tt)))))))))))))))))))))
+
+messages-hold : AllHold ofMessages
+unfolding answerOf countAs faultIn spellingOf outer parens parensFrom lettersFrom inAlphabet white reduced reducedFrom standsForRun opens closes hyphens
+    upToHyphen placeOfHyphen typeNamed typeRanked typesRead types formsOf briefForms formAt fits3 numbersFit fits7 fourLetters timed timeFits fitsIn
+messages-hold = ((refl, refl), (refl, (refl, (refl, (refl, tt)))))
 
 pub examples-hold : AllHold examples
-unfolding text inAlphabet white letters timeFits fits7 fits9 countFits aircraftFits fits10 valid10 present fourLetters timed fits17 unlisted speedDigits levelDigits speeds levels starts changes climbs within radialFits indicators nameFits pointFits pairFits elementFits fits15 statuses approvals approved daysIn date timedWord hexadecimal base fitsIn
-examples-hold =
-    (refl, (refl, (refl, (refl, (refl, (refl, (refl, (refl, (refl, (refl, (refl, (refl, (refl, (refl, (refl, (refl, (refl, (refl, (refl, (refl, (refl, tt)))))))))))))))))))))
+examples-hold = both-hold ofFields ofMessages fields-hold messages-hold

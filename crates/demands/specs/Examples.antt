@@ -4,16 +4,21 @@ use Prim.Native.String.{String}
 use mathlib.Core.Path.{_≡_}
 use mathlib.Core.Bool.{true, false}
 use mathlib.Core.List.{List, [], _∷_, _++_}
-use mathlib.Core.Option.{none, some}
+use mathlib.Core.Option.{some}
+use lib.ListN.{length}
 use Rattle.alphabet.specs.Text.{bytes}
 use Rattle.shape.specs.Field.{Field, read}
-use Rattle.shape.specs.Time.{clockFits, elapsedFits}
+use Rattle.shape.specs.Time.{clockFits}
 use Rattle.head.specs.Field7.{field7}
 use Rattle.head.specs.Field9.{field9}
 use Rattle.equipment.specs.Field10.{field10, present}
 use Rattle.aerodromes.specs.Field17.{field17}
 use Rattle.route.specs.Field15.{field15}
 use Rattle.other.specs.Field18.{field18}
+use Rattle.kinds.specs.declared.MessageType.{MessageType}
+use Rattle.kinds.specs.declared.MessageType.the-variants.{Cnl}
+use Rattle.message.specs.declared.Answer.the-variants.{Accepted, Refused}
+use Rattle.message.specs.Reading.{answerOf, spellingOf}
 
 -- what an example says of the definitions
 pub data Example : Type 1 where
@@ -28,6 +33,9 @@ pub data Example : Type 1 where
   -- four digits are a time of day, or are none
   time : String → Example
   noTime : String → Example
+  -- a message is accepted as one of a type, with a spelling, or is refused with a number, a field and a place; the room is 1,800 bytes
+  accepted : String → MessageType → String → Example
+  refused : String → ℕ → ℕ → ℕ → Example
 
 abbrev pub alone : String → List ℕ
 alone word = bytes "N0440F310 " ++ bytes word
@@ -40,13 +48,16 @@ Holds (routeFits w) = field15 .fits (alone w) ≡ true
 Holds (routeNo w) = field15 .fits (alone w) ≡ false
 Holds (time s) = clockFits (bytes s) ≡ true
 Holds (noTime s) = clockFits (bytes s) ≡ false
+Holds (accepted s t w) = (answerOf (bytes s) 1800 ≡ Accepted t (length (bytes w))) × (spellingOf t (bytes s) ≡ bytes w)
+Holds (refused s number field place) = answerOf (bytes s) 1800 ≡ Refused number field place
 
 abbrev pub AllHold : List Example → Type 0
 AllHold [] = Unit
 AllHold (x ∷ xs) = Holds x × AllHold xs
 
-abbrev pub examples : List Example
-examples =
+-- contents of fields, words of a route, and times
+abbrev pub ofFields : List Example
+ofFields =
     fitsAs field9 "2FK27/M" (record { count = 2; type = bytes "FK27"; wake = 77 })
     ∷ (no field9 "1B707/M"
     ∷ (fits field7 "ABC12/A7777"
@@ -68,3 +79,15 @@ examples =
     ∷ (time "2359"
     ∷ (noTime "2400"
     ∷ (no (field10 present) "SE/C" ∷ []))))))))))))))))))))
+
+-- whole messages
+abbrev pub ofMessages : List Example
+ofMessages =
+    accepted "(CNL-ABC12-EHAM0930-EDDF-0)" Cnl "(CNL-ABC12-EHAM0930-EDDF-0)"
+    ∷ (refused "(DLA-ABC12-EHAM2460-EDDF-0)" 7 13 10
+    ∷ (refused "(ACP-ABC12)" 5 3 0
+    ∷ (refused "(" 2 0 1
+    ∷ (refused "((" 2 0 1 ∷ []))))
+
+abbrev pub examples : List Example
+examples = ofFields ++ ofMessages
