@@ -1,0 +1,63 @@
+-- `listing::each_piece` meets its contract. Assumes nothing.
+use lib.ListN.{length}
+use Prim.Native.Nat.{_-_, _≤_}
+use borrow.Author.Needs.{needs}
+use Rattle.listing.proofs.each_piece.Statement.{statement}
+use Rattle.listing.proofs.each_piece.Tie as tie
+
+abbrev Inv-loop : tie.InvT-loop
+Inv-loop s at₀ at = at ≤ length s
+
+abbrev μ-loop : tie.MeasureT-loop
+μ-loop s at₀ at = length s - at
+
+skip-white-requires : tie.Need-skip-white-requires Inv-loop μ-loop
+skip-white-requires c κs = search needs
+
+loop-holds : tie.Need-loop-holds Inv-loop μ-loop
+loop-holds c = search needs
+
+piece-end-requires : tie.Need-piece-end-requires Inv-loop μ-loop
+piece-end-requires c κs = search needs
+
+sub-tell : tie.Need-sub-tell Inv-loop μ-loop
+sub-tell c = search needs
+
+part-tell-start : tie.Need-part-tell-start Inv-loop μ-loop
+part-tell-start c = search needs
+
+part-tell-end : tie.Need-part-tell-end Inv-loop μ-loop
+part-tell-end c = search needs
+
+tell-requires : tie.Need-tell-requires Inv-loop μ-loop
+tell-requires c κs = search needs
+
+skip-white-requires-2 : tie.Need-skip-white-requires-2 Inv-loop μ-loop
+skip-white-requires-2 c κs = search needs
+
+loop-less : tie.Need-loop-less Inv-loop μ-loop
+loop-less c = search needs
+
+loop-again : tie.Need-loop-again Inv-loop μ-loop
+loop-again c = search needs
+
+returns : tie.Need-returns Inv-loop μ-loop
+returns c = search needs
+
+pub each-piece-spec : {M : Type 1} → statement M
+each-piece-spec =
+    tie.close
+    (tie.spec
+    Inv-loop
+    μ-loop
+    skip-white-requires
+    loop-holds
+    piece-end-requires
+    sub-tell
+    part-tell-start
+    part-tell-end
+    tell-requires
+    skip-white-requires-2
+    loop-less
+    loop-again
+    returns)
