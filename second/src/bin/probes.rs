@@ -32,8 +32,8 @@ impl Tally {
                 self.0[13] += accepted.spelling.len();
             }
             Err(refusal) => {
-                self.0[usize::from(refusal.number)] += 1;
-                self.0[12] += usize::from(refusal.field);
+                self.0[refusal.number as usize] += 1;
+                self.0[12] += refusal.field as usize;
                 self.0[13] += refusal.place;
             }
         }
