@@ -34,9 +34,6 @@ module _ (w : Word) (e : fourLetters w ≡ true) where
   pub four-tidy : tidyWord w ≡ true
   four-tidy = tidy-word letter letter-tidy w (omega (arith, four-length)) four-letters
 
-  pub four-free : free 32 w ≡ true
-  four-free = word-free w four-tidy
-
   -- what is joined to it is cut off again
   pub cut-aerodrome : (t : Word) → aerodromeOf (w ++ t) ≡ w
   cut-aerodrome t = take-at w t 4 four-length

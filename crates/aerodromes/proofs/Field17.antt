@@ -4,22 +4,16 @@ use mathlib.Core.Path.{_≡_, refl, ap, ap₂, _∙_}
 use mathlib.Core.Bool.{Bool, true, false, _&&_, not, cond, false≢true}
 use mathlib.Core.List.{List, [], _∷_}
 use native.Mathlib.Omega.{arith}
-use Rattle.alphabet.specs.Alphabet.{text}
-use Rattle.text.specs.Words.{Word, all, null, same, split, tidyByte, tidyWord, tidy}
+use Rattle.text.specs.Words.{Word, all, null, same, split, textWord, tidyWord, tidy}
 use Rattle.text.proofs.Tests.{both, and-both, all-imp}
-use Rattle.text.proofs.Tidy.{text-tidy}
+use Rattle.text.proofs.Tidy.{text-word-tidy}
 use Rattle.shape.specs.Time.{clockHours, clockOf, minutesOf}
 use Rattle.shape.specs.Field.{Laws}
 use Rattle.shape.proofs.Fields.{Facts, plain}
 use Rattle.aerodromes.specs.Aerodromes.{aerodromeOf, joinedOf, timed, validTimed, spellTimed, first, others}
-use Rattle.aerodromes.specs.Field17.{textWord, unlisted, placeFits, Field17, valid17, spell17, fits17, record17, field17}
+use Rattle.aerodromes.specs.Field17.{unlisted, placeFits, Field17, valid17, spell17, fits17, record17, field17}
 use Rattle.aerodromes.proofs.Aerodromes.{timed-valid, timed-tidy, timed-aerodrome, timed-minutes, timed-fits}
 use Rattle.aerodromes.proofs.Aerodromes.{tidy-words, words-spelled, first-back, others-back}
-
-text-word-tidy : (w : Word) → textWord w ≡ true → tidyWord w ≡ true
-text-word-tidy w e =
-    let h = both (not (null w)) (all text w) e in
-    and-both (not (null w)) (all tidyByte w) (h .0) (all-imp text tidyByte text-tidy w (h .1))
 
 none-tidy : (ws : List Word) → null ws ≡ true → all tidyWord ws ≡ true
 none-tidy [] e = refl

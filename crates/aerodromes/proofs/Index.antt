@@ -1,16 +1,14 @@
 -- What ties the definitions to code that walks an index. Assumes nothing.
 use Prim.Native.Nat.{ℕ, suc, _+_, _-_, _<_, _≤_}
 use mathlib.Core.Path.{_≡_, refl, sym, ap, _∙_}
-use mathlib.Core.Bool.{Bool, true, false, _&&_, not}
+use mathlib.Core.Bool.{Bool, true, false, _&&_}
 use mathlib.Core.List.{List, [], _∷_}
 use native.Mathlib.Omega.{arith}
 use lib.Dec.{leb, eqb, leb·suc-zero, leb·suc-suc}
 use lib.ListN.{length, take, drop, length-drop}
-use lib.Seq.{take-all, length-take-le}
+use lib.Seq.{take-all}
 use borrow.Author.Tests.{le-leb, eqb-true, eqb-false}
-use Rattle.alphabet.specs.Alphabet.{text}
-use Rattle.text.specs.Words.{Word, all, null, same, split, upTo}
-use Rattle.text.proofs.Tests.{and-both, some-length}
+use Rattle.text.specs.Words.{Word, all, null, same, split, upTo, textWord}
 use Rattle.text.proofs.Index.{split-at, after-here, after-end, drop-end, rest}
 use Rattle.shape.specs.declared.ClockRead.the-variants.{NoTimeOfDay}
 use Rattle.shape.specs.Time.{timeFits, clockHours, elapsedHours, clockFits}
@@ -18,7 +16,7 @@ use Rattle.shape.proofs.Times.{time-length}
 use Rattle.aerodromes.specs.Aerodromes.{fourLetters, timed, first, others}
 use Rattle.aerodromes.specs.Field13.{clockOrNone, fits13open}
 use Rattle.aerodromes.specs.Field16.{fewAerodromes, mostAlternates, fits16plan}
-use Rattle.aerodromes.specs.Field17.{textWord, unlisted, fits17}
+use Rattle.aerodromes.specs.Field17.{unlisted, fits17}
 use Rattle.aerodromes.specs.Asked.{clockAt}
 use Rattle.aerodromes.proofs.Aerodromes.{four-length, timed-length}
 
@@ -107,20 +105,6 @@ module _ (n : ℕ) (s : List ℕ) (at e : ℕ) (end : e ≡ at + upTo 32 (drop a
   pub few-next : 0 < n → fourLetters (take (e - at) (drop at s)) ≡ true → e < length s
       → fewAerodromes n (split 32 (drop at s)) ≡ fewAerodromes (n - 1) (split 32 (drop (e + 1) s))
   few-next z h l = let q : n ≡ suc (n - 1) = omega arith in ap (λ (k : ℕ). fewAerodromes k (split 32 (drop at s))) q ∙ step h l
-
--- a word without a byte is no text word
-pub text-none : (s : List ℕ) (at e : ℕ) → e ≡ at → textWord (take (e - at) (drop at s)) ≡ false
-text-none s at e h = let z : e - at ≡ 0 = omega arith in rw z
-
-pub text-stop : (s : List ℕ) (at e : ℕ) → all text (take (e - at) (drop at s)) ≡ false → textWord (take (e - at) (drop at s)) ≡ false
-text-stop s at e h = and-false (not (null (take (e - at) (drop at s)))) (all text (take (e - at) (drop at s))) h
-
-pub text-here : (s : List ℕ) (at e : ℕ) → at < e → e ≤ length s → all text (take (e - at) (drop at s)) ≡ true → textWord (take (e - at) (drop at s)) ≡ true
-text-here s at e p q h =
-    let l : e - at ≤ length (drop at s) = simp length-drop (omega arith) in
-    and-both (not (null (take (e - at) (drop at s)))) (all text (take (e - at) (drop at s)))
-    (some-length (take (e - at) (drop at s)) (omega (arith, length-take-le (e - at) (drop at s) l)))
-    h
 
 -- THE WORDS OF A CONTENT, the first of which ends at e
 

@@ -6,15 +6,11 @@ use mathlib.Core.Bool.{Bool, true, false, _&&_, not, cond}
 use mathlib.Core.List.{List, [], _∷_}
 use Rattle.alphabet.specs.Text.{bytes}
 use Rattle.alphabet.specs.Alphabet.{text, inAlphabet, white}
-use Rattle.text.specs.Words.{Word, all, null, same, split, join}
+use Rattle.text.specs.Words.{Word, all, null, same, split, join, textWord}
 use Rattle.shape.specs.declared.Clock.{Clock}
 use Rattle.shape.specs.Time.{timeFits, clockHours, clockOf}
 use Rattle.shape.specs.Field.{Field}
 use Rattle.aerodromes.specs.Aerodromes.{fourLetters, aerodromeOf, joinedOf, timed, validTimed, spellTimed, first, others}
-
--- one or more bytes of text
-abbrev pub textWord : Word → Bool
-textWord w = not (null w) && all text w
 
 -- ZZZZ: an aerodrome that has no four letters of its own
 unfoldable pub unlisted : Word

@@ -2,12 +2,12 @@
 ghost use mathlib.Core.Path.{_≡_};
 ghost use Prim.Native.Nat.{ℕ};
 ghost use lib.ListN.{take, getD};
-ghost use Rattle.text.specs.Words.{all, split};
+ghost use Rattle.text.specs.Words.{all, split, textWord};
 ghost use Rattle.shape.specs.Time.{clockHours, elapsedHours};
 ghost use Rattle.aerodromes.specs.Aerodromes.{fourLetters, timed, aerodromeOf};
 ghost use Rattle.aerodromes.specs.Field13.{fits13, fits13open};
 ghost use Rattle.aerodromes.specs.Field16.{fits16, fits16plan, fewAerodromes, mostAlternates};
-ghost use Rattle.aerodromes.specs.Field17.{fits17, textWord};
+ghost use Rattle.aerodromes.specs.Field17.{fits17};
 ghost use Rattle.aerodromes.specs.Asked.{clockAt, hasAlternate, aerodromeIn, isLetters};
 
 // Whether w is four letters.
@@ -113,10 +113,7 @@ fn text_words(list: &[u8]) -> bool
     let mut at = 0;
     loop {
         let e = text::find(list, at, b' ');
-        if e == at {
-            return false;
-        }
-        if !text::all_of(text::Kind::Text, &list[at..e]) {
+        if !text::is_text_word(&list[at..e]) {
             return false;
         }
         if e == list.len() {

@@ -8,10 +8,9 @@ use native.Mathlib.Omega.{arith}
 use Rattle.alphabet.specs.Text.{bytes}
 use Rattle.alphabet.specs.Alphabet.{letter}
 use Rattle.text.specs.Words.{tidy}
-use Rattle.text.proofs.Tests.{both, and-both}
+use Rattle.text.proofs.Tests.{both, and-both, of-one}
 use Rattle.text.proofs.Tidy.{letter-tidy, tidy-word, tidy-one}
 use Rattle.shape.specs.Field.{Laws}
-use Rattle.shape.proofs.Exact.{of-one}
 use Rattle.shape.proofs.Fields.{Facts, plain}
 use Rattle.head.specs.Field8.{spellFlight, rulesFit, flightFits, validFlight, valid8, spell8, fits8, record8, field8}
 

@@ -12,13 +12,12 @@ use borrow.Author.Tests.{leb-true, ltb-true, ltb-false, le-leb, lt-ltb, le-ltb, 
 use Rattle.alphabet.specs.Text.{bytes}
 use Rattle.alphabet.specs.Alphabet.{letter, digit, sign}
 use Rattle.text.specs.Words.{Word, holds, before, behind, all, free, tidyByte, tidy}
-use Rattle.text.proofs.Tests.{both, all-imp, all-append, all-free}
+use Rattle.text.proofs.Tests.{both, all-imp, all-append, all-free, of-one}
 use Rattle.text.proofs.Joined.{seam, holds-seam, before-seam, behind-seam}
 use Rattle.text.proofs.Tidy.{letter-tidy, sign-tidy, digit-tidy, oblique-tidy, tidy-word, tidy-one}
 use Rattle.shape.specs.Numbers.{digits, value}
 use Rattle.shape.specs.Field.{Laws}
 use Rattle.shape.proofs.Numbers.{value-below, digits-value, value-digits, digits-digits}
-use Rattle.shape.proofs.Exact.{of-one}
 use Rattle.shape.proofs.Fields.{Facts, plain}
 use Rattle.head.specs.Runs.{lead}
 use Rattle.head.specs.Field9.{Field9, spellCount, spell9, typeFits, wakeFits, valid9, number, aircraft, countFits, countOf, wakeOf, isWake, aircraftFits, fits9, record9, field9}

@@ -97,7 +97,8 @@ unfolding fits3 numbersFit numberFits types
 fitting = (refl, refl, refl, refl)
 
 not-fitting : (fits3 (bytes "XYZ") ≡ false) × (fits3 (bytes "CN") ≡ false) × (fits3 (bytes "CHG A/F016") ≡ false) × (fits3 (bytes "CHGA/F01") ≡ false)
-    × (fits3 (bytes "CHGA/F0160") ≡ false) × (fits3 (bytes "CHGA/F016A/F014A/F013") ≡ false) × (fits3 (bytes "CHGABCDE/F016") ≡ false) × (fits3 (bytes "CHG/F016") ≡ false)
+    × (fits3 (bytes "CHGA/F0160") ≡ false) × (fits3 (bytes "CHGA/F016A/F014A/F013") ≡ false)
+    × (fits3 (bytes "CHGABCDE/F016") ≡ false) × (fits3 (bytes "CHG/F016") ≡ false)
 unfolding fits3 numbersFit numberFits types
 not-fitting = (refl, refl, refl, refl, refl, refl, refl, refl)
 

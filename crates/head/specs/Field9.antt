@@ -78,12 +78,14 @@ field9 = record { Record = Field9; valid = valid9; spell = spell9; fits = fits9;
 
 -- EXAMPLES, computed
 
-fitting : (fits9 (bytes "2FK27/M") ≡ true) × (fits9 (bytes "B738/M") ≡ true) × (fits9 (bytes "99C5/H") ≡ true) × (fits9 (bytes "3ZZZZ/L") ≡ true) × (fits9 (bytes "10B7/L") ≡ true)
+fitting : (fits9 (bytes "2FK27/M") ≡ true) × (fits9 (bytes "B738/M") ≡ true) × (fits9 (bytes "99C5/H") ≡ true)
+    × (fits9 (bytes "3ZZZZ/L") ≡ true) × (fits9 (bytes "10B7/L") ≡ true)
 unfolding fits9 countFits aircraftFits
 fitting = (refl, refl, refl, refl, refl)
 
 not-fitting : (fits9 (bytes "1B707/M") ≡ false) × (fits9 (bytes "02B707/M") ≡ false) × (fits9 (bytes "100B70/M") ≡ false) × (fits9 (bytes "B/M") ≡ false)
-    × (fits9 (bytes "B7070/M") ≡ false) × (fits9 (bytes "B707/J") ≡ false) × (fits9 (bytes "B707M") ≡ false) × (fits9 (bytes "B707/MM") ≡ false) × (fits9 (bytes "") ≡ false)
+    × (fits9 (bytes "B7070/M") ≡ false) × (fits9 (bytes "B707/J") ≡ false) × (fits9 (bytes "B707M") ≡ false)
+    × (fits9 (bytes "B707/MM") ≡ false) × (fits9 (bytes "") ≡ false)
 unfolding fits9 countFits aircraftFits
 not-fitting = (refl, refl, refl, refl, refl, refl, refl, refl, refl)
 

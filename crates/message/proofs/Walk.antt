@@ -30,12 +30,6 @@ use Rattle.message.specs.Reading.{faultFrom, faultIn, spelledFrom, leadO
 abbrev pub Even : MessageType → ℕ → List ℕ → ℕ → ℕ → Type 0
 Even t n s at j = length (drop j (formsOf t n)) ≡ length (split 45 (drop at s))
 
-drop-more : {A : Type 0} (l : List A) (j : ℕ) (x : A) (r : List A) → drop j l ≡ x ∷ r → drop (suc j) l ≡ r
-drop-more [] zero x r e = let z : _≡_ {A = ℕ} 0 1 = cc in absurd (omega arith)
-drop-more [] (suc j) x r e = let z : _≡_ {A = ℕ} 0 1 = cc in absurd (omega arith)
-drop-more (y ∷ l) zero x r e = cc
-drop-more (y ∷ l) (suc j) x r e = drop-more l j x r e
-
 module _ (t : MessageType) (n : ℕ) (s : List ℕ) (at j e : ℕ) (end : e ≡ at + upTo 45 (drop at s)) (even : Even t n s at j) where
   -- the content here
   part : Word

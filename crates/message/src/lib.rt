@@ -100,7 +100,8 @@ fn spelled_length(t: MessageType, count: usize, s: &[u8]) -> usize
 // Writes a field behind the byte that leads to it, at the front of `out`.
 fn write_field(lead: u8, form: Form, part: &[u8], out: &mut [u8]) -> usize
     requires { ⌜ length (lead ∷ writtenOf form (now part)) ≤ length (now out) ⌝ }
-    ensures { λ r. ⌜ (r ≡ length (lead ∷ writtenOf form (now (part .entry)))) × (now (out .exit) ≡ front (lead ∷ writtenOf form (now (part .entry))) (now (out .entry))) ⌝ }
+    ensures { λ r. ⌜ (r ≡ length (lead ∷ writtenOf form (now (part .entry))))
+        × (now (out .exit) ≡ front (lead ∷ writtenOf form (now (part .entry))) (now (out .entry))) ⌝ }
 {
     out[0] = lead;
     let n = forms::write_form(form, part, &mut out[1..]);
@@ -110,7 +111,8 @@ fn write_field(lead: u8, form: Form, part: &[u8], out: &mut [u8]) -> usize
 // Writes the spelling of a text's fields at the front of `out`: each field goes behind the last one, in the rest that is lent to it.
 fn write_fields(t: MessageType, count: usize, s: &[u8], out: &mut [u8]) -> usize
     requires { ⌜ (length (spelledFrom 40 (formsOf t count) (split 45 (now s))) ≤ length (now out)) × (length (formsOf t count) ≡ length (split 45 (now s))) ⌝ }
-    ensures { λ r. ⌜ (r ≡ length (spelledFrom 40 (formsOf t count) (split 45 (now (s .entry))))) × (now (out .exit) ≡ front (spelledFrom 40 (formsOf t count) (split 45 (now (s .entry)))) (now (out .entry))) ⌝ }
+    ensures { λ r. ⌜ (r ≡ length (spelledFrom 40 (formsOf t count) (split 45 (now (s .entry)))))
+        × (now (out .exit) ≡ front (spelledFrom 40 (formsOf t count) (split 45 (now (s .entry)))) (now (out .entry))) ⌝ }
 {
     let mut o = 0;
     let mut at = 0;
@@ -186,7 +188,8 @@ fn place_in_plan(field: u8) -> usize
 // Number 11, and the acceptance: everything is checked before the first byte is written.
 fn read_room(t: MessageType, count: usize, msg: &[u8], s: &[u8], out: &mut [u8]) -> Answer
     requires { ⌜ Counted t (now msg) count (now s) ⌝ }
-    ensures { λ a. ⌜ (a ≡ roomAs t (now (msg .entry)) (length (now (out .entry)))) × (now (out .exit) ≡ writtenAs (roomAs t (now (msg .entry)) (length (now (out .entry)))) (now (msg .entry)) (now (out .entry))) ⌝ }
+    ensures { λ a. ⌜ (a ≡ roomAs t (now (msg .entry)) (length (now (out .entry))))
+        × (now (out .exit) ≡ writtenAs (roomAs t (now (msg .entry)) (length (now (out .entry)))) (now (msg .entry)) (now (out .entry))) ⌝ }
 {
     let due = spelled_length(t, count, s);
     if out.len() < due {
@@ -203,7 +206,8 @@ fn read_room(t: MessageType, count: usize, msg: &[u8], s: &[u8], out: &mut [u8])
 // Numbers 10 and 11.
 fn read_explained(t: MessageType, count: usize, msg: &[u8], s: &[u8], out: &mut [u8]) -> Answer
     requires { ⌜ Counted t (now msg) count (now s) ⌝ }
-    ensures { λ a. ⌜ (a ≡ faultAs Fault.Clear t (now (msg .entry)) (length (now (out .entry)))) × (now (out .exit) ≡ writtenAs (faultAs Fault.Clear t (now (msg .entry)) (length (now (out .entry)))) (now (msg .entry)) (now (out .entry))) ⌝ }
+    ensures { λ a. ⌜ (a ≡ faultAs Fault.Clear t (now (msg .entry)) (length (now (out .entry))))
+        × (now (out .exit) ≡ writtenAs (faultAs Fault.Clear t (now (msg .entry)) (length (now (out .entry)))) (now (msg .entry)) (now (out .entry))) ⌝ }
 {
     if is_plan(t) {
         let field = unexplained_in(s);
@@ -222,7 +226,8 @@ fn read_explained(t: MessageType, count: usize, msg: &[u8], s: &[u8], out: &mut 
 // Numbers 7 to 11, for the text of a message whose fields are as many as its type allows.
 fn read_text(t: MessageType, count: usize, msg: &[u8], s: &[u8], out: &mut [u8]) -> Answer
     requires { ⌜ Counted t (now msg) count (now s) ⌝ }
-    ensures { λ a. ⌜ (a ≡ fieldsAs t (now (msg .entry)) (length (now (out .entry)))) × (now (out .exit) ≡ writtenAs (fieldsAs t (now (msg .entry)) (length (now (out .entry)))) (now (msg .entry)) (now (out .entry))) ⌝ }
+    ensures { λ a. ⌜ (a ≡ fieldsAs t (now (msg .entry)) (length (now (out .entry))))
+        × (now (out .exit) ≡ writtenAs (fieldsAs t (now (msg .entry)) (length (now (out .entry)))) (now (msg .entry)) (now (out .entry))) ⌝ }
 {
     match fields_fault(t, count, s) {
         Fault::At { number, field } => Answer::Refused {
@@ -237,7 +242,8 @@ fn read_text(t: MessageType, count: usize, msg: &[u8], s: &[u8], out: &mut [u8])
 // Numbers 7 to 11: white space is reduced into a scratch, and the text between the parentheses is read there.
 fn read_reduced(t: MessageType, count: usize, msg: &[u8], out: &mut [u8]) -> Answer
     requires { ⌜ (outer (now msg) ≡ Outer.Good) × (count ≡ countOf (now msg)) × (leastOf t ≤ count) × (count ≤ greatestOf t) ⌝ }
-    ensures { λ a. ⌜ (a ≡ fieldsAs t (now (msg .entry)) (length (now (out .entry)))) × (now (out .exit) ≡ writtenAs (fieldsAs t (now (msg .entry)) (length (now (out .entry)))) (now (msg .entry)) (now (out .entry))) ⌝ }
+    ensures { λ a. ⌜ (a ≡ fieldsAs t (now (msg .entry)) (length (now (out .entry))))
+        × (now (out .exit) ≡ writtenAs (fieldsAs t (now (msg .entry)) (length (now (out .entry)))) (now (msg .entry)) (now (out .entry))) ⌝ }
 {
     let mut scratch = [0u8; 1800];
     let n = space::reduce(msg, &mut scratch);
@@ -248,7 +254,8 @@ fn read_reduced(t: MessageType, count: usize, msg: &[u8], out: &mut [u8]) -> Ans
 // Numbers 6 to 11, for a message of a type.
 fn read_count(t: MessageType, msg: &[u8], out: &mut [u8]) -> Answer
     requires { ⌜ outer (now msg) ≡ Outer.Good ⌝ }
-    ensures { λ a. ⌜ (a ≡ countAs t (now (msg .entry)) (length (now (out .entry)))) × (now (out .exit) ≡ writtenAs (countAs t (now (msg .entry)) (length (now (out .entry)))) (now (msg .entry)) (now (out .entry))) ⌝ }
+    ensures { λ a. ⌜ (a ≡ countAs t (now (msg .entry)) (length (now (out .entry))))
+        × (now (out .exit) ≡ writtenAs (countAs t (now (msg .entry)) (length (now (out .entry)))) (now (msg .entry)) (now (out .entry))) ⌝ }
 {
     let count = space::count_hyphens(msg) + 1;
     if count < t.least() {
@@ -283,7 +290,8 @@ fn three_of<'a>(msg: &'a [u8]) -> &'a [u8]
 // Numbers 4 to 11, for a message that numbers 1 to 3 let pass.
 fn read_type(msg: &[u8], out: &mut [u8]) -> Answer
     requires { ⌜ outer (now msg) ≡ Outer.Good ⌝ }
-    ensures { λ a. ⌜ (a ≡ outerAs Outer.Good (now (msg .entry)) (length (now (out .entry)))) × (now (out .exit) ≡ writtenAs (outerAs Outer.Good (now (msg .entry)) (length (now (out .entry)))) (now (msg .entry)) (now (out .entry))) ⌝ }
+    ensures { λ a. ⌜ (a ≡ outerAs Outer.Good (now (msg .entry)) (length (now (out .entry))))
+        × (now (out .exit) ≡ writtenAs (outerAs Outer.Good (now (msg .entry)) (length (now (out .entry)))) (now (msg .entry)) (now (out .entry))) ⌝ }
 {
     match kinds::type_named(three_of(msg)) {
         Named::Read(t) => read_count(t, msg, out),

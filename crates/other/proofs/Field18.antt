@@ -8,16 +8,16 @@ use borrow.Author.Tests.{ltb-true, ne-eqb}
 use native.Mathlib.Omega.{arith}
 use Rattle.alphabet.specs.Text.{bytes}
 use Rattle.alphabet.specs.Alphabet.{sign, text, inAlphabet, white}
-use Rattle.text.specs.Words.{Word, split, join, upTo, holds, all, null, free, same, tidyByte, tidyWord, tidy}
+use Rattle.text.specs.Words.{Word, split, join, upTo, holds, all, null, free, same, textWord, tidyByte, tidyWord, tidy}
 use Rattle.text.proofs.Tests.{both, and-both, all-imp, all-append, all-free, same-eq, of-elem, rank-elem}
 use Rattle.text.proofs.Index.{split-at}
 use Rattle.text.proofs.Joined.{join-split, split-join, seam, holds-seam, before-seam, behind-seam, holds-free}
-use Rattle.text.proofs.Tidy.{word-free, sign-tidy, text-tidy, tidy-join}
+use Rattle.text.proofs.Tidy.{word-free, sign-tidy, text-tidy, text-word-free, text-word-tidy, tidy-join}
 use Rattle.shape.specs.Field.{Laws}
 use Rattle.shape.proofs.Fields.{plain}
-use Rattle.other.specs.Rules.{Edition, base, rankIn, ruleIn, textWord, wordFits, moreFits}
+use Rattle.other.specs.Rules.{Edition, base, rankIn, ruleIn, wordFits, moreFits}
 use Rattle.other.specs.Field18.{Item, Field18, nothing, items, spelt, spell18, Groups, put, group, itemsFit, valid18, fitFrom, fitsIn, record18, field18In, field18}
-use Rattle.other.proofs.Texts.{word-text, more-text, text-free, text-word}
+use Rattle.other.proofs.Texts.{word-text, more-text}
 
 -- WORDS INTO ITEMS AND BACK
 
@@ -44,7 +44,7 @@ group-more : (l : List Word) (ws : List Word) (is : List Item) → all textWord 
 group-more [] ws is e g = g
 group-more (w ∷ l) ws is e g =
     let h = both (textWord w) (all textWord l) e in
-    ap (put w) (group-more l ws is (h .1) g) ∙ put-word w (record { loose = l; grouped = is }) (text-free w (h .0))
+    ap (put w) (group-more l ws is (h .1) g) ∙ put-word w (record { loose = l; grouped = is }) (text-word-free w (h .0))
 
 -- AN ITEM'S FIRST WORD is tidy
 
@@ -125,7 +125,7 @@ module _ (ed : Edition) (named : all (all sign) (split 32 (ed .keys)) ≡ true) 
   spelt-tidy last (i ∷ is) e =
       let p = parts last i is e in
       and-both (tidyWord (i .key ++ (47 ∷ i .first))) _ (first-tidy (i .key) (i .first) (p .key) (p .first))
-      (all-append tidyWord (i .more) (spelt is) (all-imp textWord tidyWord text-word (i .more) (p .more)) (spelt-tidy (rankIn ed (i .key)) is (p .tail)))
+      (all-append tidyWord (i .more) (spelt is) (all-imp textWord tidyWord text-word-tidy (i .more) (p .more)) (spelt-tidy (rankIn ed (i .key)) is (p .tail)))
 
   -- a content that is not `0`, and fits
   module _ (s : List ℕ) (e : fitFrom ed 0 (split 32 s) ≡ true) where

@@ -1,22 +1,22 @@
 -- Words under a key: what the code tests of them, and that each is a text word. Assumes nothing.
 use Prim.Native.Nat.{ℕ, _*_, _<_, _≤_}
 use mathlib.Core.Path.{_≡_, refl, sym, ap, _∙_}
-use mathlib.Core.Bool.{Bool, true, false, cond, _&&_, not, false≢true}
+use mathlib.Core.Bool.{Bool, true, false, _&&_, not}
 use mathlib.Core.List.{List, [], _∷_}
 use native.Mathlib.Omega.{arith}
 use lib.Dec.{leb, eqb}
 use lib.ListN.{length, length-append}
 use borrow.Author.Tests.{eqb-true, leb-true, leb-false, le-leb, lt-leb}
 use Rattle.alphabet.specs.Alphabet.{letter, sign, text, inAlphabet, white, oneOf}
-use Rattle.text.specs.Words.{Word, all, null, elem, free, tidyByte, tidyWord}
-use Rattle.text.proofs.Tests.{both, and-both, all-imp, all-free, of-elem, some-length}
-use Rattle.text.proofs.Tidy.{sign-text, letter-sign, digit-sign, text-tidy}
+use Rattle.text.specs.Words.{Word, all, elem, textWord}
+use Rattle.text.proofs.Tests.{both, all-imp, of-one, of-elem}
+use Rattle.text.proofs.Tidy.{sign-text, letter-sign, digit-sign, text-word}
 use Rattle.shape.specs.Shape.{fits, wide}
 use Rattle.shape.proofs.Index.{fits-lengths}
 use Rattle.shape.proofs.Exact.{fits-all}
 use Rattle.codes.specs.Codes.{codes, concat, codesFit}
 use Rattle.codes.proofs.Laws.{concat-codes, fit-all}
-use Rattle.other.specs.Rules.{statuses, approvals, approved, yearMonthDay, date, timed, hexadecimal, textWord, wordFits, single, moreFits}
+use Rattle.other.specs.Rules.{statuses, approvals, approved, yearMonthDay, date, timed, hexadecimal, wordFits, single, moreFits}
 use Rattle.other.specs.declared.Rule.{Rule}
 use Rattle.other.specs.declared.Rule.the-variants.{Status, Approvals, Day, Timed, Selcal, Address, Free}
 
@@ -55,15 +55,8 @@ approved-other w e = rw e
 
 -- EACH IS A TEXT WORD
 
-pub text-none : (w : Word) → length w < 1 → textWord w ≡ false
-text-none [] h = refl
-text-none (x ∷ w) h = absurd (omega arith)
-
-text-of : (p : ℕ → Bool) → ((b : ℕ) → p b ≡ true → text b ≡ true) → (w : Word) → 0 < length w → all p w ≡ true → textWord w ≡ true
-text-of p f w h e = and-both (not (null w)) (all text w) (some-length w h) (all-imp p text f w e)
-
 signs : (w : Word) → 0 < length w → all sign w ≡ true → textWord w ≡ true
-signs w h e = text-of sign sign-text w h e
+signs w h e = text-word sign sign-text w h e
 
 status-text : (w : Word) → elem w statuses ≡ true → textWord w ≡ true
 unfolding statuses text inAlphabet white
@@ -93,18 +86,6 @@ timed-text w e =
     let h = both (leb (length w) 15) _ (g .1) in
     signs w (omega (arith, leb-true 6 (length w) (g .0))) (both (all sign w) _ (h .1) .0)
 
--- what every byte of a set passes, a byte of the set passes
-of-set : (p : ℕ → Bool) (xs : List ℕ) → all p xs ≡ true → (b : ℕ) → oneOf b xs ≡ true → p b ≡ true
-of-set p [] a b e = absurd (false≢true e)
-of-set p (x ∷ xs) a b e = go (of-set p xs (h .1) b) (eqb b x) refl e
-  where
-    h : (p x ≡ true) × (all p xs ≡ true)
-    h = both (p x) (all p xs) a
-
-    go : (oneOf b xs ≡ true → p b ≡ true) → (c : Bool) → eqb b x ≡ c → cond c true (oneOf b xs) ≡ true → p b ≡ true
-    go ih true q e = ap p (eqb-true b x q) ∙ h .0
-    go ih false q e = ih e
-
 hexadecimal-signs : all sign hexadecimal ≡ true
 unfolding hexadecimal
 hexadecimal-signs = refl
@@ -120,22 +101,8 @@ word-text Timed w e = timed-text w e
 word-text Selcal w e = let g = sized 4 w (all letter w) (omega arith) e in signs w (g .0) (all-imp letter sign letter-sign w (g .1))
 word-text Address w e =
     let g = sized 6 w (all (λ b. oneOf b hexadecimal) w) (omega arith) e in
-    signs w (g .0) (all-imp (λ b. oneOf b hexadecimal) sign (of-set sign hexadecimal hexadecimal-signs) w (g .1))
+    signs w (g .0) (all-imp (λ b. oneOf b hexadecimal) sign (of-one sign hexadecimal hexadecimal-signs) w (g .1))
 word-text Free w e = e
 
 pub more-text : (r : Rule) (ws : List Word) → all (moreFits r) ws ≡ true → all textWord ws ≡ true
 more-text r ws e = all-imp (moreFits r) textWord (λ w h. word-text r w (both (not (single r)) (wordFits r w) h .1)) ws e
-
--- a text word holds no oblique, and is tidy
-
-text-oblique : text 47 ≡ false
-unfolding text inAlphabet white
-text-oblique = refl
-
-pub text-free : (w : Word) → textWord w ≡ true → free 47 w ≡ true
-text-free w e = all-free text 47 text-oblique w (both (not (null w)) (all text w) e .1)
-
-pub text-word : (w : Word) → textWord w ≡ true → tidyWord w ≡ true
-text-word w e =
-    let h = both (not (null w)) (all text w) e in
-    and-both (not (null w)) (all tidyByte w) (h .0) (all-imp text tidyByte text-tidy w (h .1))

@@ -7,8 +7,8 @@ use mathlib.Core.List.{List, [], _∷_}
 use lib.Dec.{leb, eqb}
 use lib.ListN.{length, take, drop, getD}
 use Rattle.alphabet.specs.Text.{bytes}
-use Rattle.alphabet.specs.Alphabet.{letter, sign, text, oneOf}
-use Rattle.text.specs.Words.{Word, split, all, null, elem, rank}
+use Rattle.alphabet.specs.Alphabet.{letter, sign, oneOf}
+use Rattle.text.specs.Words.{Word, split, all, elem, rank, textWord}
 use Rattle.shape.specs.Numbers.{value}
 use Rattle.shape.specs.Shape.{fits, wide, letters}
 use Rattle.shape.specs.Time.{elapsedFits, timeFits}
@@ -65,10 +65,6 @@ hexadecimal = bytes "0123456789ABCDEF"
 
 abbrev pub address : Word → Bool
 address w = eqb (length w) 6 && all (λ b. oneOf b hexadecimal) w
-
--- the others: a text word
-abbrev pub textWord : Word → Bool
-textWord w = not (null w) && all text w
 
 -- THE RULES
 

@@ -4,7 +4,7 @@ ghost use Prim.Native.Nat.{ℕ, _+_, _-_, _≤_, _<_};
 ghost use lib.ListN.{length, take, drop, getD};
 ghost use Rattle.alphabet.specs.Alphabet.{oneOf};
 ghost use Rattle.text.specs.Words.{split, after, all, elem};
-ghost use Rattle.other.specs.Rules.{statuses, approved, daysIn, date, timed, selcal, address, textWord, wordFits, single, moreFits, ruleOf, edition};
+ghost use Rattle.other.specs.Rules.{statuses, approved, daysIn, date, timed, selcal, address, wordFits, single, moreFits, ruleOf, edition};
 ghost use Rattle.other.specs.Field18.{fitFrom, fitMore, fitsIn, fits18, hasKey, wordsOf, wordsFrom, Found};
 
 // What the words under a key must be: `Free` is any text words.
@@ -123,15 +123,6 @@ fn is_address(w: &[u8]) -> bool
     all_in(w, b"0123456789ABCDEF")
 }
 
-fn is_text_word(w: &[u8]) -> bool
-    ensures { λ r. ⌜ r ≡ textWord (now (w .entry)) ⌝ }
-{
-    if w.len() < 1 {
-        return false;
-    }
-    text::all_of(text::Kind::Text, w)
-}
-
 // Whether w may stand under a key of this rule.
 fn word_fits(rule: Rule, w: &[u8]) -> bool
     ensures { λ r. ⌜ r ≡ wordFits rule (now (w .entry)) ⌝ }
@@ -143,7 +134,7 @@ fn word_fits(rule: Rule, w: &[u8]) -> bool
         Rule::Timed => is_timed(w),
         Rule::Selcal => is_selcal(w),
         Rule::Address => is_address(w),
-        Rule::Free => is_text_word(w),
+        Rule::Free => text::is_text_word(w),
     }
 }
 

@@ -1,13 +1,13 @@
 -- The laws of each field give the same laws of a list of fields. Assumes nothing.
 use Prim.Native.Nat.{ℕ, _+_, _≤_}
 use mathlib.Core.Path.{_≡_, refl, sym, ap, ap₂, _∙_}
-use mathlib.Core.Bool.{Bool, true, false, _&&_, false≢true}
+use mathlib.Core.Bool.{true, false≢true}
 use mathlib.Core.List.{List, [], _∷_}
 use native.Mathlib.Omega.{arith}
 use lib.ListN.{length, length-append}
 use Rattle.text.specs.Words.{Word, join, all, tidy}
 use Rattle.text.proofs.Tests.{both, and-both}
-use Rattle.shape.specs.Field.{Field, Laws}
+use Rattle.shape.specs.Field.{Field}
 use Rattle.shape.proofs.Fields.{read-some, fits-spelling, spelling-fits}
 use Rattle.records.specs.Records.{Records, contentsOf, validAll, canonicalAll, fitAll, recordsOf, LawsAll}
 

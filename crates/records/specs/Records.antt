@@ -1,6 +1,5 @@
 -- The records of a list of fields, field by field: what is said of a message is said of these, whatever fields its type lists.
 -- Assumes nothing.
-use Prim.Native.Nat.{ℕ}
 use mathlib.Core.Bool.{Bool, true, false, _&&_}
 use mathlib.Core.List.{List, [], _∷_}
 use Rattle.text.specs.Words.{Word}

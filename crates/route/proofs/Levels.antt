@@ -7,11 +7,11 @@ use native.Mathlib.Omega.{arith}
 use lib.Dec.{ltb, eqb}
 use lib.ListN.{length, take, drop}
 use lib.Seq.{take-at, drop-at}
-use borrow.Author.Tests.{not-true, ltb-true, lt-ltb, eqb-true}
+use borrow.Author.Tests.{not-true, ltb-true, lt-ltb}
 use Rattle.alphabet.specs.Text.{bytes}
 use Rattle.alphabet.specs.Alphabet.{digit, oneOf}
 use Rattle.text.specs.Words.{Word, all, same}
-use Rattle.text.proofs.Tests.{both, and-both, same-eq, same-self, same-other}
+use Rattle.text.proofs.Tests.{both, and-both, same-eq, same-self, same-other, of-one}
 use Rattle.shape.specs.Numbers.{digits, value}
 use Rattle.shape.specs.Shape.{letters, fits, copies, wide, wides, any}
 use Rattle.shape.proofs.Numbers.{value-below, digits-value, digits-length, value-digits, digits-digits}
@@ -70,15 +70,7 @@ module _ (k l : ℕ) (d : Word) where
 
 -- a byte of one set is not of another that has none of its bytes
 apart : (xs ys : List ℕ) → all (λ x. not (oneOf x ys)) xs ≡ true → (b : ℕ) → oneOf b xs ≡ true → oneOf b ys ≡ false
-apart [] ys a b e = absurd (false≢true e)
-apart (x ∷ xs) ys a b e = go (apart xs ys (h .1) b) (eqb b x) refl e
-  where
-    h : (not (oneOf x ys) ≡ true) × (all (λ x. not (oneOf x ys)) xs ≡ true)
-    h = both (not (oneOf x ys)) (all (λ x. not (oneOf x ys)) xs) a
-
-    go : (oneOf b xs ≡ true → oneOf b ys ≡ false) → (c : Bool) → eqb b x ≡ c → cond c true (oneOf b xs) ≡ true → oneOf b ys ≡ false
-    go ih true p q = ap (λ (z : ℕ). oneOf z ys) (eqb-true b x p) ∙ not-true (oneOf x ys) (h .0)
-    go ih false p q = ih q
+apart xs ys a b e = not-true (oneOf b ys) (of-one (λ x. not (oneOf x ys)) xs a b e)
 
 speed-due : (b : ℕ) (d : Word) → any (wides speeds) (b ∷ d) ≡ true → Due (speedDigits b) d
 unfolding speeds speedDigits letters

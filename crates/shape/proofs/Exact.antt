@@ -3,13 +3,13 @@ use Prim.Native.Nat.{ℕ, zero, suc, _-_, _^_, _<_}
 use mathlib.Core.Path.{_≡_, refl, sym, ap, _∙_}
 use mathlib.Core.Bool.{Bool, true, false, cond, _&&_, _||_, not, false≢true}
 use mathlib.Core.List.{List, [], _∷_, _++_}
-use lib.Dec.{ltb, eqb}
+use lib.Dec.{ltb}
 use lib.ListN.{length, take, drop, take-append-drop}
 use lib.Seq.{take-at, drop-at}
-use borrow.Author.Tests.{not-true, ltb-true, lt-ltb, eqb-true}
+use borrow.Author.Tests.{not-true, ltb-true, lt-ltb}
 use Rattle.alphabet.specs.Alphabet.{digit, oneOf}
-use Rattle.text.specs.Words.{Word, all, free, same, elem}
-use Rattle.text.proofs.Tests.{both, same-eq, same-self, of-elem, other}
+use Rattle.text.specs.Words.{Word, all, same, elem}
+use Rattle.text.proofs.Tests.{both, same-eq, same-self, of-elem, of-one}
 use Rattle.shape.specs.Numbers.{digits, value}
 use Rattle.shape.specs.Shape.{letters, inClass, fits, copies, wide, values, spells, sized, Form, any, wides, pick, formOf, spellForm, validForm}
 use Rattle.shape.proofs.Numbers.{value-below, digits-value, digits-length, value-digits, digits-digits}
@@ -96,17 +96,6 @@ abbrev pub separate : List Word → Bool
 separate [] = true
 separate (u ∷ us) = all (λ t. clash (wide t) (wide u)) us && separate us
 
-pub of-one : (p : ℕ → Bool) (xs : List ℕ) → all p xs ≡ true → (b : ℕ) → oneOf b xs ≡ true → p b ≡ true
-of-one p [] a b e = absurd (false≢true e)
-of-one p (x ∷ xs) a b e = go (of-one p xs (h .1) b) (eqb b x) refl e
-  where
-    h : (p x ≡ true) × (all p xs ≡ true)
-    h = both (p x) (all p xs) a
-
-    go : (oneOf b xs ≡ true → p b ≡ true) → (c : Bool) → eqb b x ≡ c → cond c true (oneOf b xs) ≡ true → p b ≡ true
-    go ih true q e = ap p (eqb-true b x q) ∙ h .0
-    go ih false q e = ih e
-
 disjoint-law : (t u b : ℕ) → disjoint t u ≡ true → inClass t b ≡ true → inClass u b ≡ false
 disjoint-law t u b a e = go (digit t) refl (digit u) refl a e
   where
@@ -166,31 +155,6 @@ form-complete ts s f e =
     let v = values-spells (f .shape) (f .numbers) (h .1) in
     let p = pick-law ts s (f .shape) (spellForm f) (h .0) (v .0) in
     (p .0, rw (p .1, v .1))
-
--- bytes that no shape takes stand in no word that fits
-
-abbrev pub avoids : ℕ → Word → Bool
-avoids c t = all (λ x. not (inClass x c)) t
-
-pub fits-free : (c : ℕ) (t w : Word) → avoids c t ≡ true → fits t w ≡ true → free c w ≡ true
-fits-free c [] [] a e = refl
-fits-free c [] (b ∷ w) a e = absurd (false≢true e)
-fits-free c (t ∷ ts) [] a e = refl
-fits-free c (t ∷ ts) (b ∷ w) a e =
-    let g = both (not (inClass t c)) (avoids c ts) a in
-    let h = both (inClass t b) (fits ts w) e in
-    rw (other (inClass t) c (not-true (inClass t c) (g .0)) b (h .0)) (fits-free c ts w (g .1) (h .1))
-
-pub any-free : (c : ℕ) (ts : List Word) (w : Word) → all (avoids c) ts ≡ true → any ts w ≡ true → free c w ≡ true
-any-free c [] w a e = absurd (false≢true e)
-any-free c (t ∷ ts) w a e = go (any-free c ts w (g .1)) (fits t w) refl e
-  where
-    g : (avoids c t ≡ true) × (all (avoids c) ts ≡ true)
-    g = both (avoids c t) (all (avoids c) ts) a
-
-    go : (any ts w ≡ true → free c w ≡ true) → (b : Bool) → fits t w ≡ b → cond b true (any ts w) ≡ true → free c w ≡ true
-    go ih true p q = fits-free c t w (g .0) p
-    go ih false p q = ih q
 
 -- a test that all digits pass, and all letters of a shape, is passed by every byte of a word that fits it
 pub fits-all : (p : ℕ → Bool) → ((b : ℕ) → digit b ≡ true → p b ≡ true) → (t w : Word) → all (λ x. digit x || all p (letters x)) t ≡ true → fits t w ≡ true → all p w ≡ true

@@ -4,17 +4,17 @@ use mathlib.Core.Path.{_≡_, refl, sym, ap, ap₂, _∙_}
 use mathlib.Core.Bool.{Bool, true, false, cond, not, false≢true}
 use mathlib.Core.List.{List, [], _∷_, _++_}
 use native.Mathlib.Omega.{arith}
-use lib.Dec.{leb, ltb}
-use lib.ListN.{length, length-append}
-use borrow.Author.Tests.{leb-true, ltb-true, lt-ltb}
+use lib.Dec.{ltb}
+use lib.ListN.{length-append}
+use borrow.Author.Tests.{ltb-true, lt-ltb}
 use Rattle.alphabet.specs.Alphabet.{text, inAlphabet, white}
-use Rattle.text.specs.Words.{Word, holds, before, behind, all, null, free, same, tidyByte, tidyWord}
-use Rattle.text.proofs.Tests.{both, all-imp, all-append, all-free, some-length, same-eq}
-use Rattle.text.proofs.Tidy.{text-tidy, tidy-word}
+use Rattle.text.specs.Words.{Word, holds, before, behind, all, null, free, same, tidyByte, tidyWord, textWord}
+use Rattle.text.proofs.Tests.{both, all-imp, all-append, some-length, same-eq}
+use Rattle.text.proofs.Tidy.{text-tidy, oblique-tidy, text-word-free, text-word-tidy}
 use Rattle.text.proofs.Joined.{seam, holds-seam, before-seam, behind-seam, holds-free}
 use Rattle.supplement.specs.declared.Key.{Key}
 use Rattle.supplement.specs.declared.Key.the-variants.{E, P, R, S, J, D, A, N, C, Other}
-use Rattle.supplement.specs.Field19.{keyAmong, keys, keyed, spellKey, place, Part, Field19, keyOf, textWord, wordsOf, validPart, inOrder, opened}
+use Rattle.supplement.specs.Field19.{keyAmong, keys, keyed, spellKey, place, Part, Field19, keyOf, wordsOf, validPart, inOrder, opened}
 use Rattle.supplement.specs.Field19.{spelt, Item, Groups, put, group, itemFits, itemsFit, partsOf}
 use Rattle.supplement.proofs.Parts.{part-read, part-back, part-texts}
 
@@ -121,16 +121,11 @@ abbrev pub itemsOf : Field19 → List Item
 itemsOf [] = []
 itemsOf (p ∷ ps) = record { key = keyOf p; words = wordsOf p } ∷ itemsOf ps
 
--- no oblique stands in a text word
-text-free : (w : Word) → textWord w ≡ true → free 47 w ≡ true
-unfolding text inAlphabet white
-text-free w e = all-free text 47 refl w (both (leb 1 (length w)) (all text w) e .1)
-
 group-more : (l ws : List Word) (is : List Item) → all textWord l ≡ true → group ws ≡ ([], is) → group (l ++ ws) ≡ (l, is)
 group-more [] ws is e g = g
 group-more (w ∷ l) ws is e g =
     let h = both (textWord w) (all textWord l) e in
-    ap (put w) (group-more l ws is (h .1) g) ∙ rw (holds-free 47 w (text-free w (h .0)))
+    ap (put w) (group-more l ws is (h .1) g) ∙ rw (holds-free 47 w (text-word-free w (h .0)))
 
 group-part : (k : Key) (l ws : List Word) (is : List Item) → not (null l) ≡ true → all textWord l ≡ true → group ws ≡ ([], is)
     → group (opened (spellKey k) l ++ ws) ≡ ([], record { key = k; words = l } ∷ is)
@@ -174,22 +169,13 @@ key-tidy N = refl
 key-tidy C = refl
 key-tidy Other = refl
 
-oblique-tidy : tidyByte 47 ≡ true
-unfolding text inAlphabet white
-oblique-tidy = refl
-
-text-tidy-word : (w : Word) → textWord w ≡ true → tidyWord w ≡ true
-text-tidy-word w e =
-    let h = both (leb 1 (length w)) (all text w) e in
-    tidy-word text text-tidy w (leb-true 1 (length w) (h .0)) (h .1)
-
 opened-tidy : (k : Key) (l : List Word) → all textWord l ≡ true → all tidyWord (opened (spellKey k) l) ≡ true
 opened-tidy k [] e = refl
 opened-tidy k (w ∷ l) e =
     let h = both (textWord w) (all textWord l) e in
     let t : all tidyByte (spellKey k ++ (47 ∷ w)) ≡ true
-    = all-append tidyByte (spellKey k) (47 ∷ w) (key-tidy k) (rw oblique-tidy (all-imp text tidyByte text-tidy w (both (leb 1 (length w)) (all text w) (h .0) .1))) in
-    rw (some-length (spellKey k ++ (47 ∷ w)) (rw length-append (omega arith)), t) (all-imp textWord tidyWord text-tidy-word l (h .1))
+    = all-append tidyByte (spellKey k) (47 ∷ w) (key-tidy k) (rw oblique-tidy (all-imp text tidyByte text-tidy w (both (not (null w)) (all text w) (h .0) .1))) in
+    rw (some-length (spellKey k ++ (47 ∷ w)) (rw length-append (omega arith)), t) (all-imp textWord tidyWord text-word-tidy l (h .1))
 
 pub spelt-tidy : (ps : Field19) → all validPart ps ≡ true → all tidyWord (spelt ps) ≡ true
 spelt-tidy [] e = refl

@@ -5,18 +5,17 @@ use mathlib.Core.Bool.{Bool, true, false, cond, not, false≢true}
 use mathlib.Core.List.{List, [], _∷_, _++_}
 use mathlib.Core.Option.{Option, none, some}
 use native.Mathlib.Omega.{arith}
-use lib.Dec.{leb}
-use lib.ListN.{length}
 use Rattle.alphabet.specs.Alphabet.{digit, text, inAlphabet, white}
-use Rattle.text.specs.Words.{Word, all, null, same}
+use Rattle.text.specs.Words.{Word, all, null, same, textWord}
 use Rattle.text.proofs.Tests.{both, and-both, all-imp, all-append, same-eq}
+use Rattle.text.proofs.Tidy.{text-word}
 use Rattle.shape.specs.Time.{elapsedHours, spellElapsed}
 use Rattle.shape.specs.declared.Elapsed.{Elapsed}
 use Rattle.shape.proofs.Times.{time-exact, time-valid, time-fits, time-minutes, time-digits}
 use Rattle.supplement.specs.declared.Key.{Key}
 use Rattle.supplement.specs.declared.Key.the-variants.{E, P, R, S, J, D, A, N, C, Other}
 use Rattle.supplement.specs.Field19.{Part, endurance, persons, radio, survival, jackets, dinghies, aircraft, remarks, pilot, keyOf, count, someOf}
-use Rattle.supplement.specs.Field19.{colour, textWord, radioLetters, survivalLetters, lightLetters, jacketRadioLetters, cover, texts, optionally}
+use Rattle.supplement.specs.Field19.{colour, radioLetters, survivalLetters, lightLetters, jacketRadioLetters, cover, texts, optionally}
 use Rattle.supplement.specs.Field19.{pairFits, pairWords, wordsOf, validPart, afterPair, afterCover, dinghiesFit, itemFits, pairOf, covered, partOf}
 use Rattle.supplement.proofs.Words.{colour-no-count, colour-no-cover, digit-text, count-text, some-text, colour-text}
 
@@ -143,8 +142,7 @@ one-text w e = rw e
 elapsed-text : (t : Elapsed) → validPart (endurance t) ≡ true → textWord (spellElapsed t) ≡ true
 elapsed-text t v =
     let f = time-fits elapsedHours (t .0) (omega arith) v in
-    and-both (leb 1 (length (spellElapsed t))) (all text (spellElapsed t)) refl
-    (all-imp digit text digit-text (spellElapsed t) (time-digits elapsedHours (spellElapsed t) f))
+    text-word digit digit-text (spellElapsed t) (omega arith) (time-digits elapsedHours (spellElapsed t) f)
 
 pair-text : (o : Option (Word × Word)) → optionally pairFits o ≡ true → all textWord (pairWords o) ≡ true
 pair-text none v = refl

@@ -6,7 +6,7 @@ use mathlib.Core.List.{List, [], _∷_, _++_, append-assoc}
 use lib.Dec.{ltb, eqb, leb·suc-suc}
 use lib.ListN.{length, take, drop}
 use borrow.Author.Tests.{eqb-true}
-use Rattle.text.specs.Words.{Word, split, join, upTo, holds, before, behind, all, null, same}
+use Rattle.text.specs.Words.{Word, split, join, upTo, holds, before, behind, all, null, same, textWord}
 use Rattle.text.proofs.Tests.{both}
 use Rattle.shape.specs.Time.{elapsedHours, elapsedFits}
 use Rattle.shape.proofs.Times.{time-exact}
@@ -15,7 +15,7 @@ use Rattle.supplement.specs.declared.Key.the-variants.{E, P, R, S, J, D,
 use Rattle.supplement.specs.declared.Stage.{Stage}
 use Rattle.supplement.specs.declared.Stage.the-variants.{Start, Endurance, Persons, Radio, Survival, Lights, JacketRadio, Number, Capacity, Colours}
 use Rattle.supplement.specs.declared.Stage.the-variants.{Aircraft, Remarks, Pilot, Refused}
-use Rattle.supplement.specs.Field19.{keyed, spellKey, place, keyOf, count, someOf, colour, textWord, radioLetters, survivalLetters, lightLetters}
+use Rattle.supplement.specs.Field19.{keyed, spellKey, place, keyOf, count, someOf, colour, radioLetters, survivalLetters, lightLetters}
 use Rattle.supplement.specs.Field19.{jacketRadioLetters, cover, wordsOf, opened, spelt, spell19, Item, Groups, put, group, afterPair, afterCover}
 use Rattle.supplement.specs.Field19.{itemFits, fits19, partOf, partsOf, record19, sorted, stripped, canonicalPart, canonical19, written19}
 use Rattle.supplement.specs.Walk.{past, shaded, first, further, opens, step, changed, rewrite, rewritten, rewrittenText}

@@ -5,7 +5,7 @@ use mathlib.Core.Bool.{Bool, true, false, cond, _&&_, _||_}
 use mathlib.Core.List.{List, [], _∷_}
 use lib.ListN.{length, take, drop}
 use lib.Dec.{ltb}
-use Rattle.text.specs.Words.{Word, split, holds, before, behind, all, null, same, upTo}
+use Rattle.text.specs.Words.{Word, split, holds, before, behind, all, null, same, upTo, textWord}
 use Rattle.text.proofs.Index.{split-at, after-here, after-end}
 use Rattle.shape.specs.Time.{elapsedFits}
 use Rattle.supplement.specs.declared.Key.{Key}
@@ -13,7 +13,7 @@ use Rattle.supplement.specs.declared.Key.the-variants.{E, P, R, S, J, D,
 use Rattle.supplement.specs.declared.Stage.{Stage}
 use Rattle.supplement.specs.declared.Stage.the-variants.{Start, Endurance, Persons, Radio, Survival, Lights, JacketRadio, Number, Capacity, Colours}
 use Rattle.supplement.specs.declared.Stage.the-variants.{Aircraft, Remarks, Pilot, Refused}
-use Rattle.supplement.specs.Field19.{keyed, place, count, someOf, colour, textWord, radioLetters, survivalLetters, lightLetters, jacketRadioLetters}
+use Rattle.supplement.specs.Field19.{keyed, place, count, someOf, colour, radioLetters, survivalLetters, lightLetters, jacketRadioLetters}
 use Rattle.supplement.specs.Field19.{cover, Item, Groups, put, group, one, afterPair, afterCover, itemFits, itemsFit, groupsFit, fits19}
 use Rattle.supplement.proofs.Words.{no-shade}
 use Rattle.supplement.specs.Walk.{complete, shaded, first, further, opens, step, walked}

@@ -1,18 +1,18 @@
 -- What the words of field 19 may be: each is a text word, and no word is of two kinds where that would matter. Assumes nothing.
 use Prim.Native.Nat.{ℕ}
-use mathlib.Core.Path.{_≡_, refl, sym, ap, _∙_}
-use mathlib.Core.Bool.{Bool, true, false, cond, _&&_, not, false≢true}
+use mathlib.Core.Path.{_≡_, refl, sym, _∙_}
+use mathlib.Core.Bool.{Bool, true, false, _&&_, not, false≢true}
 use mathlib.Core.List.{List, [], _∷_}
 use native.Mathlib.Omega.{arith}
 use lib.Dec.{leb, eqb}
 use lib.ListN.{length}
-use borrow.Author.Tests.{not-true, leb-true, le-leb, lt-leb, eqb-true}
+use borrow.Author.Tests.{not-true, leb-true, lt-leb}
 use Rattle.alphabet.specs.Alphabet.{letter, digit, text, oneOf}
-use Rattle.text.specs.Words.{Word, all, same}
-use Rattle.text.proofs.Tests.{both, and-both, all-imp, other}
-use Rattle.text.proofs.Tidy.{sign-text, letter-sign, digit-sign}
+use Rattle.text.specs.Words.{Word, all, same, textWord}
+use Rattle.text.proofs.Tests.{both, of-one, other}
+use Rattle.text.proofs.Tidy.{sign-text, letter-sign, digit-sign, text-word}
 use Rattle.shape.proofs.Numbers.{digit-range}
-use Rattle.supplement.specs.Field19.{count, lettersFit, someOf, colour, textWord, cover}
+use Rattle.supplement.specs.Field19.{count, lettersFit, someOf, colour, cover}
 
 -- KINDS APART
 
@@ -56,37 +56,24 @@ digit-text b e = sign-text b (digit-sign b e)
 letter-text : (b : ℕ) → letter b ≡ true → text b ≡ true
 letter-text b e = sign-text b (letter-sign b e)
 
--- a test that every letter of a set passes
-
-pub of-set : (p : ℕ → Bool) (set : List ℕ) → all p set ≡ true → (b : ℕ) → oneOf b set ≡ true → p b ≡ true
-of-set p [] a b e = absurd (false≢true e)
-of-set p (x ∷ set) a b e = go (of-set p set (h .1) b) (eqb b x) refl e
-  where
-    h : (p x ≡ true) × (all p set ≡ true)
-    h = both (p x) (all p set) a
-
-    go : (oneOf b set ≡ true → p b ≡ true) → (c : Bool) → eqb b x ≡ c → cond c true (oneOf b set) ≡ true → p b ≡ true
-    go ih true q e = ap p (eqb-true b x q) ∙ h .0
-    go ih false q e = ih e
-
 letters-all : (p : ℕ → Bool) (set : List ℕ) → all p set ≡ true → (w : Word) → lettersFit set w ≡ true → all p w ≡ true
 letters-all p set a [] e = refl
 letters-all p set a (b ∷ w) e =
     let h = both (oneOf b set) _ e in
-    rw (of-set p set a b (h .0)) (letters-all p set a w (both (not (oneOf b w)) _ (h .1) .1))
+    rw (of-one p set a b (h .0)) (letters-all p set a w (both (not (oneOf b w)) _ (h .1) .1))
 
 pub count-text : (most : ℕ) (w : Word) → count most w ≡ true → textWord w ≡ true
 count-text most w e =
     let h = both (leb 1 (length w)) _ e in
-    and-both (leb 1 (length w)) (all text w) (h .0) (all-imp digit text digit-text w (both (leb (length w) most) (all digit w) (h .1) .1))
+    text-word digit digit-text w (leb-true 1 (length w) (h .0)) (both (leb (length w) most) (all digit w) (h .1) .1)
 
 pub some-text : (set : List ℕ) → all letter set ≡ true → (w : Word) → someOf set w ≡ true → textWord w ≡ true
 some-text set a w e =
     let h = both (leb 1 (length w)) _ e in
-    and-both (leb 1 (length w)) (all text w) (h .0) (all-imp letter text letter-text w (letters-all letter set a w (h .1)))
+    text-word letter letter-text w (leb-true 1 (length w) (h .0)) (letters-all letter set a w (h .1))
 
 pub colour-text : (w : Word) → colour w ≡ true → textWord w ≡ true
 colour-text w e =
     let h = both (leb 2 (length w)) _ e in
     let l = leb-true 2 (length w) (h .0) in
-    and-both (leb 1 (length w)) (all text w) (le-leb 1 (length w) (omega arith)) (all-imp letter text letter-text w (h .1))
+    text-word letter letter-text w (omega arith) (h .1)

@@ -8,7 +8,7 @@ use lib.Dec.{leb, ltb, eqb}
 use lib.ListN.{length}
 use Rattle.alphabet.specs.Text.{bytes}
 use Rattle.alphabet.specs.Alphabet.{letter, digit, text, oneOf, inAlphabet, white}
-use Rattle.text.specs.Words.{Word, split, join, holds, before, behind, all, null, same}
+use Rattle.text.specs.Words.{Word, split, join, holds, before, behind, all, null, same, textWord}
 use Rattle.shape.specs.Time.{timeFits, elapsedFits, elapsedOf, spellElapsed, validElapsed}
 use Rattle.shape.specs.declared.Elapsed.{Elapsed}
 use Rattle.shape.specs.Field.{Field}
@@ -97,9 +97,6 @@ someOf set w = leb 1 (length w) && lettersFit set w
 
 abbrev pub colour : Word → Bool
 colour w = leb 2 (length w) && all letter w
-
-abbrev pub textWord : Word → Bool
-textWord w = leb 1 (length w) && all text w
 
 -- the sets, each in its order
 

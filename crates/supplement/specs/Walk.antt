@@ -5,14 +5,14 @@ use mathlib.Core.Bool.{Bool, true, false, cond}
 use mathlib.Core.List.{List, [], _∷_, _++_}
 use lib.Dec.{ltb}
 use lib.ListN.{take, drop}
-use Rattle.text.specs.Words.{Word, split, join, upTo, holds, before, behind, same}
+use Rattle.text.specs.Words.{Word, split, join, upTo, holds, before, behind, same, textWord}
 use Rattle.shape.specs.Time.{elapsedFits}
 use Rattle.supplement.specs.declared.Key.{Key}
 use Rattle.supplement.specs.declared.Key.the-variants.{E, P, R, S, J, D, A, N, C, Other}
 use Rattle.supplement.specs.declared.Stage.{Stage}
 use Rattle.supplement.specs.declared.Stage.the-variants.{Start, Endurance, Persons, Radio, Survival, Lights, JacketRadio, Number, Capacity, Colours}
 use Rattle.supplement.specs.declared.Stage.the-variants.{Aircraft, Remarks, Pilot, Refused}
-use Rattle.supplement.specs.Field19.{keyed, place, count, someOf, colour, textWord, radioLetters, survivalLetters, lightLetters, jacketRadioLetters}
+use Rattle.supplement.specs.Field19.{keyed, place, count, someOf, colour, radioLetters, survivalLetters, lightLetters, jacketRadioLetters}
 use Rattle.supplement.specs.Field19.{cover, sorted, stripped}
 
 -- the place that the next item's key has to be behind; none is behind 9

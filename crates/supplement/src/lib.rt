@@ -6,7 +6,7 @@ ghost use lib.ListN.{length, drop};
 ghost use Rattle.text.specs.Lent.{front};
 ghost use Rattle.supplement.specs.declared.Key.the-variants.{D};
 ghost use Rattle.supplement.specs.declared.Stage.the-variants.{Refused};
-ghost use Rattle.supplement.specs.Field19.{keyed, place as placeOf, count, someOf, colour, textWord, fits19, sorted, stripped, written19};
+ghost use Rattle.supplement.specs.Field19.{keyed, place as placeOf, count, someOf, colour, fits19, sorted, stripped, written19};
 ghost use Rattle.supplement.specs.Walk.{past as pastOf, complete as completeAt, shaded, first as firstOf, further as furtherOf, step as stepOf};
 ghost use Rattle.supplement.specs.Walk.{changed, lead as leadOf, rewrite, rewrittenText};
 
@@ -181,16 +181,6 @@ fn is_colour(w: &[u8]) -> bool
     text::all_of(text::Kind::Letter, w)
 }
 
-// Whether w is a text word.
-fn is_text_word(w: &[u8]) -> bool
-    ensures { λ r. ⌜ r ≡ textWord (now (w .entry)) ⌝ }
-{
-    if w.len() < 1 {
-        return false;
-    }
-    text::all_of(text::Kind::Text, w)
-}
-
 // `then` where a word fits.
 fn taken(fits: bool, then: Stage) -> Stage
     ensures { λ r. ⌜ r ≡ cond fits then Refused ⌝ }
@@ -229,9 +219,9 @@ fn first(key: Key, w: &[u8]) -> Stage
         Key::S => taken(is_some_of(b"PDMJ", w), Stage::Survival),
         Key::J => taken(is_some_of(b"LF", w), Stage::Lights),
         Key::D => first_of_dinghies(w),
-        Key::A => taken(is_text_word(w), Stage::Aircraft),
-        Key::N => taken(is_text_word(w), Stage::Remarks),
-        Key::C => taken(is_text_word(w), Stage::Pilot),
+        Key::A => taken(text::is_text_word(w), Stage::Aircraft),
+        Key::N => taken(text::is_text_word(w), Stage::Remarks),
+        Key::C => taken(text::is_text_word(w), Stage::Pilot),
         Key::Other => Stage::Refused,
     }
 }
@@ -251,9 +241,9 @@ fn further(stage: Stage, w: &[u8]) -> Stage
         Stage::Number => taken(is_count(3, w), Stage::Capacity),
         Stage::Capacity => shade(w),
         Stage::Colours => taken(is_colour(w), Stage::Colours),
-        Stage::Aircraft => taken(is_text_word(w), Stage::Aircraft),
-        Stage::Remarks => taken(is_text_word(w), Stage::Remarks),
-        Stage::Pilot => taken(is_text_word(w), Stage::Pilot),
+        Stage::Aircraft => taken(text::is_text_word(w), Stage::Aircraft),
+        Stage::Remarks => taken(text::is_text_word(w), Stage::Remarks),
+        Stage::Pilot => taken(text::is_text_word(w), Stage::Pilot),
         Stage::Refused => Stage::Refused,
     }
 }
@@ -325,7 +315,8 @@ fn sorted_length(set: &[u8], w: &[u8]) -> usize
 // Writes the letters of a set that stand in w, in the set's order.
 fn put_sorted(set: &[u8], w: &[u8], out: &mut [u8]) -> usize
     requires { ⌜ length (sorted (now set) (now w)) ≤ length (now out) ⌝ }
-    ensures { λ r. ⌜ (r ≡ length (sorted (now (set .entry)) (now (w .entry)))) × (now (out .exit) ≡ front (sorted (now (set .entry)) (now (w .entry))) (now (out .entry))) ⌝ }
+    ensures { λ r. ⌜ (r ≡ length (sorted (now (set .entry)) (now (w .entry))))
+        × (now (out .exit) ≡ front (sorted (now (set .entry)) (now (w .entry))) (now (out .entry))) ⌝ }
 {
     let mut i = 0;
     let mut o = 0;

@@ -1,12 +1,13 @@
--- Laws of tests: of two tests together, of a test at every element, of equal bytes, of a word in a list. Assumes nothing.
-use Prim.Native.Nat.{ℕ, zero, suc, _<_}
+-- Laws of tests: of two tests together, of a test at every element, of equal bytes, of a byte of a set, of a word in a list. Assumes nothing.
+use Prim.Native.Nat.{ℕ, suc, _<_}
 use mathlib.Core.Path.{_≡_, refl, sym, ap, _∙_}
 use mathlib.Core.Bool.{Bool, true, false, cond, _&&_, not, false≢true}
 use mathlib.Core.List.{List, [], _∷_, _++_}
 use native.Mathlib.Omega.{arith}
 use lib.Dec.{eqb}
-use lib.ListN.{length, take, drop}
+use lib.ListN.{length}
 use borrow.Author.Tests.{eq-eqb, ne-eqb, eqb-true}
+use Rattle.alphabet.specs.Alphabet.{oneOf}
 use Rattle.text.specs.Words.{Word, all, null, free, same, elem, rankFrom}
 
 -- TWO TESTS
@@ -27,16 +28,6 @@ all-imp p q f (x ∷ xs) e = let h = both (p x) (all p xs) e in rw (f x (h .0)) 
 pub all-append : {A : Type 0} (p : A → Bool) (v w : List A) → all p v ≡ true → all p w ≡ true → all p (v ++ w) ≡ true
 all-append p [] w e f = f
 all-append p (x ∷ v) w e f = let h = both (p x) (all p v) e in rw (h .0) (all-append p v w (h .1) f)
-
-pub all-take : {A : Type 0} (p : A → Bool) (n : ℕ) (w : List A) → all p w ≡ true → all p (take n w) ≡ true
-all-take p zero w e = refl
-all-take p (suc n) [] e = refl
-all-take p (suc n) (x ∷ w) e = let h = both (p x) (all p w) e in rw (h .0) (all-take p n w (h .1))
-
-pub all-drop : {A : Type 0} (p : A → Bool) (n : ℕ) (w : List A) → all p w ≡ true → all p (drop n w) ≡ true
-all-drop p zero w e = e
-all-drop p (suc n) [] e = refl
-all-drop p (suc n) (x ∷ w) e = all-drop p n w (both (p x) (all p w) e .1)
 
 -- a byte for which a test fails is not one that passes it
 pub other : (p : ℕ → Bool) (c : ℕ) → p c ≡ false → (b : ℕ) → p b ≡ true → not (eqb b c) ≡ true
@@ -81,6 +72,20 @@ same-other s t h = go (same s t) refl
 
 pub same-lengths : (s t : List ℕ) → (length s ≡ length t → ⊥) → same s t ≡ false
 same-lengths s t h = same-other s t (λ e. h (ap length e))
+
+-- A BYTE OF A SET
+
+-- what holds of every byte of a set holds of a byte that is one of it
+pub of-one : (p : ℕ → Bool) (xs : List ℕ) → all p xs ≡ true → (b : ℕ) → oneOf b xs ≡ true → p b ≡ true
+of-one p [] a b e = absurd (false≢true e)
+of-one p (x ∷ xs) a b e = go (of-one p xs (h .1) b) (eqb b x) refl e
+  where
+    h : (p x ≡ true) × (all p xs ≡ true)
+    h = both (p x) (all p xs) a
+
+    go : (oneOf b xs ≡ true → p b ≡ true) → (c : Bool) → eqb b x ≡ c → cond c true (oneOf b xs) ≡ true → p b ≡ true
+    go ih true q e = ap p (eqb-true b x q) ∙ h .0
+    go ih false q e = ih e
 
 -- A WORD IN A LIST
 

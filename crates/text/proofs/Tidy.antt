@@ -9,7 +9,7 @@ use lib.ListN.{length, length-append}
 use borrow.Author.Tests.{not-true}
 use Rattle.alphabet.specs.Text.{bytes}
 use Rattle.alphabet.specs.Alphabet.{oneOf, letter, digit, sign, text, inAlphabet, white}
-use Rattle.text.specs.Words.{Word, join, holds, before, behind, all, null, free, tidyByte, tidyWord, tidy}
+use Rattle.text.specs.Words.{Word, join, holds, before, behind, all, null, free, textWord, tidyByte, tidyWord, tidy}
 use Rattle.text.proofs.Tests.{both, and-both, all-imp, all-append, all-free, other, some-length}
 use Rattle.text.proofs.Joined.{split-join, seam}
 
@@ -71,6 +71,25 @@ digit-tidy b e = sign-tidy b (digit-sign b e)
 pub oblique-tidy : tidyByte 47 ≡ true
 unfolding text inAlphabet white
 oblique-tidy = refl
+
+-- TEXT WORDS
+
+-- a word of one or more bytes that pass a test, where all that pass it are bytes of text words
+pub text-word : (p : ℕ → Bool) → ((b : ℕ) → p b ≡ true → text b ≡ true) → (w : Word) → 0 < length w → all p w ≡ true → textWord w ≡ true
+text-word p f w h e = and-both (not (null w)) (all text w) (some-length w h) (all-imp p text f w e)
+
+no-oblique : text 47 ≡ false
+unfolding text inAlphabet white
+no-oblique = refl
+
+-- a text word holds no oblique, and is tidy
+pub text-word-free : (w : Word) → textWord w ≡ true → free 47 w ≡ true
+text-word-free w e = all-free text 47 no-oblique w (both (not (null w)) (all text w) e .1)
+
+pub text-word-tidy : (w : Word) → textWord w ≡ true → tidyWord w ≡ true
+text-word-tidy w e =
+    let h = both (not (null w)) (all text w) e in
+    and-both (not (null w)) (all tidyByte w) (h .0) (all-imp text tidyByte text-tidy w (h .1))
 
 -- WHICH CONTENTS ARE TIDY
 

@@ -85,6 +85,11 @@ rankFrom k w (v ∷ vs) = cond (same w v) k (rankFrom (suc k) w vs)
 abbrev pub rank : Word → List Word → ℕ
 rank w vs = rankFrom 1 w vs
 
+-- A TEXT WORD: one or more bytes of the alphabet, other than white space and ( ) - /
+
+abbrev pub textWord : Word → Bool
+textWord w = not (null w) && all text w
+
 -- A CONTENT AS A SPELLING HAS IT: words with one space between them, none empty, each of bytes of text words and obliques
 
 abbrev pub tidyByte : ℕ → Bool
@@ -109,6 +114,10 @@ oblique-cut = (refl, refl)
 
 ranked : (rank (bytes "DOF") (split 32 (bytes "STS DOF RMK")) ≡ 2) × (rank (bytes "DO") (split 32 (bytes "STS DOF RMK")) ≡ 0)
 ranked = (refl, refl)
+
+text-words : (textWord (bytes "B.1") ≡ true) × (textWord (bytes "") ≡ false) × (textWord (bytes "A B") ≡ false) × (textWord (bytes "A/B") ≡ false)
+unfolding text inAlphabet white
+text-words = (refl, refl, refl, refl)
 
 tidied : (tidy (bytes "DCT PAM/N0440F310") ≡ true) × (tidy (bytes "DCT  PAM") ≡ false) × (tidy (bytes "") ≡ false) × (tidy (bytes "A-B") ≡ false)
 unfolding tidy text inAlphabet white

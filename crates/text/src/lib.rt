@@ -2,7 +2,7 @@
 ghost use mathlib.Core.Path.{_≡_};
 ghost use Prim.Native.Nat.{ℕ, _+_, _≤_};
 ghost use lib.ListN.{length, drop};
-ghost use Rattle.text.specs.Words.{split, upTo, before, all, same, elem, rank};
+ghost use Rattle.text.specs.Words.{split, upTo, before, all, textWord, same, elem, rank};
 ghost use Rattle.text.specs.Kinds.{ofKind};
 ghost use Rattle.text.specs.Places.{Stepped};
 ghost use Rattle.text.specs.Lent.{front};
@@ -56,6 +56,16 @@ pub fn all_of(k: Kind, w: &[u8]) -> bool
         i += 1;
     }
     true
+}
+
+// Whether w is a text word.
+pub fn is_text_word(w: &[u8]) -> bool
+    ensures { λ r. ⌜ r ≡ textWord (now (w .entry)) ⌝ }
+{
+    if w.len() < 1 {
+        return false;
+    }
+    all_of(Kind::Text, w)
 }
 
 pub fn same_bytes(a: &[u8], b: &[u8]) -> bool

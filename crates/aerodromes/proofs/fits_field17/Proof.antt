@@ -4,9 +4,9 @@ use mathlib.Core.Path.{sym, ap, _∙_}
 use mathlib.Core.List.{List}
 use lib.Seq.{length-take-le}
 use borrow.Author.Tests.{not-true, not-false}
-use Rattle.text.specs.Words.{Word, all, same, split}
+use Rattle.text.specs.Words.{Word, all, same, split, textWord}
 use Rattle.text.proofs.Index.{rest}
-use Rattle.aerodromes.specs.Field17.{textWord, unlisted}
+use Rattle.aerodromes.specs.Field17.{unlisted}
 use Rattle.aerodromes.proofs.Index.{landed-stop, landed-other, landed-bare, landed-place}
 use native.Mathlib.Omega.{arith}
 use borrow.Author.Needs.{needs}

@@ -3,9 +3,8 @@ use Prim.Native.Nat.{_-_, _≤_}
 use mathlib.Core.Path.{_≡_, refl, sym, _∙_}
 use lib.ListN.{length, drop}
 use borrow.Author.Tests.{not-true, not-false}
-use Rattle.text.specs.Words.{all, split}
-use Rattle.aerodromes.specs.Field17.{textWord}
-use Rattle.aerodromes.proofs.Index.{each-stop, each-last, each-next, text-none, text-stop, text-here}
+use Rattle.text.specs.Words.{all, split, textWord}
+use Rattle.aerodromes.proofs.Index.{each-stop, each-last, each-next}
 use borrow.Author.Needs.{needs}
 use native.Mathlib.Omega.{arith}
 use Rattle.aerodromes.proofs.text_words.Statement.{statement}
@@ -23,40 +22,32 @@ loop-holds c = (search needs, refl)
 find-requires : tie.Need-find-requires Inv-loop μ-loop
 find-requires c κs = search needs
 
+sub-is-text-word : tie.Need-sub-is-text-word Inv-loop μ-loop
+sub-is-text-word c = search needs
+
+part-is-text-word-start : tie.Need-part-is-text-word-start Inv-loop μ-loop
+part-is-text-word-start c = search needs
+
+part-is-text-word-end : tie.Need-part-is-text-word-end Inv-loop μ-loop
+part-is-text-word-end c = search needs
+
+is-text-word-requires : tie.Need-is-text-word-requires Inv-loop μ-loop
+is-text-word-requires c κs = search needs
+
 returns : tie.Need-returns Inv-loop μ-loop
 returns c =
-    let s = c .before .before .before .before .args .list .now in
-    let l = c .before .before .loop in
-    let f = c .before .find in
-    sym (l .inv .1 ∙ each-stop textWord s (l .at) (f .result) (f .ensures .0) (text-none s (l .at) (f .result) (c .if1 .taken)))
-
-sub-all-of : tie.Need-sub-all-of Inv-loop μ-loop
-sub-all-of c = search needs
-
-part-all-of-start : tie.Need-part-all-of-start Inv-loop μ-loop
-part-all-of-start c = search needs
-
-part-all-of-end : tie.Need-part-all-of-end Inv-loop μ-loop
-part-all-of-end c = search needs
-
-all-of-requires : tie.Need-all-of-requires Inv-loop μ-loop
-all-of-requires c κs = search needs
+    let s = c .before .before .before .before .before .before .args .list .now in
+    let l = c .before .before .before .before .loop in
+    let f = c .before .before .before .find in
+    let word = sym (c .before .is-text-word .ensures) ∙ not-true _ (c .if1 .taken) in
+    sym (l .inv .1 ∙ each-stop textWord s (l .at) (f .result) (f .ensures .0) word)
 
 returns-2 : tie.Need-returns-2 Inv-loop μ-loop
 returns-2 c =
     let s = c .before .before .before .before .before .before .before .args .list .now in
     let l = c .before .before .before .before .before .loop in
     let f = c .before .before .before .before .find in
-    let word = text-stop s (l .at) (f .result) (sym (c .before .all-of .ensures) ∙ not-true _ (c .if2 .taken)) in
-    sym (l .inv .1 ∙ each-stop textWord s (l .at) (f .result) (f .ensures .0) word)
-
-returns-3 : tie.Need-returns-3 Inv-loop μ-loop
-returns-3 c =
-    let s = c .before .before .before .before .before .before .before .before .args .list .now in
-    let l = c .before .before .before .before .before .before .loop in
-    let f = c .before .before .before .before .before .find in
-    let all-text = sym (c .before .before .all-of .ensures) ∙ not-false _ (c .before .if2 .left) in
-    let word = text-here s (l .at) (f .result) (omega arith) (f .ensures .1 .1) all-text in
+    let word = sym (c .before .before .is-text-word .ensures) ∙ not-false _ (c .before .if1 .left) in
     sym (l .inv .1 ∙ each-last textWord s (l .at) (f .result) (f .ensures .0) word (omega arith))
 
 add-at : tie.Need-add-at Inv-loop μ-loop
@@ -67,11 +58,10 @@ loop-less c = search needs
 
 loop-again : tie.Need-loop-again Inv-loop μ-loop
 loop-again c =
-    let s = c .before .before .before .before .before .before .before .before .args .list .now in
-    let l = c .before .before .before .before .before .before .loop in
-    let f = c .before .before .before .before .before .find in
-    let all-text = sym (c .before .before .all-of .ensures) ∙ not-false _ (c .before .if2 .left) in
-    let word = text-here s (l .at) (f .result) (omega arith) (f .ensures .1 .1) all-text in
+    let s = c .before .before .before .before .before .before .before .args .list .now in
+    let l = c .before .before .before .before .before .loop in
+    let f = c .before .before .before .before .find in
+    let word = sym (c .before .before .is-text-word .ensures) ∙ not-false _ (c .before .if1 .left) in
     (search needs, l .inv .1 ∙ each-next textWord s (l .at) (f .result) (f .ensures .0) word (omega arith))
 
 pub text-words-spec : {M : Type 1} → statement M
@@ -82,13 +72,12 @@ text-words-spec =
     μ-loop
     loop-holds
     find-requires
+    sub-is-text-word
+    part-is-text-word-start
+    part-is-text-word-end
+    is-text-word-requires
     returns
-    sub-all-of
-    part-all-of-start
-    part-all-of-end
-    all-of-requires
     returns-2
-    returns-3
     add-at
     loop-less
     loop-again)
