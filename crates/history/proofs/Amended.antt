@@ -1,0 +1,344 @@
+-- The plan as an accepted message amends it: field by field what the history has, and its contents fit an FPL's forms. Assumes nothing.
+use Prim.Native.Nat.{ℕ, zero, suc, _+_, _-_, _≤_, _<_}
+use mathlib.Core.Path.{_≡_, refl, sym, ap, ap₂, subst, fun-ext, _∙_}
+use mathlib.Core.Bool.{Bool, true, false, cond, false≢true}
+use mathlib.Core.List.{List, [], _∷_, _++_, map}
+use mathlib.Core.Option.{Option, none, some, Option·getD}
+use native.Mathlib.Omega.{arith}
+use lib.Dec.{eqb}
+use lib.ListN.{length, take, drop, getD, set, take-append-drop}
+use borrow.Author.Tests.{eqb-true, eqb-false, eq-eqb, ne-eqb}
+use Rattle.alphabet.specs.Text.{bytes}
+use Rattle.text.specs.Words.{Word, before, behind, all, same, rank}
+use Rattle.text.proofs.Tests.{both, and-both, same-eq, same-self}
+use Rattle.shape.specs.Field.{Field}
+use Rattle.shape.specs.Time.{clockHours, timeFits}
+use Rattle.head.specs.Field3.{field3}
+use Rattle.aerodromes.specs.Aerodromes.{fourLetters, timed}
+use Rattle.aerodromes.specs.Field13.{fits13}
+use Rattle.aerodromes.proofs.Aerodromes.{timed-four, timed-time, cut-aerodrome, cut-joined}
+use Rattle.other.specs.Field18.{field18}
+use Rattle.records.specs.Records.{fitAll}
+use Rattle.kinds.specs.declared.MessageType.{MessageType}
+use Rattle.kinds.specs.declared.MessageType.the-variants.{Fpl, Chg, Cnl, Dla, Dep, Arr, Rqp, Rqs, Spl}
+use Rattle.kinds.specs.Kinds.{formsOf, planForms, briefForms, entries}
+use Rattle.forms.specs.Field22.{labels, labelOf, named as namedFields, fieldNamed, whichOf, fits22}
+use Rattle.forms.specs.Forms.{fieldOf}
+use Rattle.forms.proofs.Field22.{fitting}
+use Rattle.forms.proofs.Labels.{label-ranked, ranked-label}
+use Rattle.message.specs.Reading.{unexplainedIn}
+use Rattle.message.specs.Message.{fieldsOf}
+use Rattle.message.proofs.Valid.{Fitting, fitting-length}
+use Rattle.force.specs.InForce.{lookup, namedBy, fieldsFrom}
+use Rattle.strip.specs.Updating.{plan, said, amended}
+use Rattle.history.specs.History.{Part, placeFor, numberFor, within, planIn, nine, Told, named, givenBy, withTold}
+use Rattle.history.specs.History.Part.{heading, identification, rules, aircraft, equipment, aerodrome, offBlock, route, destination, other}
+
+-- A LIST OF FIELDS BY THEIR PLACES
+
+from-shift : (g : ℕ → Word) (j n : ℕ) → fieldsFrom (λ k. g (suc k)) j n ≡ fieldsFrom g (suc j) n
+from-shift g j zero = refl
+from-shift g j (suc n) = ap (λ (ws : List Word). g (suc j) ∷ ws) (from-shift g (suc j) n)
+
+from-places : (cs : List Word) → cs ≡ fieldsFrom (λ k. getD cs k []) 0 (length cs)
+from-places [] = refl
+from-places (c ∷ cs) = ap (λ (ws : List Word). c ∷ ws) (from-places cs ∙ from-shift (λ k. getD (c ∷ cs) k []) 0 (length cs))
+
+pub nine-places : (cs : List Word) → length cs ≡ 9 → cs ≡ fieldsFrom (λ k. getD cs k []) 0 9
+nine-places cs e = from-places cs ∙ ap (fieldsFrom (λ k. getD cs k []) 0) e
+
+pub fit-at : (d : Field) (fs : List Field) (cs : List Word) → fitAll fs cs ≡ true → (i : ℕ) → i < length fs → getD fs i d .fits (getD cs i []) ≡ true
+fit-at d [] cs e i l = absurd (omega arith)
+fit-at d (f ∷ fs) [] e i l = absurd (false≢true e)
+fit-at d (f ∷ fs) (c ∷ cs) e zero l = both (f .fits c) (fitAll fs cs) e .0
+fit-at d (f ∷ fs) (c ∷ cs) e (suc i) l = fit-at d fs cs (both (f .fits c) (fitAll fs cs) e .1) i (omega arith)
+
+fit-from : (d : Field) (g : ℕ → Word) (fs : List Field) (j : ℕ) → ((i : ℕ) → i < length fs → getD fs i d .fits (g (j + i)) ≡ true)
+    → fitAll fs (fieldsFrom g j (length fs)) ≡ true
+fit-from d g [] j h = refl
+fit-from d g (f ∷ fs) j h =
+    let z : j + 0 ≡ j = omega arith in
+    and-both (f .fits (g j)) _ (subst (λ (k : ℕ). f .fits (g k) ≡ true) z (h 0 (omega arith)))
+    (fit-from d g fs (suc j) (λ i l. shifted i (h (suc i) (omega arith))))
+  where
+    shifted : (i : ℕ) → getD fs i d .fits (g (j + suc i)) ≡ true → getD fs i d .fits (g (suc j + i)) ≡ true
+    shifted i e = let z : j + suc i ≡ suc j + i = omega arith in subst (λ (k : ℕ). getD fs i d .fits (g k) ≡ true) z e
+
+fit-behind : (i : ℕ) (fs : List Field) (cs : List Word) → fitAll fs cs ≡ true → fitAll (drop i fs) (drop i cs) ≡ true
+fit-behind zero fs cs e = e
+fit-behind (suc i) [] [] e = refl
+fit-behind (suc i) [] (c ∷ cs) e = absurd (false≢true e)
+fit-behind (suc i) (f ∷ fs) [] e = absurd (false≢true e)
+fit-behind (suc i) (f ∷ fs) (c ∷ cs) e = fit-behind i fs cs (both (f .fits c) (fitAll fs cs) e .1)
+
+-- THE NINE FIELDS OF AN FPL: field 3, and those that an entry can name
+
+abbrev planFields : List Field
+planFields = field3 ∷ namedFields
+
+plan-fields : fieldsOf Fpl 9 ≡ planFields
+unfolding formsOf planForms
+plan-fields = refl
+
+pub plan-fit : (cs : List Word) → Fitting Fpl 9 cs → (i : ℕ) → i < 9 → getD planFields i field18 .fits (getD cs i []) ≡ true
+plan-fit cs f i l = fit-at field18 planFields cs (ap (λ (fs : List Field). fitAll fs cs) (sym plan-fields) ∙ f .fit) i l
+
+-- nine fields of which each fits, field 3 as it was, nothing unexplained
+nine-fit : (cs : List Word) → Fitting Fpl 9 cs → (g : ℕ → Word) → ((i : ℕ) → i < 9 → getD planFields i field18 .fits (g i) ≡ true) → g 0 ≡ getD cs 0 []
+    → unexplainedIn (fieldsFrom g 0 9) ≡ 0 → Fitting Fpl 9 (fieldsFrom g 0 9)
+unfolding formsOf planForms
+nine-fit cs f g h q u =
+    record {
+      least = omega arith;
+      most = omega arith;
+      fit = fit-from field18 g planFields 0 (λ i l. let z : i ≡ 0 + i = omega arith in subst (λ (k : ℕ). getD planFields i field18 .fits (g k) ≡ true) z (h i l));
+      named = ap (take 3) q ∙ f .named;
+      once = refl;
+      explains = eq-eqb (unexplainedIn (fieldsFrom g 0 9)) 0 u;
+    }
+
+-- ENTRIES
+
+entries-fit : (k : ℕ) (es : List Word) → fitAll (map fieldOf (entries k)) es ≡ true → all fits22 es ≡ true
+entries-fit zero [] e = refl
+entries-fit zero (w ∷ es) e = absurd (false≢true e)
+entries-fit (suc k) [] e = refl
+entries-fit (suc k) (w ∷ es) e =
+    let h = both (fits22 w) (fitAll (map fieldOf (entries k)) es) e in
+    and-both (fits22 w) (all fits22 es) (h .0) (entries-fit k es (h .1))
+
+-- behind a CHG's first five fields
+pub change-entries : (n : ℕ) (ds : List Word) → Fitting Chg n ds → all fits22 (drop 5 ds) ≡ true
+unfolding formsOf briefForms
+change-entries n ds f = entries-fit (n - 5) (drop 5 ds) (fit-behind 5 (fieldsOf Chg n) ds (f .fit))
+
+-- an entry's content fits the field that it names
+lookup-fits : (k : ℕ) (es : List Word) → all fits22 es ≡ true → (w : Word) → lookup k es ≡ some w → fieldNamed k .fits w ≡ true
+lookup-fits k [] a w e = let z : _≡_ {A = ℕ} 0 1 = cc in absurd (omega arith)
+lookup-fits k (v ∷ es) a w e = go (lookup-fits k es (both (fits22 v) (all fits22 es) a .1) w) (eqb (whichOf v) k) refl e
+  where
+    go : (lookup k es ≡ some w → fieldNamed k .fits w ≡ true) → (b : Bool) → eqb (whichOf v) k ≡ b
+        → cond b (some (behind 47 v)) (lookup k es) ≡ some w → fieldNamed k .fits w ≡ true
+    go ih true p q =
+        let z : behind 47 v ≡ w = cc in
+        let h = fitting v (both (fits22 v) (all fits22 es) a .0) .rest in
+        subst (λ (c : Word). fieldNamed k .fits c ≡ true) z (subst (λ (n : ℕ). fieldNamed n .fits (behind 47 v) ≡ true) (eqb-true (whichOf v) k p) h)
+    go ih false p q = ih q
+
+-- an entry names the field of rank k exactly where its number is that field's
+ranked-same : (v : Word) (k : ℕ) → 1 ≤ k → k ≤ 8 → same (before 47 v) (labelOf k) ≡ eqb (whichOf v) k
+ranked-same v k l g = go (eqb (whichOf v) k) refl (same (before 47 v) (labelOf k)) refl
+  where
+    go : (b : Bool) → eqb (whichOf v) k ≡ b → (c : Bool) → same (before 47 v) (labelOf k) ≡ c → c ≡ b
+    go true p c q =
+        let e = eqb-true (whichOf v) k p in
+        let w : labelOf k ≡ before 47 v = ap labelOf (sym e) ∙ ranked-label (before 47 v) (omega (arith, e)) .spelt in
+        sym q ∙ ap (same (before 47 v)) w ∙ same-self (before 47 v)
+    go false p true q =
+        let e : whichOf v ≡ k = ap (λ (w : Word). rank w labels) (same-eq (before 47 v) (labelOf k) q) ∙ label-ranked k l g .0 in
+        absurd (eqb-false (whichOf v) k p e)
+    go false p false q = refl
+
+module _ (f : Part) (k : ℕ) (q : numberFor f ≡ labelOf k) (l : 1 ≤ k) (g : k ≤ 8) (c : Word) where
+  -- what the history looks up by number is what is looked up by rank
+  lookup-named : (es : List Word) → Option·getD (named f es) (within f c) ≡ within f (Option·getD (lookup k es) c)
+  lookup-named [] = refl
+  lookup-named (v ∷ es) =
+      ap (λ (b : Bool). Option·getD (cond b (some (within f (behind 47 v))) (named f es)) (within f c))
+      (ap (same (before 47 v)) q ∙ ranked-same v k l g)
+      ∙ go (lookup-named es) (eqb (whichOf v) k)
+    where
+      go : Option·getD (named f es) (within f c) ≡ within f (Option·getD (lookup k es) c) → (b : Bool)
+          → Option·getD (cond b (some (within f (behind 47 v))) (named f es)) (within f c)
+          ≡ within f (Option·getD (cond b (some (behind 47 v)) (lookup k es)) c)
+      go ih true = refl
+      go ih false = ih
+
+-- no entry names field 3
+three-unranked : rank (bytes "3") labels ≡ 0
+unfolding labels
+three-unranked = refl
+
+no-heading : (es : List Word) → all fits22 es ≡ true → named heading es ≡ none
+no-heading [] a = refl
+no-heading (v ∷ es) a = go (no-heading es (both (fits22 v) (all fits22 es) a .1)) (same (before 47 v) (bytes "3")) refl
+  where
+    go : named heading es ≡ none → (b : Bool) → same (before 47 v) (bytes "3") ≡ b → cond b (some (behind 47 v)) (named heading es) ≡ none
+    go ih true p =
+        let z : whichOf v ≡ 0 = ap (λ (w : Word). rank w labels) (same-eq (before 47 v) (bytes "3") p) ∙ three-unranked in
+        absurd (omega (arith, z, fitting v (both (fits22 v) (all fits22 es) a .0) .some))
+    go ih false p = ih
+
+changed-part : (f : Part) (es : List Word) → all fits22 es ≡ true → (c : Word)
+    → within f (Option·getD (cond (eqb (placeFor f) 0) none (lookup (placeFor f) es)) c) ≡ Option·getD (named f es) (within f c)
+unfolding labels
+changed-part heading es a c = sym (ap (λ (o : Option (List ℕ)). Option·getD o c) (no-heading es a))
+changed-part identification es a c = sym (lookup-named identification 1 refl (omega arith) (omega arith) c es)
+changed-part rules es a c = sym (lookup-named rules 2 refl (omega arith) (omega arith) c es)
+changed-part aircraft es a c = sym (lookup-named aircraft 3 refl (omega arith) (omega arith) c es)
+changed-part equipment es a c = sym (lookup-named equipment 4 refl (omega arith) (omega arith) c es)
+changed-part aerodrome es a c = sym (lookup-named aerodrome 5 refl (omega arith) (omega arith) c es)
+changed-part offBlock es a c = sym (lookup-named offBlock 5 refl (omega arith) (omega arith) c es)
+changed-part route es a c = sym (lookup-named route 6 refl (omega arith) (omega arith) c es)
+changed-part destination es a c = sym (lookup-named destination 7 refl (omega arith) (omega arith) c es)
+changed-part other es a c = sym (lookup-named other 8 refl (omega arith) (omega arith) c es)
+
+-- A TIME PUT IN
+
+module _ (a b : Word) (p : fits13 a ≡ true) (q : fits13 b ≡ true) where
+  retimed-aerodrome : take 4 (take 4 a ++ drop 4 b) ≡ take 4 a
+  retimed-aerodrome = cut-aerodrome (take 4 a) (timed-four clockHours a p) (drop 4 b)
+
+  retimed-time : drop 4 (take 4 a ++ drop 4 b) ≡ drop 4 b
+  retimed-time = cut-joined (take 4 a) (timed-four clockHours a p) (drop 4 b)
+
+  retimed-fits : fits13 (take 4 a ++ drop 4 b) ≡ true
+  unfolding timed
+  retimed-fits =
+      and-both (fourLetters (take 4 (take 4 a ++ drop 4 b))) (timeFits clockHours (drop 4 (take 4 a ++ drop 4 b)))
+      (ap fourLetters retimed-aerodrome ∙ timed-four clockHours a p)
+      (ap (timeFits clockHours) retimed-time ∙ timed-time clockHours b q)
+
+-- THE FIELDS AFTER A MESSAGE of contents ds, by their places
+
+abbrev after : MessageType → List Word → List Word → ℕ → Word
+after Chg cs ds k = Option·getD (cond (eqb k 0) none (lookup k (drop 5 ds))) (getD cs k [])
+after Dla cs ds k = cond (eqb k 5) (take 4 (getD cs 5 []) ++ drop 4 (getD ds 2 [])) (getD cs k [])
+after Cnl cs ds k = getD cs k []
+after Dep cs ds k = getD cs k []
+after Arr cs ds k = getD cs k []
+after Fpl cs ds k = getD cs k []
+after Rqp cs ds k = getD cs k []
+after Rqs cs ds k = getD cs k []
+after Spl cs ds k = getD cs k []
+
+amended-after : (t : MessageType) (strip m : List ℕ) → length (plan strip) ≡ 9 → amended t strip m ≡ fieldsFrom (after t (plan strip) (said t m)) 0 9
+unfolding namedBy
+amended-after Chg strip m e = refl
+amended-after Dla strip m e =
+    ap (λ (cs : List Word). set cs 5 (take 4 (getD (plan strip) 5 []) ++ drop 4 (getD (said Dla m) 2 []))) (nine-places (plan strip) e)
+amended-after Cnl strip m e = nine-places (plan strip) e
+amended-after Dep strip m e = nine-places (plan strip) e
+amended-after Arr strip m e = nine-places (plan strip) e
+amended-after Fpl strip m e = nine-places (plan strip) e
+amended-after Rqp strip m e = nine-places (plan strip) e
+amended-after Rqs strip m e = nine-places (plan strip) e
+amended-after Spl strip m e = nine-places (plan strip) e
+
+nine-parts : (g : ℕ → Word) → nine (λ f. within f (g (placeFor f))) ≡ fieldsFrom g 0 9
+nine-parts g = ap (λ (w : Word). g 0 ∷ g 1 ∷ g 2 ∷ g 3 ∷ g 4 ∷ w ∷ g 6 ∷ g 7 ∷ g 8 ∷ []) (take-append-drop 4 (g 5))
+
+place-after : (g : ℕ → Word) (p : Part) → getD (fieldsFrom g 0 9) (placeFor p) [] ≡ g (placeFor p)
+place-after g heading = refl
+place-after g identification = refl
+place-after g rules = refl
+place-after g aircraft = refl
+place-after g equipment = refl
+place-after g aerodrome = refl
+place-after g offBlock = refl
+place-after g route = refl
+place-after g destination = refl
+place-after g other = refl
+
+-- the contents of the plan of nine contents
+pub nine-plan : (cs : List Word) → length cs ≡ 9 → nine (planIn cs) ≡ cs
+nine-plan cs e = nine-parts (λ k. getD cs k []) ∙ sym (nine-places cs e)
+
+-- what is asked of the message's contents
+pub record Sayings (t : MessageType) (ds : List Word) : Type 0 where
+  pub entries-right : t ≡ Chg → all fits22 (drop 5 ds) ≡ true
+  pub time-right : t ≡ Dla → fits13 (getD ds 2 []) ≡ true
+
+module _ (cs ds : List Word) (f : Fitting Fpl 9 cs) where
+  thirteen : fits13 (getD cs 5 []) ≡ true
+  thirteen = plan-fit cs f 5 (omega arith)
+
+  part-after : (t : MessageType) → Sayings t ds → (p : Part) → within p (after t cs ds (placeFor p)) ≡ Option·getD (givenBy t ds p) (planIn cs p)
+  part-after Chg s p = changed-part p (drop 5 ds) (s .entries-right refl) (getD cs (placeFor p) [])
+  part-after Dla s heading = refl
+  part-after Dla s identification = refl
+  part-after Dla s rules = refl
+  part-after Dla s aircraft = refl
+  part-after Dla s equipment = refl
+  part-after Dla s aerodrome = retimed-aerodrome (getD cs 5 []) (getD ds 2 []) thirteen (s .time-right refl)
+  part-after Dla s offBlock = retimed-time (getD cs 5 []) (getD ds 2 []) thirteen (s .time-right refl)
+  part-after Dla s route = refl
+  part-after Dla s destination = refl
+  part-after Dla s other = refl
+  part-after Cnl s p = refl
+  part-after Dep s p = refl
+  part-after Arr s p = refl
+  part-after Fpl s p = refl
+  part-after Rqp s p = refl
+  part-after Rqs s p = refl
+  part-after Spl s p = refl
+
+  changed-fit : all fits22 (drop 5 ds) ≡ true → (i : ℕ) → i < 9 → getD planFields i field18 .fits (after Chg cs ds i) ≡ true
+  changed-fit a zero l = plan-fit cs f 0 l
+  changed-fit a (suc i) l =
+      ap (λ (b : Bool). getD planFields (suc i) field18 .fits (Option·getD (cond b none (lookup (suc i) (drop 5 ds))) (getD cs (suc i) [])))
+      (ne-eqb (suc i) 0 (λ z. omega arith))
+      ∙ go (lookup (suc i) (drop 5 ds)) refl
+    where
+      go : (o : Option Word) → lookup (suc i) (drop 5 ds) ≡ o → getD planFields (suc i) field18 .fits (Option·getD o (getD cs (suc i) [])) ≡ true
+      go none q = plan-fit cs f (suc i) l
+      go (some w) q =
+          let z : suc i - 1 ≡ i = omega arith in
+          subst (λ (k : ℕ). getD namedFields k field18 .fits w ≡ true) z (lookup-fits (suc i) (drop 5 ds) a w q)
+
+  delayed-fit : fits13 (getD ds 2 []) ≡ true → (i : ℕ) → i < 9 → getD planFields i field18 .fits (after Dla cs ds i) ≡ true
+  delayed-fit a i l = go (eqb i 5) refl
+    where
+      w : Word
+      w = take 4 (getD cs 5 []) ++ drop 4 (getD ds 2 [])
+
+      go : (b : Bool) → eqb i 5 ≡ b → getD planFields i field18 .fits (cond b w (getD cs i [])) ≡ true
+      go true q = subst (λ (k : ℕ). getD planFields k field18 .fits w ≡ true) (sym (eqb-true i 5 q)) (retimed-fits (getD cs 5 []) (getD ds 2 []) thirteen a)
+      go false q = plan-fit cs f i l
+
+  after-fit : (t : MessageType) → Sayings t ds → (i : ℕ) → i < 9 → getD planFields i field18 .fits (after t cs ds i) ≡ true
+  after-fit Chg s i l = changed-fit (s .entries-right refl) i l
+  after-fit Dla s i l = delayed-fit (s .time-right refl) i l
+  after-fit Cnl s i l = plan-fit cs f i l
+  after-fit Dep s i l = plan-fit cs f i l
+  after-fit Arr s i l = plan-fit cs f i l
+  after-fit Fpl s i l = plan-fit cs f i l
+  after-fit Rqp s i l = plan-fit cs f i l
+  after-fit Rqs s i l = plan-fit cs f i l
+  after-fit Spl s i l = plan-fit cs f i l
+
+  after-first : (t : MessageType) → after t cs ds 0 ≡ getD cs 0 []
+  after-first Chg = refl
+  after-first Dla = refl
+  after-first Cnl = refl
+  after-first Dep = refl
+  after-first Arr = refl
+  after-first Fpl = refl
+  after-first Rqp = refl
+  after-first Rqs = refl
+  after-first Spl = refl
+
+  module _ (t : MessageType) (s : Sayings t ds) where
+    abbrev said-to : Told
+    said-to = record { type = t; fields = ds }
+
+    after-nine : fieldsFrom (after t cs ds) 0 9 ≡ nine (withTold (planIn cs) said-to)
+    after-nine = sym (nine-parts (after t cs ds)) ∙ ap nine (fun-ext (λ p. part-after t s p))
+
+    -- the contents of the amended plan fit
+    pub amended-fits : unexplainedIn (nine (withTold (planIn cs) said-to)) ≡ 0 → Fitting Fpl 9 (nine (withTold (planIn cs) said-to))
+    amended-fits u =
+        subst (Fitting Fpl 9) after-nine
+        (nine-fit cs f (after t cs ds) (after-fit t s) (after-first t) (ap unexplainedIn after-nine ∙ u))
+
+    -- and they are what the update makes
+    pub amended-nine : (strip m : List ℕ) → plan strip ≡ cs → said t m ≡ ds → amended t strip m ≡ nine (withTold (planIn cs) said-to)
+    amended-nine strip m p q =
+        amended-after t strip m (ap length p ∙ fitting-length Fpl 9 cs f)
+        ∙ ap₂ (λ (x y : List Word). fieldsFrom (after t x y) 0 9) p q
+        ∙ after-nine
+
+    -- a part of the amended plan is cut from its contents
+    pub amended-part : (p : Part) → planIn (nine (withTold (planIn cs) said-to)) p ≡ withTold (planIn cs) said-to p
+    amended-part p =
+        ap (λ (ws : List Word). planIn ws p) (sym after-nine) ∙ ap (within p) (place-after (after t cs ds) p) ∙ part-after t s p

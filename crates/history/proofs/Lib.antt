@@ -1,0 +1,10 @@
+pub mod Strip
+pub mod Amended
+pub mod Late
+pub mod Causes
+pub mod Latest
+pub mod Entries
+pub mod Demand3
+pub mod Examples
+pub mod Refuted
+pub mod Only

@@ -1,0 +1,154 @@
+-- Updaters that the third demand stops: one that refuses all, one that does nothing, one that copies the strip, one that applies only the first
+-- entry, and one that applies only the first message. Assumes nothing.
+use Prim.Native.Nat.{ℕ}
+use mathlib.Core.Path.{_≡_, refl, sym, ap, subst, fun-ext, _∙_}
+use mathlib.Core.Bool.{Bool, true, false, false≢true}
+use mathlib.Core.List.{List, [], _∷_}
+use native.Mathlib.Omega.{arith}
+use lib.ListN.{length, getD, replicate}
+use Rattle.sent.specs.Sent.{contents}
+use Rattle.kinds.specs.declared.MessageType.the-variants.{Fpl}
+use Rattle.message.specs.declared.Answer.the-variants.{Accepted as ReadAs}
+use Rattle.message.specs.Reading.{spellingOf, faultIn, countAs, answerOf}
+use Rattle.state.specs.declared.State.{State}
+use Rattle.state.specs.declared.State.the-variants.{Filed}
+use Rattle.strip.specs.declared.Updated.{Updated}
+use Rattle.strip.specs.declared.Updated.the-variants.{Accepted, Refused}
+use Rattle.strip.specs.Updating.{canonicalPlan, updateOf, outAfter}
+use Rattle.history.specs.History.{planIn, spelled, given, planBy}
+use Rattle.history.specs.Demand3.{Updater, Offer, offeredAll, logAll, answered, Cause, filedAs, Meets}
+use Rattle.history.specs.Slips.{refusesAll, doesNothing, copies, firstEntry, firstMessage}
+use Rattle.history.proofs.Causes.{cause-refused}
+use Rattle.history.proofs.Latest.{left-latest}
+use Rattle.history.proofs.Examples.{filing, change, filing-read}
+use Rattle.alphabet.specs.Text.{bytes}
+use Rattle.alphabet.specs.Alphabet.{text, inAlphabet, white}
+use Rattle.text.specs.Lent.{front}
+use Rattle.shape.specs.Shape.{letters}
+use Rattle.shape.specs.Time.{timeFits}
+use Rattle.space.specs.Reduced.{opens, closes, standsForRun, reducedFrom, reduced}
+use Rattle.space.specs.Hyphens.{hyphens}
+use Rattle.outer.specs.Outer.{parensFrom, parens, lettersFrom, outer}
+use Rattle.head.specs.Field3.{types, fits3, numbersFit}
+use Rattle.head.specs.Field7.{fits7}
+use Rattle.head.specs.Field8.{fits8}
+use Rattle.head.specs.Field9.{fits9, countFits, aircraftFits}
+use Rattle.equipment.specs.Field10.{fits10, valid10, present}
+use Rattle.aerodromes.specs.Aerodromes.{fourLetters, timed}
+use Rattle.aerodromes.specs.Field16.{fits16plan}
+use Rattle.route.specs.Levels.{speedDigits, levelDigits, speeds, levels, starts}
+use Rattle.route.specs.Points.{within, radialFits, indicators, nameFits, pointFits}
+use Rattle.route.specs.Field15.{elementFits, fits15}
+use Rattle.other.specs.Field18.{fitsIn, hasKey}
+use Rattle.kinds.specs.Kinds.{planForms, briefForms, formsOf, typesRead, typeRanked, typeNamed}
+use Rattle.forms.specs.Field22.{labels, fits22, fault22}
+use Rattle.plan.specs.Unexplained.{unexplained}
+use Rattle.force.specs.InForce.{namedBy}
+
+-- WHAT AN UPDATER THAT MEETS THE DEMAND DOES
+
+module _ (U : Updater) (h : Meets U) (m : List ℕ) (room n : ℕ) (e : answerOf m room ≡ ReadAs Fpl n) (run : List Offer) where
+  -- its strip is the history's
+  pub meets-strip : offeredAll U (filedAs m) run .strip ≡ spelled (planBy (planIn (contents m)) (logAll U (filedAs m) [] run))
+  meets-strip =
+      let d = h m room n e run in
+      d .strip-is ∙ ap spelled (fun-ext (λ f. left-latest (given f) (planIn (contents m) f) (logAll U (filedAs m) [] run) (d .plan f) (d .parts f)))
+
+  -- and it refuses only what the update refuses
+  pub meets-refused : (o : Offer) (number field place : ℕ) → answered U (offeredAll U (filedAs m) run) o ≡ Refused number field place
+      → updateOf (offeredAll U (filedAs m) run .strip) (offeredAll U (filedAs m) run .state) (o .bytes) (length (o .lent)) ≡ Refused number field place
+  meets-refused o number field place q =
+      let d = h m room n e run in
+      let b = offeredAll U (filedAs m) run in
+      cause-refused (b .strip) (b .state) (o .bytes) (length (o .lent)) number field place
+      (subst (λ (w : List ℕ). Cause w (b .state) (o .bytes) (length (o .lent)) number field place) (sym (d .strip-is))
+      (subst (λ (x : State). Cause (spelled (d .plan)) x (o .bytes) (length (o .lent)) number field place) (sym (d .state-is))
+      (d .refused-cause o number field place q)))
+
+abbrev pub accepts : Updated → Bool
+accepts (Accepted held n) = true
+accepts (Refused number field place) = false
+
+-- OFFERS to document 01's strip
+
+abbrev changing : Offer
+changing = record { bytes = change; lent = replicate 75 0 }
+
+abbrev again : Offer
+again = record { bytes = bytes "(CHG-ABC12-EHAM0930-EDDF-0-8/VS)"; lent = replicate 75 0 }
+
+-- ONE THAT REFUSES ALL
+
+change-taken : accepts (updateOf (filedAs filing .strip) Filed change 75) ≡ true
+unfolding answerOf countAs faultIn spellingOf outer parens parensFrom lettersFrom inAlphabet white text reduced reducedFrom standsForRun opens closes
+    hyphens typeNamed typeRanked typesRead types formsOf planForms briefForms fits3 numbersFit fits7 fits8 fits9 countFits aircraftFits fits10
+    valid10 present fits16plan fits15 starts speeds levels speedDigits levelDigits elementFits letters within radialFits indicators nameFits
+    pointFits fourLetters timed timeFits fitsIn unexplained hasKey labels fits22 fault22 canonicalPlan updateOf namedBy outAfter front
+change-taken = refl
+
+pub refuses-all-fails : (number field place : ℕ) → Meets (refusesAll number field place) → ⊥
+refuses-all-fails number field place h =
+    let q = meets-refused (refusesAll number field place) h filing 1800 75 filing-read [] changing number field place refl in
+    false≢true (sym (ap accepts q) ∙ change-taken)
+
+-- ONE THAT DOES NOTHING
+
+nothing-left : getD (offeredAll doesNothing (filedAs filing) (changing ∷ []) .strip) 0 0 ≡ 0
+unfolding answerOf countAs faultIn spellingOf outer parens parensFrom lettersFrom inAlphabet white text reduced reducedFrom standsForRun opens closes
+    hyphens typeNamed typeRanked typesRead types formsOf planForms briefForms fits3 numbersFit fits7 fits8 fits9 countFits aircraftFits fits10
+    valid10 present fits16plan fits15 starts speeds levels speedDigits levelDigits elementFits letters within radialFits indicators nameFits
+    pointFits fourLetters timed timeFits fitsIn unexplained hasKey labels fits22 fault22 canonicalPlan updateOf namedBy outAfter front
+nothing-left = refl
+
+pub does-nothing-fails : Meets doesNothing → ⊥
+does-nothing-fails h =
+    let z : _≡_ {A = ℕ} 0 40 = sym nothing-left ∙ ap (λ (w : List ℕ). getD w 0 0) (h filing 1800 75 filing-read (changing ∷ []) .strip-is) in
+    omega arith
+
+-- ONE THAT COPIES THE STRIP: byte 12 is the second letter of field 8
+
+copied-byte : (getD (offeredAll copies (filedAs filing) (changing ∷ []) .strip) 12 0 ≡ 83)
+    × (getD (spelled (planBy (planIn (contents filing)) (logAll copies (filedAs filing) [] (changing ∷ [])))) 12 0 ≡ 78)
+unfolding answerOf countAs faultIn spellingOf outer parens parensFrom lettersFrom inAlphabet white text reduced reducedFrom standsForRun opens closes
+    hyphens typeNamed typeRanked typesRead types formsOf planForms briefForms fits3 numbersFit fits7 fits8 fits9 countFits aircraftFits fits10
+    valid10 present fits16plan fits15 starts speeds levels speedDigits levelDigits elementFits letters within radialFits indicators nameFits
+    pointFits fourLetters timed timeFits fitsIn unexplained hasKey labels fits22 fault22 canonicalPlan updateOf namedBy outAfter front
+copied-byte = (refl, refl)
+
+pub copies-fails : Meets copies → ⊥
+copies-fails h =
+    let q = ap (λ (w : List ℕ). getD w 12 0) (meets-strip copies h filing 1800 75 filing-read (changing ∷ [])) in
+    let z : _≡_ {A = ℕ} 83 78 = sym (copied-byte .0) ∙ q ∙ copied-byte .1 in
+    omega arith
+
+-- ONE THAT APPLIES ONLY THE FIRST ENTRY
+
+entry-byte : (getD (offeredAll firstEntry (filedAs filing) (changing ∷ []) .strip) 12 0 ≡ 83)
+    × (getD (spelled (planBy (planIn (contents filing)) (logAll firstEntry (filedAs filing) [] (changing ∷ [])))) 12 0 ≡ 78)
+unfolding answerOf countAs faultIn spellingOf outer parens parensFrom lettersFrom inAlphabet white text reduced reducedFrom standsForRun opens closes
+    hyphens typeNamed typeRanked typesRead types formsOf planForms briefForms fits3 numbersFit fits7 fits8 fits9 countFits aircraftFits fits10
+    valid10 present fits16plan fits15 starts speeds levels speedDigits levelDigits elementFits letters within radialFits indicators nameFits
+    pointFits fourLetters timed timeFits fitsIn unexplained hasKey labels fits22 fault22 canonicalPlan updateOf namedBy outAfter front
+entry-byte = (refl, refl)
+
+pub first-entry-fails : Meets firstEntry → ⊥
+first-entry-fails h =
+    let q = ap (λ (w : List ℕ). getD w 12 0) (meets-strip firstEntry h filing 1800 75 filing-read (changing ∷ [])) in
+    let z : _≡_ {A = ℕ} 83 78 = sym (entry-byte .0) ∙ q ∙ entry-byte .1 in
+    omega arith
+
+-- ONE THAT APPLIES ONLY THE FIRST MESSAGE: byte 11 is the first letter of field 8
+
+message-byte : (getD (offeredAll (firstMessage filing) (filedAs filing) (changing ∷ again ∷ []) .strip) 11 0 ≡ 73)
+    × (getD (spelled (planBy (planIn (contents filing)) (logAll (firstMessage filing) (filedAs filing) [] (changing ∷ again ∷ [])))) 11 0 ≡ 86)
+unfolding answerOf countAs faultIn spellingOf outer parens parensFrom lettersFrom inAlphabet white text reduced reducedFrom standsForRun opens closes
+    hyphens typeNamed typeRanked typesRead types formsOf planForms briefForms fits3 numbersFit fits7 fits8 fits9 countFits aircraftFits fits10
+    valid10 present fits16plan fits15 starts speeds levels speedDigits levelDigits elementFits letters within radialFits indicators nameFits
+    pointFits fourLetters timed timeFits fitsIn unexplained hasKey labels fits22 fault22 canonicalPlan updateOf namedBy outAfter front
+message-byte = (refl, refl)
+
+pub first-message-fails : Meets (firstMessage filing) → ⊥
+first-message-fails h =
+    let q = ap (λ (w : List ℕ). getD w 11 0) (meets-strip (firstMessage filing) h filing 1800 75 filing-read (changing ∷ again ∷ [])) in
+    let z : _≡_ {A = ℕ} 73 86 = sym (message-byte .0) ∙ q ∙ message-byte .1 in
+    omega arith

@@ -1,0 +1,210 @@
+-- The third demand (document 00), of any updater: what an updater is, a strip and the messages offered to it, the causes for which document 01
+-- lets a message be refused, and what must hold after any run of offers. Assumes nothing.
+use Prim.Native.Nat.{ℕ, _≤_, _<_}
+use mathlib.Core.Path.{_≡_}
+use mathlib.Core.Bool.{Bool, true, false}
+use mathlib.Core.List.{List, [], _∷_}
+use lib.ListN.{length, take, drop, getD}
+use Rattle.text.specs.Words.{Word, before}
+use Rattle.sent.specs.Sent.{contents}
+use Rattle.kinds.specs.declared.MessageType.{MessageType}
+use Rattle.kinds.specs.declared.MessageType.the-variants.{Fpl, Chg, Cnl, Dla, Dep, Arr, Rqp, Rqs, Spl}
+use Rattle.message.specs.declared.Answer.{Answer}
+use Rattle.message.specs.declared.Answer.the-variants.{Accepted as ReadAs, Refused as NotRead}
+use Rattle.message.specs.Reading.{unexplainedIn, spellingOf, answerOf}
+use Rattle.state.specs.declared.Departure.{Departure}
+use Rattle.state.specs.declared.Departure.the-variants.{Unknown}
+use Rattle.state.specs.declared.State.{State}
+use Rattle.state.specs.declared.State.the-variants.{Filed, Departed, Arrived, Cancelled}
+use Rattle.state.specs.declared.Strip.{Strip}
+use Rattle.state.specs.State.{sound}
+use Rattle.strip.specs.declared.Updated.{Updated}
+use Rattle.strip.specs.declared.Updated.the-variants.{Accepted, Refused}
+use Rattle.strip.specs.Updating.{updateOf, outAfter}
+use Rattle.history.specs.History.{Part, Plan, planIn, nine, spelled, Told, given, withTold, departs, becomes, Left}
+use Rattle.history.specs.History.Part.{identification, aerodrome, offBlock, destination}
+
+-- AN UPDATER: its answer to a strip, its state, a message and the output lent, and what it leaves in the output
+
+pub record Updater : Type 0 where
+  pub answer : List ℕ → State → List ℕ → List ℕ → Updated
+  pub output : List ℕ → State → List ℕ → List ℕ → List ℕ
+
+-- the one that is proved of the code
+abbrev pub updater : Updater
+updater = record { answer = λ strip s m out. updateOf strip s m (length out); output = λ strip s m out. outAfter strip s m out }
+
+-- A STRIP AND ITS STATE, and an offer: the message's bytes, and the output lent for the new strip
+
+pub record Board : Type 0 where
+  pub strip : List ℕ
+  pub state : State
+
+pub record Offer : Type 0 where
+  pub bytes : List ℕ
+  pub lent : List ℕ
+
+-- the message as a log holds it: its type as read, and its contents
+abbrev pub toldAs : Answer → List ℕ → Told
+toldAs (ReadAs t n) m = record { type = t; fields = contents m }
+toldAs (NotRead number field place) m = record { type = Fpl; fields = [] }
+
+abbrev pub told : List ℕ → Told
+told m = toldAs (answerOf m 1800) m
+
+abbrev pub putAs : Updated → List ℕ → Board → Board
+putAs (Accepted held n) out b = record { strip = take n out; state = held .state }
+putAs (Refused number field place) out b = b
+
+abbrev pub enteredAs : Updated → List ℕ → List Told → List Told
+enteredAs (Accepted held n) m log = told m ∷ log
+enteredAs (Refused number field place) m log = log
+
+module _ (U : Updater) where
+  abbrev pub answered : Board → Offer → Updated
+  answered b o = U .answer (b .strip) (b .state) (o .bytes) (o .lent)
+
+  abbrev pub left : Board → Offer → List ℕ
+  left b o = U .output (b .strip) (b .state) (o .bytes) (o .lent)
+
+  -- the strip after an offer: an accepted one's is what was written, as many bytes as the answer says
+  abbrev pub offered : Board → Offer → Board
+  offered b o = putAs (answered b o) (left b o) b
+
+  -- after a run of offers, in the order of their coming; and the accepted messages, latest first, on top of a log
+  abbrev pub offeredAll : Board → List Offer → Board
+  offeredAll b [] = b
+  offeredAll b (o ∷ os) = offeredAll (offered b o) os
+
+  abbrev pub logAll : Board → List Told → List Offer → List Told
+  logAll b log [] = log
+  logAll b log (o ∷ os) = logAll (offered b o) (enteredAs (answered b o) (o .bytes) log) os
+
+-- THE CAUSES, which name nothing of the update
+
+-- 15: the strip is a canonical accepted FPL, and its state holds no time over 1,439 minutes and no aerodrome but of four letters
+pub record Proper (strip : List ℕ) (s : State) : Type 0 where
+  pub long : ℕ
+  pub read : answerOf strip 1800 ≡ ReadAs Fpl long
+  pub canonical : spellingOf Fpl strip ≡ strip
+  pub state-sound : sound s ≡ true
+
+-- 14: the types that are fit for an update
+abbrev pub fitType : MessageType → Bool
+fitType Chg = true
+fitType Dla = true
+fitType Cnl = true
+fitType Dep = true
+fitType Arr = true
+fitType Fpl = false
+fitType Rqp = false
+fitType Rqs = false
+fitType Spl = false
+
+-- 12: what must equal the strip's. Of the message 7 and 13 are the second and third field; the fourth is 16, or in an ARR without it 17
+pub record ForThis (p : Plan) (m : Told) : Type 0 where
+  pub same-identification : before 47 (p identification) ≡ before 47 (getD (m .fields) 1 [])
+  pub same-aerodrome : p aerodrome ≡ take 4 (getD (m .fields) 2 [])
+  pub same-destination : take 4 (p destination) ≡ take 4 (getD (m .fields) 3 [])
+
+-- CHG, CNL and ARR must equal the off-block time too
+abbrev pub TimeToo : MessageType → Type 0 → Type 0
+TimeToo Chg P = P
+TimeToo Cnl P = P
+TimeToo Arr P = P
+TimeToo Dla P = Unit
+TimeToo Dep P = Unit
+TimeToo Fpl P = Unit
+TimeToo Rqp P = Unit
+TimeToo Rqs P = Unit
+TimeToo Spl P = Unit
+
+abbrev pub Same : Plan → Told → Type 0
+Same p m = ForThis p m × TimeToo (m .type) (p offBlock ≡ drop 4 (getD (m .fields) 2 []))
+
+-- 13: allowed when filed; CHG and ARR when departed too
+abbrev pub whenDeparted : MessageType → Bool
+whenDeparted Chg = true
+whenDeparted Arr = true
+whenDeparted Dla = false
+whenDeparted Cnl = false
+whenDeparted Dep = false
+whenDeparted Fpl = false
+whenDeparted Rqp = false
+whenDeparted Rqs = false
+whenDeparted Spl = false
+
+abbrev pub allowed : State → MessageType → Bool
+allowed Filed t = true
+allowed (Departed time) t = whenDeparted t
+allowed (Arrived d a time) t = false
+allowed Cancelled t = false
+
+-- the plan that stands on a strip, and the plan as a message amends it
+abbrev pub planOn : List ℕ → Plan
+planOn strip = planIn (contents strip)
+
+abbrev pub amendedOn : List ℕ → List ℕ → Plan
+amendedOn strip m = withTold (planOn strip) (told m)
+
+-- a message that is read, of a type that is fit, for this flight, allowed by the state: 15, 1 to 9, 14, 12 and 13 are passed
+pub record Passes (strip : List ℕ) (s : State) (m : List ℕ) : Type 0 where
+  pub proper : Proper strip s
+  pub type : MessageType
+  pub long : ℕ
+  pub read : answerOf m 1800 ≡ ReadAs type long
+  pub fit : fitType type ≡ true
+  pub for-this : Same (planOn strip) (told m)
+  pub permits : allowed s type ≡ true
+
+-- number, field and place of a refusal
+pub data Cause (strip : List ℕ) (s : State) (m : List ℕ) (room : ℕ) : ℕ → ℕ → ℕ → Type 0 where
+  not-proper : (Proper strip s → ⊥) → Cause strip s m room 15 0 0
+  not-read : Proper strip s → {number field place : ℕ} → answerOf m 1800 ≡ NotRead number field place → number ≤ 9
+      → Cause strip s m room number field place
+  -- an FPL that leaves a field unexplained is of a type that is not fit
+  not-fit : Proper strip s → {field place : ℕ} → answerOf m 1800 ≡ NotRead 10 field place → Cause strip s m room 14 0 0
+  no-type : Proper strip s → {t : MessageType} {n : ℕ} → answerOf m 1800 ≡ ReadAs t n → fitType t ≡ false → Cause strip s m room 14 0 0
+  another-flight : Proper strip s → {t : MessageType} {n : ℕ} → answerOf m 1800 ≡ ReadAs t n → fitType t ≡ true
+      → (Same (planOn strip) (told m) → ⊥) → Cause strip s m room 12 0 0
+  not-allowed : Proper strip s → {t : MessageType} {n : ℕ} → answerOf m 1800 ≡ ReadAs t n → fitType t ≡ true
+      → Same (planOn strip) (told m) → allowed s t ≡ false → Cause strip s m room 13 0 0
+  unexplained : Passes strip s m → (unexplainedIn (nine (amendedOn strip m)) ≡ 0 → ⊥)
+      → Cause strip s m room 10 (unexplainedIn (nine (amendedOn strip m))) 0
+  too-long : Passes strip s m → unexplainedIn (nine (amendedOn strip m)) ≡ 0 → 1800 < length (spelled (amendedOn strip m))
+      → Cause strip s m room 16 0 0
+  no-room : Passes strip s m → unexplainedIn (nine (amendedOn strip m)) ≡ 0 → length (spelled (amendedOn strip m)) ≤ 1800
+      → room < length (spelled (amendedOn strip m)) → Cause strip s m room 11 0 0
+
+-- THE DEMAND: an FPL was filed with these contents, and its strip was offered a run of messages
+
+pub record Demand3 (U : Updater) (filed : List Word) (start : Board) (run : List Offer) : Type 0 where
+  pub plan : Plan
+  pub departure : Departure
+  pub state : State
+  -- the strip, byte for byte, and its state
+  pub strip-is : offeredAll U start run .strip ≡ spelled plan
+  pub state-is : offeredAll U start run .state ≡ state
+  -- a canonical accepted FPL and a sound state at every point, so 15 never comes
+  pub stays-proper : Proper (spelled plan) state
+  -- every part as the last accepted CHG or DLA that set it left it, or as filed; the state and the actual times
+  pub parts : (f : Part) → Left (given f) (planIn filed f) (logAll U start [] run) (plan f)
+  pub departed : Left departs Unknown (logAll U start [] run) departure
+  pub stated : Left (becomes departure) Filed (logAll U start [] run) state
+  -- the next message is refused exactly where there is a cause, and then nothing lent is changed
+  pub refused-cause : (o : Offer) (number field place : ℕ) → answered U (offeredAll U start run) o ≡ Refused number field place
+      → Cause (spelled plan) state (o .bytes) (length (o .lent)) number field place
+  pub cause-refused : (o : Offer) (number field place : ℕ) → Cause (spelled plan) state (o .bytes) (length (o .lent)) number field place
+      → answered U (offeredAll U start run) o ≡ Refused number field place
+  pub unchanged : (o : Offer) (number field place : ℕ) → answered U (offeredAll U start run) o ≡ Refused number field place
+      → left U (offeredAll U start run) o ≡ o .lent
+  -- and of an accepted one what lies behind the new strip stays
+  pub behind-stays : (o : Offer) (held : Strip) (n : ℕ) → answered U (offeredAll U start run) o ≡ Accepted held n
+      → drop n (left U (offeredAll U start run) o) ≡ drop n (o .lent)
+
+-- an accepted FPL as a strip
+abbrev pub filedAs : List ℕ → Board
+filedAs m = record { strip = spellingOf Fpl m; state = Filed }
+
+abbrev pub Meets : Updater → Type 0
+Meets U = (m : List ℕ) (room n : ℕ) → answerOf m room ≡ ReadAs Fpl n → (run : List Offer) → Demand3 U (contents m) (filedAs m) run

@@ -1,0 +1,198 @@
+-- The history of a strip (document 00, the third demand): each part of the plan as the last accepted message that set it left it, or as filed;
+-- the state and the actual times by the accepted messages. It names nothing of the update. Assumes nothing.
+use Prim.Native.Nat.{ℕ}
+use mathlib.Core.Path.{_≡_, refl}
+use mathlib.Core.Bool.{cond}
+use mathlib.Core.List.{List, [], _∷_, _++_, List·Memᴰ}
+use mathlib.Core.Option.{Option, none, some, Option·getD}
+use lib.Dec.{eqb}
+use lib.ListN.{length, take, drop, getD}
+use Rattle.alphabet.specs.Text.{bytes}
+use Rattle.text.specs.Words.{Word, split, before, behind, same}
+use Rattle.sent.specs.Sent.{messageOf}
+use Rattle.aerodromes.specs.Asked.{aerodromeIn}
+use Rattle.aerodromes.specs.Field13.{record13}
+use Rattle.aerodromes.specs.Field17.{record17}
+use Rattle.kinds.specs.declared.MessageType.{MessageType}
+use Rattle.kinds.specs.declared.MessageType.the-variants.{Fpl, Chg, Cnl, Dla, Dep, Arr, Rqp, Rqs, Spl}
+use Rattle.state.specs.declared.Departure.{Departure}
+use Rattle.state.specs.declared.Departure.the-variants.{Known, Unknown}
+use Rattle.state.specs.declared.State.{State}
+use Rattle.state.specs.declared.State.the-variants.{Filed, Departed, Arrived, Cancelled}
+
+-- THE PARTS OF A PLAN that a message can set by themselves: its fields, and of field 13 the aerodrome and the off-block time
+
+pub data Part : Type 0 where
+  heading identification rules aircraft equipment aerodrome offBlock route destination other : Part
+
+abbrev pub Plan : Type 0
+Plan = Part → List ℕ
+
+-- the number of the field that a part stands in
+abbrev pub numberFor : Part → Word
+numberFor heading = bytes "3"
+numberFor identification = bytes "7"
+numberFor rules = bytes "8"
+numberFor aircraft = bytes "9"
+numberFor equipment = bytes "10"
+numberFor aerodrome = bytes "13"
+numberFor offBlock = bytes "13"
+numberFor route = bytes "15"
+numberFor destination = bytes "16"
+numberFor other = bytes "18"
+
+-- which of an FPL's nine fields that is, counted from 0
+abbrev pub placeFor : Part → ℕ
+placeFor heading = 0
+placeFor identification = 1
+placeFor rules = 2
+placeFor aircraft = 3
+placeFor equipment = 4
+placeFor aerodrome = 5
+placeFor offBlock = 5
+placeFor route = 6
+placeFor destination = 7
+placeFor other = 8
+
+-- the part's bytes of that field: field 13 is four letters and a time
+abbrev pub within : Part → Word → List ℕ
+within heading c = c
+within identification c = c
+within rules c = c
+within aircraft c = c
+within equipment c = c
+within aerodrome c = take 4 c
+within offBlock c = drop 4 c
+within route c = c
+within destination c = c
+within other c = c
+
+-- the plan of an FPL's nine contents
+abbrev pub planIn : List Word → Plan
+planIn cs = λ f. within f (getD cs (placeFor f) [])
+
+-- the nine contents of a plan, and its spelling
+abbrev pub nine : Plan → List Word
+nine p =
+    p heading ∷ p identification ∷ p rules ∷ p aircraft ∷ p equipment ∷ (p aerodrome ++ p offBlock) ∷ p route ∷ p destination ∷ p other ∷ []
+
+abbrev pub spelled : Plan → List ℕ
+spelled p = messageOf (nine p)
+
+-- A MESSAGE, as a log holds it: its type and its contents
+
+pub record Told : Type 0 where
+  pub type : MessageType
+  pub fields : List Word
+
+-- WHAT IT SAYS OF A PART: a CHG what its entry of the part's field holds, a DLA the off-block time, the others nothing
+
+-- the entries stand behind a CHG's fields 3, 7, 13, 16 and 18, each with its number and an oblique in front
+abbrev pub named : Part → List Word → Option (List ℕ)
+named f [] = none
+named f (e ∷ es) = cond (same (before 47 e) (numberFor f)) (some (within f (behind 47 e))) (named f es)
+
+abbrev pub delayed : Part → Word → Option (List ℕ)
+delayed heading c = none
+delayed identification c = none
+delayed rules c = none
+delayed aircraft c = none
+delayed equipment c = none
+delayed aerodrome c = none
+delayed offBlock c = some (drop 4 c)
+delayed route c = none
+delayed destination c = none
+delayed other c = none
+
+abbrev pub givenBy : MessageType → List Word → Part → Option (List ℕ)
+givenBy Chg cs f = named f (drop 5 cs)
+givenBy Dla cs f = delayed f (getD cs 2 [])
+givenBy Cnl cs f = none
+givenBy Dep cs f = none
+givenBy Arr cs f = none
+givenBy Fpl cs f = none
+givenBy Rqp cs f = none
+givenBy Rqs cs f = none
+givenBy Spl cs f = none
+
+abbrev pub given : Part → Told → Option (List ℕ)
+given f m = givenBy (m .type) (m .fields) f
+
+-- the plan with what a message says put in
+abbrev pub withTold : Plan → Told → Plan
+withTold p m = λ f. Option·getD (given f m) (p f)
+
+-- WHAT IT SAYS OF THE STATE: a DEP the departure time, CNL, DEP and ARR where the flight is
+
+-- field 17 is the last of an ARR's four or five
+abbrev pub landing : List Word → Word
+landing cs = cond (eqb (length cs) 4) (getD cs 3 []) (getD cs 4 [])
+
+abbrev pub departsBy : MessageType → List Word → Option Departure
+departsBy Dep cs = some (Known (record13 (getD cs 2 []) .time))
+departsBy Chg cs = none
+departsBy Dla cs = none
+departsBy Cnl cs = none
+departsBy Arr cs = none
+departsBy Fpl cs = none
+departsBy Rqp cs = none
+departsBy Rqs cs = none
+departsBy Spl cs = none
+
+abbrev pub departs : Told → Option Departure
+departs m = departsBy (m .type) (m .fields)
+
+abbrev pub becomesBy : Departure → MessageType → List Word → Option State
+becomesBy d Cnl cs = some Cancelled
+becomesBy d Dep cs = some (Departed (record13 (getD cs 2 []) .time))
+becomesBy d Arr cs = some (Arrived d (aerodromeIn (landing cs)) (record17 (landing cs) .time))
+becomesBy d Chg cs = none
+becomesBy d Dla cs = none
+becomesBy d Fpl cs = none
+becomesBy d Rqp cs = none
+becomesBy d Rqs cs = none
+becomesBy d Spl cs = none
+
+abbrev pub becomes : Departure → Told → Option State
+becomes d m = becomesBy d (m .type) (m .fields)
+
+-- THE LAST THAT SAID SOMETHING. A log holds accepted messages, latest first.
+
+-- of the log, the last message that says something says v; or none does and v is as at first
+pub data Left {A : Type 0} (says : Told → Option A) (first : A) : List Told → A → Type 0 where
+  as-filed : {log : List Told} → ((m : Told) → List·Memᴰ m log → says m ≡ none) → Left says first log first
+  by : (later : List Told) (m : Told) (earlier : List Told) {v : A}
+      → ((l : Told) → List·Memᴰ l later → says l ≡ none) → says m ≡ some v → Left says first (later ++ m ∷ earlier) v
+
+-- the same, found
+abbrev pub latest : {A : Type 0} → (Told → Option A) → A → List Told → A
+latest says first [] = first
+latest says first (m ∷ earlier) = Option·getD (says m) (latest says first earlier)
+
+-- what stands by a log: the plan, the departure time, and the state, in which an ARR has the time of the last accepted DEP
+abbrev pub planBy : Plan → List Told → Plan
+planBy filed log = λ f. latest (given f) (filed f) log
+
+abbrev pub departureBy : List Told → Departure
+departureBy log = latest departs Unknown log
+
+abbrev pub stateBy : List Told → State
+stateBy log = latest (becomes (departureBy log)) Filed log
+
+-- EXAMPLES, computed
+
+abbrev filed : List Word
+filed = split 45 (bytes "FPL-ABC12-IS-B738/M-SDFG/S-EHAM0930-N0440F310 DCT PAM DCT-EDDF0100 EDDK-0")
+
+abbrev changed : Told
+changed = record { type = Chg; fields = split 45 (bytes "CHG-ABC12-EHAM0930-EDDF-0-9/B39M/M-8/IN") }
+
+abbrev postponed : Told
+postponed = record { type = Dla; fields = split 45 (bytes "DLA-ABC12-EHAM1015-EDDF-0") }
+
+as-spelled : nine (planIn filed) ≡ filed
+as-spelled = refl
+
+after-both : spelled (planBy (planIn filed) (postponed ∷ changed ∷ []))
+    ≡ bytes "(FPL-ABC12-IN-B39M/M-SDFG/S-EHAM1015-N0440F310 DCT PAM DCT-EDDF0100 EDDK-0)"
+after-both = refl

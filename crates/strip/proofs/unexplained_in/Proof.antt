@@ -1,0 +1,35 @@
+-- `strip::unexplained_in` meets its contract. Assumes nothing.
+use mathlib.Core.Path.{_∙_}
+use Rattle.strip.proofs.Steps.{unexplained-are}
+use borrow.Author.Needs.{needs}
+use Rattle.strip.proofs.unexplained_in.Statement.{statement}
+use Rattle.strip.proofs.unexplained_in.Tie as tie
+
+content-requires : tie.Need-content-requires
+content-requires c κs = search needs
+
+content-requires-2 : tie.Need-content-requires-2
+content-requires-2 c κs = search needs
+
+content-requires-3 : tie.Need-content-requires-3
+content-requires-3 c κs = search needs
+
+content-requires-4 : tie.Need-content-requires-4
+content-requires-4 c κs = search needs
+
+unexplained-field-requires : tie.Need-unexplained-field-requires
+unexplained-field-requires c κs = search needs
+
+returns : tie.Need-returns
+returns c = let a = c .before .before .before .before .before .before .before .args in c .unexplained-field .ensures ∙ unexplained-are (a .t) (a .plan .now) (a .said .now) _ _ _ _ (c .before .before .before .before .content .ensures) (c .before .before .before .content2 .ensures) (c .before .before .content3 .ensures) (c .before .content4 .ensures)
+
+pub unexplained-in-spec : {M : Type 1} → statement M
+unexplained-in-spec =
+    tie.close
+    (tie.spec
+    content-requires
+    content-requires-2
+    content-requires-3
+    content-requires-4
+    unexplained-field-requires
+    returns)

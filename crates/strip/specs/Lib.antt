@@ -1,0 +1,3 @@
+pub mod Updating
+pub mod Texts
+pub mod Examples

@@ -1,0 +1,56 @@
+-- The update from two texts, which stand between the parentheses: the plan's, and that of the message's spelling. Assumes nothing.
+use Prim.Native.Nat.{ℕ}
+use mathlib.Core.Bool.{cond}
+use mathlib.Core.List.{List}
+use lib.Dec.{eqb, leb}
+use Rattle.text.specs.Words.{Word, split}
+use Rattle.text.specs.Lent.{front}
+use Rattle.sent.specs.Sent.{messageOf}
+use Rattle.kinds.specs.declared.MessageType.{MessageType}
+use Rattle.kinds.specs.declared.MessageType.the-variants.{Fpl, Chg, Cnl, Dla, Dep, Arr, Rqp, Rqs, Spl}
+use Rattle.state.specs.declared.State.{State}
+use Rattle.state.specs.State.{allowedIn, nextOf}
+use Rattle.force.specs.InForce.{fieldAt, inForce, fieldsFrom}
+use Rattle.strip.specs.declared.Offered.{Offered}
+use Rattle.strip.specs.declared.Offered.the-variants.{Says, Unfit}
+use Rattle.strip.specs.declared.Updated.{Updated}
+use Rattle.strip.specs.declared.Updated.the-variants.{Accepted, Refused}
+use Rattle.strip.specs.Updating.{eventOf, differences, differs, amendedAs}
+
+-- field k of the amended plan: a CHG's where it names it, a DLA's field 13, whose aerodrome is the plan's, and otherwise the plan's
+abbrev pub contentOf : MessageType → List ℕ → List ℕ → ℕ → Word
+contentOf Chg plan said k = inForce plan said k
+contentOf Dla plan said k = cond (eqb k 5) (fieldAt said 2) (fieldAt plan k)
+contentOf Cnl plan said k = fieldAt plan k
+contentOf Dep plan said k = fieldAt plan k
+contentOf Arr plan said k = fieldAt plan k
+contentOf Fpl plan said k = fieldAt plan k
+contentOf Rqp plan said k = fieldAt plan k
+contentOf Rqs plan said k = fieldAt plan k
+contentOf Spl plan said k = fieldAt plan k
+
+abbrev pub amendedOf : MessageType → List ℕ → List ℕ → List Word
+amendedOf t plan said = fieldsFrom (contentOf t plan said) 0 9
+
+unfoldable pub newText : MessageType → List ℕ → List ℕ → List ℕ
+newText t plan said = messageOf (amendedOf t plan said)
+
+-- the answer
+abbrev pub offeredAs : Offered → MessageType → List ℕ → State → List ℕ → ℕ → Updated
+offeredAs Unfit t plan state said room = Refused 14 0 0
+offeredAs (Says e) t plan state said room =
+    cond (differs (differences t (split 45 plan) (split 45 said))) (Refused 12 0 0)
+    (cond (allowedIn state e) (amendedAs (amendedOf t plan said) (nextOf state e) room)
+    (Refused 13 0 0))
+
+unfoldable pub textsAs : MessageType → List ℕ → State → List ℕ → ℕ → Updated
+textsAs t plan state said room = offeredAs (eventOf t (split 45 said)) t plan state said room
+
+-- the output
+abbrev pub writtenText : Updated → MessageType → List ℕ → List ℕ → List ℕ → List ℕ
+writtenText (Accepted held n) t plan said out = front (newText t plan said) out
+writtenText (Refused number field place) t plan said out = out
+
+-- a message that was not read
+abbrev pub notReadAs : ℕ → ℕ → ℕ → Updated
+notReadAs number field place = cond (leb number 9) (Refused number field place) (Refused 14 0 0)

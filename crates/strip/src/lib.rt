@@ -1,0 +1,412 @@
+// The strip: one plan, kept up to date by the messages that are offered to it.
+ghost use mathlib.Core.Path.{_≡_};
+ghost use mathlib.Core.Bool.{_&&_, not};
+ghost use mathlib.Core.List.{[], _∷_};
+ghost use Prim.Native.Nat.{_≤_, _-_};
+ghost use lib.ListN.{length, drop, getD};
+ghost use Rattle.text.specs.Words.{split, same};
+ghost use Rattle.text.specs.Lent.{front};
+ghost use Rattle.aerodromes.specs.Asked.{clockAt};
+ghost use Rattle.message.specs.Reading.{isPlan, leadOf, unexplainedIn};
+ghost use Rattle.state.specs.State.{allowedIn};
+ghost use Rattle.strip.specs.Updating.{canonicalPlan, timeOf, arrival, eventOf, comparesTime, differences, differs, amendedAs, updateOf, outAfter};
+ghost use Rattle.strip.specs.Texts.{contentOf, amendedOf, newText, offeredAs, textsAs, writtenText, notReadAs};
+use kinds::MessageType;
+use message::Answer;
+use shape::Clock;
+use shape::ClockRead;
+use state::Event;
+use state::Strip;
+use text::Cursor;
+
+// What a message of a type does to the state, or that its type is not fit for an update.
+pub enum Offered {
+    Says(Event),
+    Unfit,
+}
+
+// Which of the values that are compared differ from the strip's.
+pub struct Differences {
+    pub identification: bool,
+    pub aerodrome: bool,
+    pub time: bool,
+    pub destination: bool,
+}
+
+pub enum Updated {
+    Accepted(Strip, usize),
+    Refused { number: u8, field: u8, place: usize },
+}
+
+const MOST_BYTES: usize = 1800;
+
+const PLAN_FIELDS: usize = 9;
+
+fn is_plan(t: MessageType) -> bool
+    ensures { λ r. ⌜ r ≡ isPlan t ⌝ }
+{
+    match t {
+        MessageType::Fpl => true,
+        MessageType::Chg => false,
+        MessageType::Cnl => false,
+        MessageType::Dla => false,
+        MessageType::Dep => false,
+        MessageType::Arr => false,
+        MessageType::Rqp => false,
+        MessageType::Rqs => false,
+        MessageType::Spl => false,
+    }
+}
+
+// Whether a strip is an FPL as it is written: it is accepted as one, and its spelling is the strip itself.
+fn is_canonical_plan(strip: &[u8]) -> bool
+    ensures { λ r. ⌜ r ≡ canonicalPlan (now (strip .entry)) ⌝ }
+{
+    let mut scratch = [0u8; 1800];
+    match message::read(strip, &mut scratch) {
+        Answer::Refused {
+            number: _,
+            field: _,
+            place: _,
+        } => false,
+        Answer::Accepted(t, n) => {
+            if !is_plan(t) {
+                return false;
+            }
+            text::same_bytes(&scratch[..n], strip)
+        }
+    }
+}
+
+// Field j of a text, counted from 0; empty where there are fewer.
+fn field<'a>(s: &'a [u8], j: usize) -> &'a [u8]
+    ensures { λ r. ⌜ now r ≡ getD (split 45 (now (s .entry))) j [] ⌝ }
+{
+    let mut c = Cursor { at: 0 };
+    let mut left = j;
+    while left > 0 {
+        c = c.next(s, b'-');
+        left -= 1;
+    }
+    c.part(s, b'-')
+}
+
+// The last field of a text.
+fn last_field<'a>(s: &'a [u8]) -> &'a [u8]
+    ensures { λ r. ⌜ now r ≡ arrival (split 45 (now (s .entry))) ⌝ }
+{
+    let mut at = 0;
+    loop {
+        let e = text::find(s, at, b'-');
+        if e == s.len() {
+            return &s[at..];
+        }
+        at = e + 1;
+    }
+}
+
+// The time of day in a content; 0 where there is none.
+fn time_in(s: &[u8]) -> Clock
+    ensures { λ r. ⌜ r ≡ timeOf (clockAt (now (s .entry))) ⌝ }
+{
+    match aerodromes::clock(s) {
+        ClockRead::TimeOfDay(t) => t,
+        ClockRead::NoTimeOfDay => Clock(0),
+    }
+}
+
+// What a message says of the state, from the text of its spelling.
+fn event_of(t: MessageType, said: &[u8]) -> Offered
+    ensures { λ r. ⌜ r ≡ eventOf t (split 45 (now (said .entry))) ⌝ }
+{
+    match t {
+        MessageType::Chg => Offered::Says(Event::Change),
+        MessageType::Dla => Offered::Says(Event::Delay),
+        MessageType::Cnl => Offered::Says(Event::Cancel),
+        MessageType::Dep => Offered::Says(Event::Depart(time_in(field(said, 2)))),
+        MessageType::Arr => {
+            let landed = last_field(said);
+            Offered::Says(Event::Arrive(aerodromes::Aerodrome::of(landed), time_in(landed)))
+        }
+        MessageType::Fpl => Offered::Unfit,
+        MessageType::Rqp => Offered::Unfit,
+        MessageType::Rqs => Offered::Unfit,
+        MessageType::Spl => Offered::Unfit,
+    }
+}
+
+fn compares_time(t: MessageType) -> bool
+    ensures { λ r. ⌜ r ≡ comparesTime t ⌝ }
+{
+    match t {
+        MessageType::Chg => true,
+        MessageType::Cnl => true,
+        MessageType::Arr => true,
+        MessageType::Dla => false,
+        MessageType::Dep => false,
+        MessageType::Fpl => false,
+        MessageType::Rqp => false,
+        MessageType::Rqs => false,
+        MessageType::Spl => false,
+    }
+}
+
+// What stands behind the first four bytes of a content.
+fn behind_aerodrome<'a>(s: &'a [u8]) -> &'a [u8]
+    ensures { λ r. ⌜ now r ≡ drop 4 (now (s .entry)) ⌝ }
+{
+    if s.len() < 4 {
+        return &s[s.len()..];
+    }
+    &s[4..]
+}
+
+// Whether the time in field 13 is compared, and differs.
+fn time_differs(t: MessageType, a: &[u8], b: &[u8]) -> bool
+    ensures { λ r. ⌜ r ≡ (comparesTime t && not (same (drop 4 (now (a .entry))) (drop 4 (now (b .entry))))) ⌝ }
+{
+    if !compares_time(t) {
+        return false;
+    }
+    !text::same_bytes(behind_aerodrome(a), behind_aerodrome(b))
+}
+
+// What differs between a plan and a message, from their texts.
+fn differences_in(t: MessageType, plan: &[u8], said: &[u8]) -> Differences
+    ensures { λ r. ⌜ r ≡ differences t (split 45 (now (plan .entry))) (split 45 (now (said .entry))) ⌝ }
+{
+    let ours = field(plan, 5);
+    let theirs = field(said, 2);
+    Differences {
+        identification: !text::same_bytes(
+            head::identification(field(plan, 1)),
+            head::identification(field(said, 1)),
+        ),
+        aerodrome: !text::same_bytes(
+            aerodromes::aerodrome_of(ours),
+            aerodromes::aerodrome_of(theirs),
+        ),
+        time: time_differs(t, ours, theirs),
+        destination: !text::same_bytes(
+            aerodromes::aerodrome_of(field(plan, 7)),
+            aerodromes::aerodrome_of(field(said, 3)),
+        ),
+    }
+}
+
+impl Differences {
+    pub fn any(self) -> bool
+        ensures { λ r. ⌜ r ≡ differs self ⌝ }
+    {
+        if self.identification {
+            return true;
+        }
+        if self.aerodrome {
+            return true;
+        }
+        if self.time {
+            return true;
+        }
+        self.destination
+    }
+}
+
+// Field k of a plan after a DLA, whose field 13 stands in place of the plan's.
+fn delayed<'a>(plan: &'a [u8], said: &'a [u8], k: usize) -> &'a [u8]
+    ensures { λ r. ⌜ now r ≡ contentOf MessageType.Dla (now (plan .entry)) (now (said .entry)) k ⌝ }
+{
+    if k == 5 {
+        return field(said, 2);
+    }
+    field(plan, k)
+}
+
+// Field k of the amended plan.
+fn content<'a>(t: MessageType, plan: &'a [u8], said: &'a [u8], k: usize) -> &'a [u8]
+    ensures { λ r. ⌜ now r ≡ contentOf t (now (plan .entry)) (now (said .entry)) k ⌝ }
+{
+    match t {
+        MessageType::Chg => force::in_force(plan, said, k),
+        MessageType::Dla => delayed(plan, said, k),
+        MessageType::Cnl => field(plan, k),
+        MessageType::Dep => field(plan, k),
+        MessageType::Arr => field(plan, k),
+        MessageType::Fpl => field(plan, k),
+        MessageType::Rqp => field(plan, k),
+        MessageType::Rqs => field(plan, k),
+        MessageType::Spl => field(plan, k),
+    }
+}
+
+// The field that the amended plan leaves unexplained; 0 for none.
+fn unexplained_in<'a>(t: MessageType, plan: &'a [u8], said: &'a [u8]) -> u8
+    ensures { λ r. ⌜ r ≡ unexplainedIn (amendedOf t (now (plan .entry)) (now (said .entry))) ⌝ }
+{
+    plan::unexplained_field(
+        content(t, plan, said, 3),
+        content(t, plan, said, 5),
+        content(t, plan, said, 7),
+        content(t, plan, said, 8),
+    )
+}
+
+// How many bytes the amended plan takes, with the parentheses.
+fn new_length<'a>(t: MessageType, plan: &'a [u8], said: &'a [u8]) -> usize
+    requires { ⌜ (length (now plan) ≤ 1800) × (length (now said) ≤ 1800) ⌝ }
+    ensures { λ r. ⌜ r ≡ length (newText t (now (plan .entry)) (now (said .entry))) ⌝ }
+{
+    let mut n = 0;
+    let mut k = 0;
+    while k < PLAN_FIELDS {
+        n += 1 + content(t, plan, said, k).len();
+        k += 1;
+    }
+    n + 1
+}
+
+// The byte before a field: `(` before the first, `-` before the others.
+fn lead_of(k: usize) -> u8
+    ensures { λ r. ⌜ r ≡ leadOf k ⌝ }
+{
+    if k == 0 { b'(' } else { b'-' }
+}
+
+// Writes a content behind the byte that leads to it, at the front of `out`.
+fn write_part(lead: u8, part: &[u8], out: &mut [u8]) -> usize
+    requires { ⌜ length (lead ∷ now part) ≤ length (now out) ⌝ }
+    ensures { λ r. ⌜ (r ≡ length (lead ∷ now (part .entry))) × (now (out .exit) ≡ front (lead ∷ now (part .entry)) (now (out .entry))) ⌝ }
+{
+    out[0] = lead;
+    let n = text::put(part, &mut out[1..]);
+    n + 1
+}
+
+// Writes the amended plan at the front of `out`.
+fn write_new<'a>(t: MessageType, plan: &'a [u8], said: &'a [u8], out: &mut [u8]) -> usize
+    requires { ⌜ length (newText t (now plan) (now said)) ≤ length (now out) ⌝ }
+    ensures { λ r. ⌜ (r ≡ length (newText t (now (plan .entry)) (now (said .entry)))) × (now (out .exit) ≡ front (newText t (now (plan .entry)) (now (said .entry))) (now (out .entry))) ⌝ }
+{
+    let mut o = 0;
+    let mut k = 0;
+    while k < PLAN_FIELDS {
+        o += write_part(lead_of(k), content(t, plan, said, k), &mut out[o..]);
+        k += 1;
+    }
+    out[o] = b')';
+    o + 1
+}
+
+// Numbers 10, 16 and 11 of the amended plan, and the acceptance: everything is checked before the first byte is written.
+fn amend<'a>(t: MessageType, next: Strip, plan: &'a [u8], said: &'a [u8], out: &mut [u8]) -> Updated
+    requires { ⌜ (length (now plan) ≤ 1800) × (length (now said) ≤ 1800) ⌝ }
+    ensures { λ r. ⌜ (r ≡ amendedAs (amendedOf t (now (plan .entry)) (now (said .entry))) (next .state) (length (now (out .entry)))) × (now (out .exit) ≡ writtenText (amendedAs (amendedOf t (now (plan .entry)) (now (said .entry))) (next .state) (length (now (out .entry)))) t (now (plan .entry)) (now (said .entry)) (now (out .entry))) ⌝ }
+{
+    let field = unexplained_in(t, plan, said);
+    if field != 0 {
+        return Updated::Refused {
+            number: 10,
+            field,
+            place: 0,
+        };
+    }
+    let due = new_length(t, plan, said);
+    if MOST_BYTES < due {
+        return Updated::Refused {
+            number: 16,
+            field: 0,
+            place: 0,
+        };
+    }
+    if out.len() < due {
+        return Updated::Refused {
+            number: 11,
+            field: 0,
+            place: 0,
+        };
+    }
+    let n = write_new(t, plan, said, out);
+    Updated::Accepted(next, n)
+}
+
+// Numbers 14, 12 and 13, and what the amended plan gives.
+fn offer<'a>(t: MessageType, held: Strip, plan: &'a [u8], said: &'a [u8], out: &mut [u8]) -> Updated
+    requires { ⌜ (length (now plan) ≤ 1800) × (length (now said) ≤ 1800) ⌝ }
+    ensures { λ r. ⌜ (r ≡ textsAs t (now (plan .entry)) (held .state) (now (said .entry)) (length (now (out .entry)))) × (now (out .exit) ≡ writtenText (textsAs t (now (plan .entry)) (held .state) (now (said .entry)) (length (now (out .entry)))) t (now (plan .entry)) (now (said .entry)) (now (out .entry))) ⌝ }
+{
+    match event_of(t, said) {
+        Offered::Unfit => Updated::Refused {
+            number: 14,
+            field: 0,
+            place: 0,
+        },
+        Offered::Says(e) => {
+            if differences_in(t, plan, said).any() {
+                return Updated::Refused {
+                    number: 12,
+                    field: 0,
+                    place: 0,
+                };
+            }
+            if !held.allows(e) {
+                return Updated::Refused {
+                    number: 13,
+                    field: 0,
+                    place: 0,
+                };
+            }
+            amend(t, held.next(e), plan, said, out)
+        }
+    }
+}
+
+// A message that was not read: its own number where that is 1 to 9, otherwise 14.
+fn not_read(number: u8, field: u8, place: usize) -> Updated
+    ensures { λ r. ⌜ r ≡ notReadAs number field place ⌝ }
+{
+    if number <= 9 {
+        return Updated::Refused {
+            number,
+            field,
+            place,
+        };
+    }
+    Updated::Refused {
+        number: 14,
+        field: 0,
+        place: 0,
+    }
+}
+
+// Offers a message to a strip. Accepted: the strip's new state and the length of its new spelling, which is then at the front of `out`, and
+// the bytes behind it stay. Refused: the number, the field and the place, and every byte of `out` stays.
+pub fn update(strip: &[u8], held: Strip, msg: &[u8], out: &mut [u8]) -> Updated
+    ensures { λ r. ⌜ (r ≡ updateOf (now (strip .entry)) (held .state) (now (msg .entry)) (length (now (out .entry)))) × (now (out .exit) ≡ outAfter (now (strip .entry)) (held .state) (now (msg .entry)) (now (out .entry))) ⌝ }
+{
+    if !held.is_sound() {
+        return Updated::Refused {
+            number: 15,
+            field: 0,
+            place: 0,
+        };
+    }
+    if !is_canonical_plan(strip) {
+        return Updated::Refused {
+            number: 15,
+            field: 0,
+            place: 0,
+        };
+    }
+    let mut scratch = [0u8; 1800];
+    match message::read(msg, &mut scratch) {
+        Answer::Refused {
+            number,
+            field,
+            place,
+        } => not_read(number, field, place),
+        Answer::Accepted(t, n) => {
+            let e = n - 1;
+            let last = strip.len() - 1;
+            offer(t, held, &strip[1..last], &scratch[1..e], out)
+        }
+    }
+}
