@@ -1,5 +1,5 @@
 -- Laws of an aerodrome, of a time joined to it, for every greatest hour of at most 99, and of the words of a content. Assumes nothing.
-use Prim.Native.Nat.{ℕ, _+_, _≤_}
+use Prim.Native.Nat.{ℕ, _≤_}
 use mathlib.Core.Path.{_≡_, refl, sym, ap, _∙_}
 use mathlib.Core.Bool.{true, not}
 use mathlib.Core.List.{List, [], _∷_, _++_}
@@ -9,9 +9,9 @@ use lib.ListN.{length, take, drop, take-append-drop, length-append}
 use lib.Seq.{take-at, drop-at}
 use borrow.Author.Tests.{eqb-true}
 use Rattle.alphabet.specs.Alphabet.{letter, digit}
-use Rattle.text.specs.Words.{Word, all, null, free, split, join, upTo, tidyByte, tidyWord, tidy}
+use Rattle.text.specs.Words.{Word, all, null, free, split, join, tidyByte, tidyWord, tidy}
 use Rattle.text.proofs.Tests.{both, and-both, all-imp, all-append}
-use Rattle.text.proofs.Index.{split-at}
+use Rattle.text.proofs.Index.{split-cut}
 use Rattle.text.proofs.Joined.{join-split, split-join}
 use Rattle.text.proofs.Tidy.{letter-tidy, digit-tidy, tidy-word, word-free}
 use Rattle.shape.specs.Time.{timeFits, minutesOf, spellMinutes, validMinutes}
@@ -103,7 +103,7 @@ module _ (most : ℕ) (a : Word) (n : ℕ) (l : most ≤ 99) (v : validTimed mos
 -- THE WORDS OF A CONTENT
 
 words : (s : List ℕ) → split 32 s ≡ first (split 32 s) ∷ others (split 32 s)
-words s = let h : split 32 s ≡ _ = split-at 32 s 0 (0 + upTo 32 s) refl in h ∙ sym (ap (λ (ws : List Word). first ws ∷ others ws) h)
+words s = let h : split 32 s ≡ _ = split-cut 32 s in h ∙ sym (ap (λ (ws : List Word). first ws ∷ others ws) h)
 
 pub tidy-words : (s : List ℕ) → tidyWord (first (split 32 s)) ≡ true → all tidyWord (others (split 32 s)) ≡ true → tidy s ≡ true
 unfolding tidy

@@ -1,11 +1,11 @@
 -- Field 17 is proved. Assumes nothing.
 use Prim.Native.Nat.{ℕ}
 use mathlib.Core.Path.{_≡_, refl, ap, ap₂, _∙_}
-use mathlib.Core.Bool.{Bool, true, false, _&&_, not, cond, false≢true}
-use mathlib.Core.List.{List, [], _∷_}
+use mathlib.Core.Bool.{Bool, true, false, _&&_, not, cond}
+use mathlib.Core.List.{List}
 use native.Mathlib.Omega.{arith}
 use Rattle.text.specs.Words.{Word, all, null, same, split, textWord, tidyWord, tidy}
-use Rattle.text.proofs.Tests.{both, and-both, all-imp}
+use Rattle.text.proofs.Tests.{both, and-both, all-imp, null-nil}
 use Rattle.text.proofs.Tidy.{text-word-tidy}
 use Rattle.shape.specs.Time.{clockHours, clockOf, minutesOf}
 use Rattle.shape.specs.Field.{Laws}
@@ -15,16 +15,12 @@ use Rattle.aerodromes.specs.Field17.{unlisted, placeFits, Field17, valid
 use Rattle.aerodromes.proofs.Aerodromes.{timed-valid, timed-tidy, timed-aerodrome, timed-minutes, timed-fits}
 use Rattle.aerodromes.proofs.Aerodromes.{tidy-words, words-spelled, first-back, others-back}
 
-none-tidy : (ws : List Word) → null ws ≡ true → all tidyWord ws ≡ true
-none-tidy [] e = refl
-none-tidy (w ∷ ws) e = absurd (false≢true e)
-
 place-tidy : (a : Word) (ws : List Word) → placeFits a ws ≡ true → all tidyWord ws ≡ true
 place-tidy a ws e = go (same a unlisted) e
   where
     go : (b : Bool) → cond b (not (null ws) && all textWord ws) (null ws) ≡ true → all tidyWord ws ≡ true
     go true q = all-imp textWord tidyWord text-word-tidy ws (both (not (null ws)) (all textWord ws) q .1)
-    go false q = none-tidy ws q
+    go false q = ap (all tidyWord) (null-nil ws q)
 
 module _ (s : List ℕ) (e : fits17 s ≡ true) where
   pub landed-parts : (timed clockHours (first (split 32 s)) ≡ true) × (placeFits (aerodromeOf (first (split 32 s))) (others (split 32 s)) ≡ true)

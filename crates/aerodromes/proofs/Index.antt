@@ -9,7 +9,8 @@ use lib.ListN.{length, take, drop, length-drop}
 use lib.Seq.{take-all}
 use borrow.Author.Tests.{le-leb, eqb-true, eqb-false}
 use Rattle.text.specs.Words.{Word, all, null, same, split, upTo, textWord}
-use Rattle.text.proofs.Index.{split-at, after-here, after-end, drop-end, rest}
+use Rattle.text.proofs.Index.{split-at, after-here, after-end, drop-end, rest, null-split}
+use Rattle.text.proofs.Tests.{and-false}
 use Rattle.shape.specs.declared.ClockRead.the-variants.{NoTimeOfDay}
 use Rattle.shape.specs.Time.{timeFits, clockHours, elapsedHours, clockFits}
 use Rattle.shape.proofs.Times.{time-length}
@@ -19,10 +20,6 @@ use Rattle.aerodromes.specs.Field16.{fewAerodromes, mostAlternates, fits
 use Rattle.aerodromes.specs.Field17.{unlisted, fits17}
 use Rattle.aerodromes.specs.Asked.{clockAt}
 use Rattle.aerodromes.proofs.Aerodromes.{four-length, timed-length}
-
-and-false : (a b : Bool) → b ≡ false → (a && b) ≡ false
-and-false true b e = e
-and-false false b e = refl
 
 -- a test that does not hold
 not-so : (b : Bool) → (b ≡ true → ⊥) → b ≡ false
@@ -75,9 +72,6 @@ clock-short s h =
 
 -- A TEST OF EVERY WORD, and aerodromes at most so many: at a word that ends at e
 
-null-split : (s : List ℕ) (at : ℕ) → null (split 32 (drop at s)) ≡ false
-null-split s at = rw (split-at 32 s at (at + upTo 32 (drop at s)) refl)
-
 module _ (p : Word → Bool) (s : List ℕ) (at e : ℕ) (end : e ≡ at + upTo 32 (drop at s)) where
   pub each-stop : p (take (e - at) (drop at s)) ≡ false → all p (split 32 (drop at s)) ≡ false
   each-stop h = rw (split-at 32 s at e end, h)
@@ -125,7 +119,7 @@ module _ (s : List ℕ) (e : ℕ) (end : e ≡ 0 + upTo 32 (drop 0 s)) where
       go true q = ap null (others-end (omega (arith, eqb-true e (length s) q)))
       go false q =
           let n = eqb-false e (length s) q in
-          ap null (others-here (omega arith)) ∙ null-split s (e + 1)
+          ap null (others-here (omega arith)) ∙ null-split 32 (drop (e + 1) s)
 
   -- field 16 in FPL and SPL
 
@@ -158,4 +152,4 @@ module _ (s : List ℕ) (e : ℕ) (end : e ≡ 0 + upTo 32 (drop 0 s)) where
   pub landed-place : timed clockHours (take e s) ≡ true → same (take 4 (take e s)) unlisted ≡ true → e < length s
       → fits17 s ≡ all textWord (split 32 (drop (e + 1) s))
   unfolding fits17
-  landed-place t u l = rw (first-at, t, u, others-here l, null-split s (e + 1))
+  landed-place t u l = rw (first-at, t, u, others-here l, null-split 32 (drop (e + 1) s))

@@ -7,11 +7,11 @@ use native.Mathlib.Omega.{arith}
 use lib.Dec.{leb}
 use lib.ListN.{length, length-append}
 use Rattle.alphabet.specs.Text.{bytes}
-use Rattle.alphabet.specs.Alphabet.{sign, text, inAlphabet, white}
+use Rattle.alphabet.specs.Alphabet.{sign}
 use Rattle.text.specs.Words.{Word, split, holds, all, null, same, tidyByte, tidy}
 use Rattle.text.proofs.Tests.{both, and-both, all-imp, all-append, same-eq}
 use Rattle.text.proofs.Joined.{seam, holds-seam, before-seam, behind-seam}
-use Rattle.text.proofs.Tidy.{sign-tidy, tidy-word, tidy-one}
+use Rattle.text.proofs.Tidy.{sign-tidy, tidy-word, tidy-one, oblique-tidy}
 use Rattle.codes.specs.Codes.{concat, codesFit, shaped}
 use Rattle.codes.proofs.Laws.{concat-codes, codes-concat, concat-free, fit-shaped, fit-all}
 use Rattle.shape.specs.Field.{Laws}
@@ -41,10 +41,6 @@ good-side list most a ws e = go (onlyN ws) refl e
     go false p q =
         let f : codesFit list ws ≡ true = both (leb (length (concat ws)) most) _ (both (not (null ws)) _ q .1) .1 in
         (fit-shaped list (k .0) ws f, fit-all sign list (k .1) ws f)
-
-oblique-tidy : tidyByte 47 ≡ true
-unfolding text inAlphabet white
-oblique-tidy = refl
 
 module _ (e : Edition) (a : sound e ≡ true) where
   good : (r : Field10) → valid10 e r ≡ true → Good (r .left) × Good (r .right)

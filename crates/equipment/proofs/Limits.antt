@@ -8,7 +8,7 @@ use lib.Dec.{leb}
 use lib.ListN.{length, length-append}
 use borrow.Author.Tests.{le-leb, not-true}
 use Rattle.text.specs.Words.{Word, split, null, same, elem}
-use Rattle.text.proofs.Tests.{both, same-eq, same-self}
+use Rattle.text.proofs.Tests.{both, same-eq, same-self, and-false}
 use Rattle.codes.specs.Codes.{concat, codesFit}
 use Rattle.equipment.specs.Field10.{present, onlyN, sideFits}
 
@@ -73,17 +73,13 @@ no-limit : (list : List Word) (most : ℕ) → length (concat list) ≤ most
     → (ws : List Word) → sideFits list most ws ≡ (onlyN ws || (not (null ws) && codesFit list ws))
 no-limit list most l ws = go (codesFit list ws) refl
   where
-    none : (b : Bool) → (b && false) ≡ false
-    none true = refl
-    none false = refl
-
     go : (b : Bool) → codesFit list ws ≡ b
         → (onlyN ws || (not (null ws) && (leb (length (concat ws)) most && b))) ≡ (onlyN ws || (not (null ws) && b))
     go true p =
         let k = fit-length list ws p in
         let m : length (concat ws) ≤ most = omega arith in
         rw (le-leb (length (concat ws)) most m)
-    go false p = rw (none (leb (length (concat ws)) most))
+    go false p = rw (and-false (leb (length (concat ws)) most) false refl)
 
 -- THE PRESENT EDITION, left of the oblique
 

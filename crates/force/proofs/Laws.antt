@@ -12,7 +12,7 @@ use lib.Seq.{getD-set-same, getD-set-other, set-comm, drop-cons}
 use borrow.Author.Tests.{eq-eqb, ne-eqb, eqb-true, eqb-false, ltb-true, not-true}
 use Rattle.alphabet.specs.Alphabet.{oneOf}
 use Rattle.text.specs.Words.{Word, onto, split, join, upTo, before, behind, holds, all, free}
-use Rattle.text.proofs.Tests.{both, and-both}
+use Rattle.text.proofs.Tests.{both, and-both, all-drop}
 use Rattle.text.proofs.Joined.{split-join}
 use Rattle.shape.specs.Field.{Field}
 use Rattle.kinds.specs.declared.MessageType.the-variants.{Chg}
@@ -24,12 +24,6 @@ use Rattle.forms.proofs.Labels.{rank-most}
 use Rattle.message.specs.Message.{ranksIn, noneTwice}
 use Rattle.force.specs.InForce.{entriesOf, lookup, namedBy, fieldAt, inForce, fieldsFrom, amendedBy, replacedBy, ranksOf, allNamed, Reordered}
 use Rattle.force.specs.InForce.Reordered.{empty, keep, swap, join as both-orders}
-
--- what holds of every element of a list holds of what is left of it
-all-drop : {A : Type 0} (p : A → Bool) (n : ℕ) (w : List A) → all p w ≡ true → all p (drop n w) ≡ true
-all-drop p zero w e = e
-all-drop p (suc n) [] e = refl
-all-drop p (suc n) (x ∷ w) e = all-drop p n w (both (p x) (all p w) e .1)
 
 -- FIELDS by their places
 

@@ -1,13 +1,9 @@
-// The fields in force: a plan's, or a CHG's where its entries name them, and the plan so amended.
+// The fields in force: a plan's, or a CHG's where its entries name them.
 ghost use mathlib.Core.Path.{_≡_};
-ghost use mathlib.Core.List.{_∷_};
 ghost use Prim.Native.Nat.{ℕ, _≤_, _<_};
 ghost use lib.ListN.{length, drop};
-ghost use Rattle.text.specs.Lent.{front};
 ghost use Rattle.space.specs.Hyphens.{behindHyphen};
-ghost use Rattle.sent.specs.Sent.{messageOf};
-ghost use Rattle.message.specs.Reading.{leadOf};
-ghost use Rattle.force.specs.InForce.{inForce, namedAt, placeOf, amendedBy, Stands, FoundIn};
+ghost use Rattle.force.specs.InForce.{inForce, namedAt, placeOf, Stands, FoundIn};
 use kinds::Form;
 use text::Cursor;
 
@@ -16,8 +12,6 @@ pub enum Found {
     At { from: usize, to: usize },
     Nowhere,
 }
-
-const PLAN_FIELDS: usize = 9;
 
 // The cursor at field j of a text; at the end where there are fewer.
 fn seek(s: &[u8], j: usize) -> Cursor
@@ -83,51 +77,4 @@ pub fn in_force<'a>(plan: &'a [u8], chg: &'a [u8], k: usize) -> &'a [u8]
             &plan[at..e]
         }
     }
-}
-
-// The byte before a field: `(` before the first, `-` before the others.
-fn lead_of(j: usize) -> u8
-    ensures { λ r. ⌜ r ≡ leadOf j ⌝ }
-{
-    if j == 0 { b'(' } else { b'-' }
-}
-
-// Writes a content behind the byte that leads to it, at the front of `out`.
-fn write_part(lead: u8, part: &[u8], out: &mut [u8]) -> usize
-    requires { ⌜ length (lead ∷ now part) ≤ length (now out) ⌝ }
-    ensures { λ r. ⌜ (r ≡ length (lead ∷ now (part .entry))) × (now (out .exit) ≡ front (lead ∷ now (part .entry)) (now (out .entry))) ⌝ }
-{
-    out[0] = lead;
-    let n = text::put(part, &mut out[1..]);
-    n + 1
-}
-
-// How many bytes the spelling of the amended plan takes.
-pub fn amended_length<'a>(plan: &'a [u8], chg: &'a [u8]) -> usize
-    requires { ⌜ (length (now plan) ≤ 1800) × (length (now chg) ≤ 1800) ⌝ }
-    ensures { λ r. ⌜ r ≡ length (messageOf (amendedBy (now (plan .entry)) (now (chg .entry)))) ⌝ }
-{
-    let mut n = 0;
-    let mut j = 0;
-    while j < PLAN_FIELDS {
-        n += 1 + in_force(plan, chg, j).len();
-        j += 1;
-    }
-    n + 1
-}
-
-// Writes the spelling of the amended plan at the front of `out`: each field goes behind the last one, in the rest that is lent to it. The bytes
-// behind the spelling stay.
-pub fn write_amended<'a>(plan: &'a [u8], chg: &'a [u8], out: &mut [u8]) -> usize
-    requires { ⌜ length (messageOf (amendedBy (now plan) (now chg))) ≤ length (now out) ⌝ }
-    ensures { λ r. ⌜ (r ≡ length (messageOf (amendedBy (now (plan .entry)) (now (chg .entry))))) × (now (out .exit) ≡ front (messageOf (amendedBy (now (plan .entry)) (now (chg .entry)))) (now (out .entry))) ⌝ }
-{
-    let mut o = 0;
-    let mut j = 0;
-    while j < PLAN_FIELDS {
-        o += write_part(lead_of(j), in_force(plan, chg, j), &mut out[o..]);
-        j += 1;
-    }
-    out[o] = b')';
-    o + 1
 }

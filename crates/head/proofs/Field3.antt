@@ -10,7 +10,7 @@ use lib.Seq.{take-at, drop-at, take-append-seam, drop-append-seam}
 use borrow.Author.Tests.{leb-true, ltb-true, lt-ltb, not-true}
 use Rattle.alphabet.specs.Alphabet.{letter, digit}
 use Rattle.text.specs.Words.{Word, holds, before, behind, all, null, free, elem, tidyByte, tidy}
-use Rattle.text.proofs.Tests.{both, and-both, all-imp, all-append, all-free, some-length}
+use Rattle.text.proofs.Tests.{both, and-both, all-imp, all-append, all-free, some-length, null-nil}
 use Rattle.text.proofs.Joined.{seam, holds-seam, before-seam, behind-seam}
 use Rattle.text.proofs.Tidy.{letter-tidy, digit-tidy, oblique-tidy, tidy-word, tidy-one}
 use Rattle.shape.specs.Numbers.{digits, value}
@@ -158,10 +158,6 @@ module _ (n : Number) (v : validNumber n ≡ true) where
   some-bytes = omega (arith, long)
 
 -- NONE, ONE OR TWO
-
-null-nil : (w : Word) → null w ≡ true → w ≡ []
-null-nil [] e = refl
-null-nil (b ∷ w) e = absurd (false≢true e)
 
 abbrev few-numbers : List Number → Bool
 few-numbers ns = leb (length ns) 2 && all validNumber ns

@@ -4,14 +4,14 @@ use mathlib.Core.Path.{_≡_, refl, ap}
 use mathlib.Core.Bool.{Bool, true, false, cond, _&&_, not, Bool·beq, and-true}
 use mathlib.Core.List.{List, [], _∷_, _++_}
 use native.Mathlib.Omega.{arith}
-use lib.Dec.{leb, eqb}
+use lib.Dec.{leb}
 use lib.ListN.{length, take, drop, getD, drop-of-length-le, length-take, length-drop}
 use lib.Seq.{take-all}
-use borrow.Author.Tests.{not-true, eqb-true, leb-true, lt-leb}
+use borrow.Author.Tests.{not-true, leb-true, lt-leb}
 use Rattle.alphabet.specs.Alphabet.{letter, digit}
 use Rattle.text.specs.Words.{Word, all, null, elem}
 use Rattle.text.proofs.Index.{drop-here, drop-end}
-use Rattle.text.proofs.Tests.{both, some-length, of-elem}
+use Rattle.text.proofs.Tests.{both, some-length, of-elem, elem-length}
 use Rattle.head.specs.Runs.{lead}
 use Rattle.head.specs.Field3.{types, unit, receiver, serial, first, others, numberFits, numbersFit, fits3}
 use Rattle.head.specs.Field8.{rulesFit, flightFits, fits8}
@@ -102,7 +102,7 @@ rules-other (a ∷ (b ∷ (c ∷ s))) h k = refl
 -- A TYPE has three letters
 pub three-letters : (w : Word) → elem w types ≡ true → length w ≡ 3
 unfolding types
-three-letters w e = eqb-true (length w) 3 (of-elem (λ v. eqb (length v) 3) types refl w e)
+three-letters w e = elem-length 3 types refl w e
 
 pub type-letters : (w : Word) → elem w types ≡ true → all letter w ≡ true
 unfolding types

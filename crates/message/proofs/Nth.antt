@@ -1,37 +1,31 @@
 -- The content of field j, found hyphen by hyphen. Assumes nothing.
-use Prim.Native.Nat.{ℕ, zero, suc, _+_, _<_}
+use Prim.Native.Nat.{ℕ, zero, suc, _<_}
 use mathlib.Core.Path.{_≡_, refl, sym, ap, _∙_}
 use mathlib.Core.Bool.{Bool, true, false}
 use mathlib.Core.List.{List, [], _∷_}
 use native.Mathlib.Omega.{arith}
-use native.Mathlib.Nat.{zero-add}
 use native.Mathlib.Numerals.{add-one}
 use lib.Dec.{ltb}
 use lib.ListN.{length, drop, getD}
 use borrow.Author.Tests.{ltb-true, ltb-false}
-use Rattle.text.specs.Words.{Word, split, after, upTo, before, behind}
-use Rattle.text.proofs.Index.{split-at, after-here, after-end, piece}
+use Rattle.text.specs.Words.{Word, split, upTo, before, behind}
+use Rattle.text.proofs.Index.{after-here, after-end, split-cut}
 use Rattle.space.specs.Hyphens.{behindHyphen}
-
-first-piece : (s : List ℕ) → split 45 s ≡ before 45 s ∷ after 45 (drop (upTo 45 s) s)
-first-piece s =
-    let end : upTo 45 s ≡ 0 + upTo 45 (drop 0 s) = sym (zero-add (upTo 45 s)) in
-    split-at 45 s 0 (upTo 45 s) end ∙ ap (λ (w : Word). w ∷ after 45 (drop (upTo 45 s) s)) (piece 45 s 0 (upTo 45 s) end)
 
 pub nth : (j : ℕ) (s : List ℕ) → j < length (split 45 s) → before 45 (behindHyphen j s) ≡ getD (split 45 s) j []
 unfolding behindHyphen
-nth zero s h = ap (λ (l : List Word). getD l 0 []) (sym (first-piece s))
+nth zero s h = ap (λ (l : List Word). getD l 0 []) (sym (split-cut 45 s))
 nth (suc j) s h = go (nth j (behind 45 s)) (ltb (upTo 45 s) (length s)) refl
   where
     go : (j < length (split 45 (behind 45 s)) → before 45 (behindHyphen j (behind 45 s)) ≡ getD (split 45 (behind 45 s)) j [])
         → (b : Bool) → ltb (upTo 45 s) (length s) ≡ b → before 45 (behindHyphen j (behind 45 s)) ≡ getD (split 45 s) (suc j) []
     go ih true p =
         let cut : split 45 s ≡ before 45 s ∷ split 45 (behind 45 s)
-        = first-piece s ∙ ap (λ (l : List Word). before 45 s ∷ l) (after-here 45 s (upTo 45 s) (ltb-true (upTo 45 s) (length s) p) ∙ ap (λ (k : ℕ). split 45 (drop k s)) (add-one (upTo 45 s))) in
+        = split-cut 45 s ∙ ap (λ (l : List Word). before 45 s ∷ l) (after-here 45 s (upTo 45 s) (ltb-true (upTo 45 s) (length s) p) ∙ ap (λ (k : ℕ). split 45 (drop k s)) (add-one (upTo 45 s))) in
         ih (omega (arith, ap length cut)) ∙ ap (λ (l : List Word). getD l (suc j) []) (sym cut)
     go ih false p =
         let cut : split 45 s ≡ before 45 s ∷ []
-        = first-piece s ∙ ap (λ (l : List Word). before 45 s ∷ l) (after-end 45 s (upTo 45 s) (ltb-false (upTo 45 s) (length s) p)) in
+        = split-cut 45 s ∙ ap (λ (l : List Word). before 45 s ∷ l) (after-end 45 s (upTo 45 s) (ltb-false (upTo 45 s) (length s) p)) in
         absurd (omega (arith, ap length cut))
 
 -- as a cursor's part: the cursor at field j

@@ -8,11 +8,11 @@ use borrow.Author.Tests.{ltb-true, ne-eqb}
 use native.Mathlib.Omega.{arith}
 use Rattle.alphabet.specs.Text.{bytes}
 use Rattle.alphabet.specs.Alphabet.{sign, text, inAlphabet, white}
-use Rattle.text.specs.Words.{Word, split, join, upTo, holds, all, null, free, same, textWord, tidyByte, tidyWord, tidy}
-use Rattle.text.proofs.Tests.{both, and-both, all-imp, all-append, all-free, same-eq, of-elem, rank-elem}
-use Rattle.text.proofs.Index.{split-at}
+use Rattle.text.specs.Words.{Word, split, join, holds, all, null, free, same, textWord, tidyByte, tidyWord, tidy}
+use Rattle.text.proofs.Tests.{both, and-both, all-imp, all-append, all-free, same-eq, of-elem, rank-elem, null-nil}
+use Rattle.text.proofs.Index.{null-split}
 use Rattle.text.proofs.Joined.{join-split, split-join, seam, holds-seam, before-seam, behind-seam, holds-free}
-use Rattle.text.proofs.Tidy.{word-free, sign-tidy, text-tidy, text-word-free, text-word-tidy, tidy-join}
+use Rattle.text.proofs.Tidy.{word-free, sign-tidy, text-tidy, text-word-free, text-word-tidy, tidy-join, oblique-tidy}
 use Rattle.shape.specs.Field.{Laws}
 use Rattle.shape.proofs.Fields.{plain}
 use Rattle.other.specs.Rules.{Edition, base, rankIn, ruleIn, wordFits, moreFits}
@@ -48,10 +48,6 @@ group-more (w ∷ l) ws is e g =
 
 -- AN ITEM'S FIRST WORD is tidy
 
-oblique-tidy : tidyByte 47 ≡ true
-unfolding text inAlphabet white
-oblique-tidy = refl
-
 some-seam : (k f : Word) → not (null (k ++ (47 ∷ f))) ≡ true
 some-seam [] f = refl
 some-seam (b ∷ k) f = refl
@@ -68,9 +64,6 @@ zero-tidy = refl
 
 -- WORDS OF A CONTENT: one at least; so where none is loose there is an item
 
-split-some : (s : List ℕ) → not (null (split 32 s)) ≡ true
-split-some s = rw (split-at 32 s 0 (upTo 32 s) (omega arith))
-
 some-grouped : (ws : List Word) → not (null ws) ≡ true → null (group ws .loose) ≡ true → not (null (group ws .grouped)) ≡ true
 some-grouped [] h e = absurd (false≢true h)
 some-grouped (w ∷ ws) h e = go (holds 47 w) refl e
@@ -78,10 +71,6 @@ some-grouped (w ∷ ws) h e = go (holds 47 w) refl e
     go : (b : Bool) → holds 47 w ≡ b → null (group (w ∷ ws) .loose) ≡ true → not (null (group (w ∷ ws) .grouped)) ≡ true
     go true p e = rw p
     go false p e = absurd (false≢true (rw p at e))
-
-none-loose : (ws : List Word) → null ws ≡ true → ws ≡ []
-none-loose [] e = refl
-none-loose (w ∷ ws) e = absurd (false≢true e)
 
 -- IN AN EDITION whose keys are signs
 
@@ -132,12 +121,12 @@ module _ (ed : Edition) (named : all (all sign) (split 32 (ed .keys)) ≡ true) 
     grouped-fits : valid18 ed (items (group (split 32 s) .grouped)) ≡ true
     grouped-fits =
         let h = both (null (group (split 32 s) .loose)) _ e in
-        and-both (not (null (group (split 32 s) .grouped))) _ (some-grouped (split 32 s) (split-some s) (h .0)) (h .1)
+        and-both (not (null (group (split 32 s) .grouped))) _ (some-grouped (split 32 s) (ap not (null-split 32 s)) (h .0)) (h .1)
 
     grouped-spelled : join 32 (spelt (group (split 32 s) .grouped)) ≡ s
     grouped-spelled =
         let h = both (null (group (split 32 s) .loose)) _ e in
-        ap (join 32) (rw (none-loose (group (split 32 s) .loose) (h .0)) at (spelt-group (split 32 s))) ∙ join-split 32 s
+        ap (join 32) (rw (null-nil (group (split 32 s) .loose) (h .0)) at (spelt-group (split 32 s))) ∙ join-split 32 s
 
   -- a record of items, and valid
   module _ (i : Item) (is : List Item) (e : itemsFit ed 0 (i ∷ is) ≡ true) where

@@ -9,7 +9,7 @@ use lib.ListN.{length, take, drop, length-drop}
 use lib.Seq.{drop-drop, length-take-le, take-add}
 use borrow.Author.Tests.{eqb-true, ne-eqb, lt-ltb, le-ltb}
 use Rattle.text.specs.Words.{Word, split, join, after, upTo, holds, before, behind, same}
-use Rattle.text.proofs.Index.{split-at, upTo-le, after-here, after-end}
+use Rattle.text.proofs.Index.{split-at, upTo-le, after-here, after-end, split-cut}
 use Rattle.other.specs.Field18.{group, fromKey, under, wordsFrom, hasKey, wordsOf, Found}
 
 -- THE FIRST ITEM OF A KEY
@@ -31,9 +31,7 @@ from-step key w ws = go (holds 47 w) refl
 
 -- the pieces from within the first piece on
 split-within : (c : ℕ) (s : List ℕ) (k : ℕ) → k ≤ upTo c s → split c (drop k s) ≡ drop k (take (upTo c s) s) ∷ after c (drop (upTo c s) s)
-split-within c s zero h =
-    let n : upTo c s - 0 ≡ upTo c s = omega arith in
-    rw n at (split-at c s 0 (upTo c s) (omega arith))
+split-within c s zero h = split-cut c s
 split-within c [] (suc k) h = absurd (omega arith)
 split-within c (b ∷ s) (suc k) h = go (split-within c s k) (eqb b c) h
   where

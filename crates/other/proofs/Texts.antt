@@ -9,7 +9,7 @@ use lib.ListN.{length, length-append}
 use borrow.Author.Tests.{eqb-true, leb-true, leb-false, le-leb, lt-leb}
 use Rattle.alphabet.specs.Alphabet.{letter, sign, text, inAlphabet, white, oneOf}
 use Rattle.text.specs.Words.{Word, all, elem, textWord}
-use Rattle.text.proofs.Tests.{both, all-imp, of-one, of-elem}
+use Rattle.text.proofs.Tests.{both, all-imp, of-one, of-elem, elem-length}
 use Rattle.text.proofs.Tidy.{sign-text, letter-sign, digit-sign, text-word}
 use Rattle.shape.specs.Shape.{fits, wide}
 use Rattle.shape.proofs.Index.{fits-lengths}
@@ -26,7 +26,7 @@ concat-twos : (list : List Word) → all (λ c. eqb (length c) 2) list ≡ true 
 concat-twos list a [] e = refl
 concat-twos list a (w ∷ ws) e =
     let h = both (elem w list) _ e in
-    let n : length w ≡ 2 = eqb-true (length w) 2 (of-elem (λ c. eqb (length c) 2) list a w (h .0)) in
+    let n : length w ≡ 2 = elem-length 2 list a w (h .0) in
     omega (arith, length-append w (concat ws), concat-twos list a ws (both (not (elem w ws)) _ (h .1) .1))
 
 approvals-two : all (λ c. eqb (length c) 2) approvals ≡ true

@@ -2,16 +2,16 @@
 use Prim.Native.Nat.{ℕ, _+_, _-_, _<_, _≤_}
 use mathlib.Core.Path.{_≡_, refl, ap, _∙_}
 use mathlib.Core.Bool.{Bool, true, false, cond, _&&_}
-use mathlib.Core.List.{List, [], _∷_, _++_}
+use mathlib.Core.List.{List, _++_}
 use native.Mathlib.Omega.{arith}
 use native.Mathlib.Numerals.{add-one}
 use lib.Arith.{lt-of-le-ne}
-use lib.Dec.{eqb}
 use lib.ListN.{length, take, drop}
 use borrow.Author.Tests.{lt-ltb, le-ltb}
 use Rattle.alphabet.specs.Text.{bytes}
-use Rattle.text.specs.Words.{Word, split, onto, upTo, null, same}
-use Rattle.text.proofs.Index.{split-at, after-here, after-end, rest}
+use Rattle.text.specs.Words.{Word, split, upTo, same}
+use Rattle.text.proofs.Index.{split-at, after-here, after-end, rest, null-split}
+use Rattle.text.proofs.Tests.{and-false}
 use Rattle.shape.specs.Shape.{wides, any}
 use Rattle.route.specs.Levels.{speeds, levels, starts, changes, climbs}
 use Rattle.route.specs.Points.{pointFits}
@@ -81,34 +81,21 @@ and-true : (a : Bool) → (a && true) ≡ a
 and-true true = refl
 and-true false = refl
 
-and-false : (a : Bool) → (a && false) ≡ false
-and-false true = refl
-and-false false = refl
-
-null-split : (s : List ℕ) → null (split 32 s) ≡ false
-null-split [] = refl
-null-split (c ∷ s) = go (eqb c 32) (split 32 s)
-  where
-    go : (b : Bool) (ws : List Word) → null (cond b ([] ∷ ws) (onto c ws)) ≡ false
-    go true ws = refl
-    go false [] = refl
-    go false (w ∷ ws) = refl
-
 module _ (s : List ℕ) (at e : ℕ) (end : e ≡ at + upTo 32 (drop at s)) where
   pub route-last : length s ≤ e → routeFits (split 32 (drop at s)) ≡ elementFits true (take (e - at) (drop at s))
   route-last h = rw (split-at 32 s at e end, after-end 32 s e h) (and-true (elementFits true (take (e - at) (drop at s))))
 
   pub route-next : e < length s
       → routeFits (split 32 (drop at s)) ≡ (elementFits false (take (e - at) (drop at s)) && routeFits (split 32 (drop (e + 1) s)))
-  route-next h = rw (split-at 32 s at e end, after-here 32 s e h, null-split (drop (e + 1) s))
+  route-next h = rw (split-at 32 s at e end, after-here 32 s e h, null-split 32 (drop (e + 1) s))
 
 module _ (s : List ℕ) (e : ℕ) (end : e ≡ 0 + upTo 32 s) where
   pub field-one : length s ≤ e → fits15 s ≡ false
   unfolding fits15
-  field-one h = rw (split-at 32 s 0 e end, after-end 32 s e h) (and-false (any (wides starts) (take (e - 0) s)))
+  field-one h = rw (split-at 32 s 0 e end, after-end 32 s e h) (and-false (any (wides starts) (take (e - 0) s)) false refl)
 
   pub field-more : e < length s → fits15 s ≡ (any (wides starts) (take e s) && routeFits (split 32 (drop (e + 1) s)))
   unfolding fits15
   field-more h =
       let n : e - 0 ≡ e = omega arith in
-      rw (split-at 32 s 0 e end, after-here 32 s e h, null-split (drop (e + 1) s), n)
+      rw (split-at 32 s 0 e end, after-here 32 s e h, null-split 32 (drop (e + 1) s), n)

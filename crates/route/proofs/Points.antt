@@ -4,14 +4,14 @@ use mathlib.Core.Path.{_≡_, refl, sym, ap, ap₂, _∙_}
 use mathlib.Core.Bool.{Bool, true, false, cond, _&&_, not, true≢false}
 use mathlib.Core.List.{List, [], _∷_, _++_}
 use native.Mathlib.Omega.{arith}
-use lib.Dec.{leb, ltb, eqb}
+use lib.Dec.{leb, ltb}
 use lib.ListN.{length, drop, getD, length-append, take-append-drop}
 use lib.Seq.{drop-drop, take-at, drop-at, length-take-le, getD-drop}
-use borrow.Author.Tests.{leb-true, ltb-true, ltb-false, lt-ltb, le-ltb, le-leb, not-true, eqb-true}
+use borrow.Author.Tests.{leb-true, ltb-true, ltb-false, lt-ltb, le-ltb, le-leb, not-true}
 use Rattle.alphabet.specs.Text.{bytes}
 use Rattle.alphabet.specs.Alphabet.{sign, oneOf}
 use Rattle.text.specs.Words.{Word, all, elem}
-use Rattle.text.proofs.Tests.{both, and-both, all-append, of-elem}
+use Rattle.text.proofs.Tests.{both, and-both, all-append, elem-length}
 use Rattle.text.proofs.Tidy.{digit-sign}
 use Rattle.shape.specs.Shape.{letters, fits, wide, values, spells, sized}
 use Rattle.shape.proofs.Index.{fits-lengths, fits-other}
@@ -349,7 +349,7 @@ pub record Known (w : Word) : Type 0 where
 -- indicators have three letters
 three-letters : (w : Word) → elem w indicators ≡ true → length w ≡ 3
 unfolding indicators
-three-letters w e = eqb-true (length w) 3 (of-elem (λ v. eqb (length v) 3) indicators refl w e)
+three-letters w e = elem-length 3 indicators refl w e
 
 no-indicator : (w : Word) → (length w ≡ 3 → ⊥) → elem w indicators ≡ false
 no-indicator w h = go (elem w indicators) refl

@@ -10,7 +10,7 @@ use Rattle.alphabet.specs.Alphabet.{digit, sign, text, inAlphabet, white}
 use Rattle.text.specs.Words.{Word, holds, before, behind, all, null, free, same, elem, tidyByte, tidyWord}
 use Rattle.text.proofs.Tests.{both, and-both, all-imp, all-append, all-free, same-eq, same-lengths, of-elem}
 use Rattle.text.proofs.Joined.{seam, holds-seam, before-seam, behind-seam, holds-free}
-use Rattle.text.proofs.Tidy.{digit-sign, sign-tidy, tidy-word}
+use Rattle.text.proofs.Tidy.{digit-sign, sign-tidy, tidy-word, oblique-tidy}
 use Rattle.shape.specs.Shape.{letters, fits, wides, any}
 use Rattle.shape.proofs.Exact.{fits-all}
 use Rattle.route.specs.Levels.{Speed, Level, UpperLevel, validSpeed, validLevel, validUpper, spellSpeed, spellLevel, spellUpper, speeds, levels}
@@ -272,10 +272,6 @@ changes-signed = refl
 climbs-signed : signed (wides climbs) ≡ true
 unfolding climbs speeds levels letters
 climbs-signed = refl
-
-oblique-tidy : tidyByte 47 ≡ true
-unfolding text inAlphabet white
-oblique-tidy = refl
 
 tidy-seam : (w : Word) → holds 47 w ≡ true → all sign (before 47 w) ≡ true → all tidyByte (behind 47 w) ≡ true → all tidyByte w ≡ true
 tidy-seam w h p q =

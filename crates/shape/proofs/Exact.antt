@@ -9,7 +9,7 @@ use lib.Seq.{take-at, drop-at}
 use borrow.Author.Tests.{not-true, ltb-true, lt-ltb}
 use Rattle.alphabet.specs.Alphabet.{digit, oneOf}
 use Rattle.text.specs.Words.{Word, all, same, elem}
-use Rattle.text.proofs.Tests.{both, same-eq, same-self, of-elem, of-one}
+use Rattle.text.proofs.Tests.{both, same-eq, same-self, of-elem, of-one, and-false}
 use Rattle.shape.specs.Numbers.{digits, value}
 use Rattle.shape.specs.Shape.{letters, inClass, fits, copies, wide, values, spells, sized, Form, any, wides, pick, formOf, spellForm, validForm}
 use Rattle.shape.proofs.Numbers.{value-below, digits-value, digits-length, value-digits, digits-digits}
@@ -109,10 +109,6 @@ disjoint-law t u b a e = go (digit t) refl (digit u) refl a e
     go true p true q r s = absurd (false≢true r)
     go true p false q r s = rw q (never (oneOf b (letters u)) refl s r)
     go false p d q r s = not-true (inClass u b) (of-one (λ b. not (inClass u b)) (letters t) r b s)
-
-and-false : (a b : Bool) → b ≡ false → (a && b) ≡ false
-and-false true b e = e
-and-false false b e = refl
 
 pub clash-law : (t u w : Word) → clash t u ≡ true → fits t w ≡ true → fits u w ≡ false
 clash-law [] [] w c e = absurd (false≢true c)

@@ -4,9 +4,11 @@ use mathlib.Core.Path.{_≡_, refl, sym, ap, _∙_}
 use mathlib.Core.Bool.{Bool, true, false, cond, not, _&&_, _||_}
 use mathlib.Core.List.{List, [], _∷_, _++_, map}
 use lib.Dec.{eqb}
+use lib.ListN.{drop}
 use borrow.Author.Tests.{eqb-true}
 use Rattle.alphabet.specs.Alphabet.{white}
-use Rattle.text.specs.Words.{Word, split, onto}
+use Rattle.text.specs.Words.{Word, split, onto, before, after, upTo}
+use Rattle.text.proofs.Index.{split-cut}
 use Rattle.space.specs.Reduced.{opens, closes, standsForRun, kept, reducedFrom}
 use Rattle.space.specs.Fields.{standsInField, fieldFrom, reducedField}
 use Rattle.space.proofs.Bytes.{hyphen-solid, hyphen-opens, hyphen-closes, white-other}
@@ -17,12 +19,7 @@ abbrev pub Cut : List Word → Type 0
 Cut ws = (v : Word) × (vs : List Word) × (ws ≡ v ∷ vs)
 
 pub cut : (c : ℕ) (s : List ℕ) → Cut (split c s)
-cut c [] = ([], [], refl)
-cut c (b ∷ s) = go (eqb b c) (split c s) (cut c s)
-  where
-    go : (t : Bool) (ws : List Word) → Cut ws → Cut (cond t ([] ∷ ws) (onto b ws))
-    go true ws k = ([], ws, refl)
-    go false ws k = (b ∷ k .0, k .1, ap (onto b) (k .2))
+cut c s = (before c s, after c (drop (upTo c s) s), split-cut c s)
 
 -- BEFORE A BYTE THAT CLOSES
 

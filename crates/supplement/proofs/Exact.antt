@@ -4,7 +4,7 @@ use mathlib.Core.Path.{_≡_, refl, sym, ap, _∙_}
 use mathlib.Core.Bool.{true, not, false≢true}
 use mathlib.Core.List.{List, [], _∷_, _++_}
 use Rattle.text.specs.Words.{Word, split, join, all, null, free, tidyWord, tidy}
-use Rattle.text.proofs.Tests.{both, and-both, all-imp}
+use Rattle.text.proofs.Tests.{both, and-both, all-imp, null-nil}
 use Rattle.text.proofs.Joined.{join-split, split-join}
 use Rattle.text.proofs.Tidy.{word-free, tidy-join}
 use Rattle.shape.proofs.Fields.{Facts}
@@ -22,11 +22,7 @@ grouped : (g : Groups) → groupsFit g ≡ true → Grouped g
 grouped g e =
     let h = both (null (g .0)) _ e in
     let f = both (not (null (g .1))) _ (h .1) in
-    record { strays = none-of (g .0) (h .0); some = f .0; items = f .1 }
-  where
-    none-of : (ws : List Word) → null ws ≡ true → ws ≡ []
-    none-of [] q = refl
-    none-of (w ∷ ws) q = absurd (false≢true q)
+    record { strays = null-nil (g .0) (h .0); some = f .0; items = f .1 }
 
 -- FROM A CONTENT TO ITS RECORD
 

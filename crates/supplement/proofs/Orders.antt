@@ -10,7 +10,7 @@ use lib.ListN.{length}
 use borrow.Author.Tests.{not-true, eqb-true, eqb-false, eq-eqb, ne-eqb, leb-true, le-leb}
 use Rattle.alphabet.specs.Alphabet.{digit, oneOf}
 use Rattle.text.specs.Words.{Word, all}
-use Rattle.text.proofs.Tests.{both, and-both}
+use Rattle.text.proofs.Tests.{both, and-both, and-false}
 use Rattle.supplement.specs.Field19.{count, lettersFit, someOf, sorted, stripped}
 
 -- LETTERS
@@ -20,10 +20,6 @@ in-sorted : (b : ℕ) (set : List ℕ) (w : Word) → oneOf b (sorted set w) ≡
 in-sorted b [] w = refl
 in-sorted b (x ∷ set) w = go (in-sorted b set w) (oneOf x w) refl (eqb b x) refl
   where
-    nowhere : (t : Bool) → (t && false) ≡ false
-    nowhere true = refl
-    nowhere false = refl
-
     go : oneOf b (sorted set w) ≡ (oneOf b set && oneOf b w)
         → (t : Bool) → oneOf x w ≡ t → (c : Bool) → eqb b x ≡ c
         → oneOf b (cond t (x ∷ sorted set w) (sorted set w)) ≡ (cond c true (oneOf b set) && oneOf b w)
@@ -31,7 +27,7 @@ in-sorted b (x ∷ set) w = go (in-sorted b set w) (oneOf x w) refl (eqb b x) re
     go ih true p false q = rw q ih
     go ih false p true q =
         let z : oneOf b w ≡ false = ap (λ (n : ℕ). oneOf n w) (eqb-true b x q) ∙ p in
-        ih ∙ rw z (nowhere (oneOf b set))
+        ih ∙ rw z (and-false (oneOf b set) false refl)
     go ih false p false q = ih
 
 -- sorted letters are those of the word

@@ -11,7 +11,7 @@ use lib.ListN.{length, take, drop, getD, drop-of-length-le, length-drop}
 use lib.Seq.{drop-cons, drop-drop, take-all}
 use lib.Arith.{lt-of-le-ne}
 use borrow.Author.Tests.{eq-eqb, ne-eqb, lt-ltb, le-ltb}
-use Rattle.text.specs.Words.{Word, split, onto, after, upTo, holds, before, behind, all, same, rankFrom}
+use Rattle.text.specs.Words.{Word, split, onto, after, upTo, holds, before, behind, all, null, same, rankFrom}
 use Rattle.text.specs.Places.{Stepped}
 
 pub drop-here : (s : List ℕ) (i : ℕ) → i < length s → drop i s ≡ getD s i 0 ∷ drop (i + 1) s
@@ -68,7 +68,8 @@ same-end s t i h k = rw (drop-end s i h, drop-end t i k)
 
 -- PIECES
 
-split-cut : (c : ℕ) (s : List ℕ) → split c s ≡ take (upTo c s) s ∷ after c (drop (upTo c s) s)
+-- the first piece, and the pieces behind it
+pub split-cut : (c : ℕ) (s : List ℕ) → split c s ≡ take (upTo c s) s ∷ after c (drop (upTo c s) s)
 split-cut c [] = refl
 split-cut c (b ∷ s) = go (split-cut c s) (eqb b c)
   where
@@ -76,6 +77,10 @@ split-cut c (b ∷ s) = go (split-cut c s) (eqb b c)
         → (t : Bool) → cond t ([] ∷ split c s) (onto b (split c s)) ≡ take (cond t 0 (suc (upTo c s))) (b ∷ s) ∷ after c (drop (cond t 0 (suc (upTo c s))) (b ∷ s))
     go ih true = refl
     go ih false = ap (onto b) ih
+
+-- so there is one at least
+pub null-split : (c : ℕ) (s : List ℕ) → null (split c s) ≡ false
+null-split c s = ap null (split-cut c s)
 
 -- the pieces from `at` on are the bytes up to e, where the next c stands or the text ends, and the pieces behind
 pub split-at : (c : ℕ) (s : List ℕ) (at e : ℕ) → e ≡ at + upTo c (drop at s) → split c (drop at s) ≡ take (e - at) (drop at s) ∷ after c (drop e s)

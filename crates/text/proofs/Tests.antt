@@ -1,11 +1,11 @@
 -- Laws of tests: of two tests together, of a test at every element, of equal bytes, of a byte of a set, of a word in a list. Assumes nothing.
-use Prim.Native.Nat.{ℕ, suc, _<_}
+use Prim.Native.Nat.{ℕ, suc, _<_, zero}
 use mathlib.Core.Path.{_≡_, refl, sym, ap, _∙_}
 use mathlib.Core.Bool.{Bool, true, false, cond, _&&_, not, false≢true}
 use mathlib.Core.List.{List, [], _∷_, _++_}
 use native.Mathlib.Omega.{arith}
 use lib.Dec.{eqb}
-use lib.ListN.{length}
+use lib.ListN.{length, drop}
 use borrow.Author.Tests.{eq-eqb, ne-eqb, eqb-true}
 use Rattle.alphabet.specs.Alphabet.{oneOf}
 use Rattle.text.specs.Words.{Word, all, null, free, same, elem, rankFrom}
@@ -19,6 +19,10 @@ both false b e = absurd (false≢true e)
 pub and-both : (a b : Bool) → a ≡ true → b ≡ true → (a && b) ≡ true
 and-both a b p q = rw (p, q)
 
+pub and-false : (a b : Bool) → b ≡ false → (a && b) ≡ false
+and-false true b e = e
+and-false false b e = refl
+
 -- AT EVERY ELEMENT
 
 pub all-imp : {A : Type 0} (p q : A → Bool) → ((x : A) → p x ≡ true → q x ≡ true) → (xs : List A) → all p xs ≡ true → all q xs ≡ true
@@ -28,6 +32,11 @@ all-imp p q f (x ∷ xs) e = let h = both (p x) (all p xs) e in rw (f x (h .0)) 
 pub all-append : {A : Type 0} (p : A → Bool) (v w : List A) → all p v ≡ true → all p w ≡ true → all p (v ++ w) ≡ true
 all-append p [] w e f = f
 all-append p (x ∷ v) w e f = let h = both (p x) (all p v) e in rw (h .0) (all-append p v w (h .1) f)
+
+pub all-drop : {A : Type 0} (p : A → Bool) (n : ℕ) (w : List A) → all p w ≡ true → all p (drop n w) ≡ true
+all-drop p zero w e = e
+all-drop p (suc n) [] e = refl
+all-drop p (suc n) (x ∷ w) e = all-drop p n w (both (p x) (all p w) e .1)
 
 -- a byte for which a test fails is not one that passes it
 pub other : (p : ℕ → Bool) (c : ℕ) → p c ≡ false → (b : ℕ) → p b ≡ true → not (eqb b c) ≡ true
@@ -40,6 +49,11 @@ other p c f b t = go (eqb b c) refl
 -- so a word of bytes that pass it is free of that byte
 pub all-free : (p : ℕ → Bool) (c : ℕ) → p c ≡ false → (w : Word) → all p w ≡ true → free c w ≡ true
 all-free p c f w e = all-imp p (λ b. not (eqb b c)) (other p c f) w e
+
+-- none
+pub null-nil : {A : Type 0} (w : List A) → null w ≡ true → w ≡ []
+null-nil [] e = refl
+null-nil (x ∷ w) e = absurd (false≢true e)
 
 -- one or more
 pub some-length : {A : Type 0} (w : List A) → 0 < length w → not (null w) ≡ true
@@ -100,6 +114,10 @@ of-elem p (v ∷ vs) a w e = go (of-elem p vs (h .1) w) (same w v) refl e
     go : (elem w vs ≡ true → p w ≡ true) → (b : Bool) → same w v ≡ b → cond b true (elem w vs) ≡ true → p w ≡ true
     go ih true q e = ap p (same-eq w v q) ∙ h .0
     go ih false q e = ih e
+
+-- a word of a list whose words have n bytes each has n
+pub elem-length : (n : ℕ) (vs : List Word) → all (λ v. eqb (length v) n) vs ≡ true → (w : Word) → elem w vs ≡ true → length w ≡ n
+elem-length n vs a w e = eqb-true (length w) n (of-elem (λ v. eqb (length v) n) vs a w e)
 
 -- a word is one of a list exactly where it has a rank there
 pub rank-elem : (k : ℕ) (w : Word) (vs : List Word) → 0 < k → not (eqb (rankFrom k w vs) 0) ≡ elem w vs
