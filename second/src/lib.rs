@@ -1,4 +1,5 @@
-//! An independent second reader of nine ATS messages, written from document 01 alone.
+//! A second reader of nine ATS messages, written from document 01 with its open points as decided,
+//! and without the proved reader's code.
 //!
 //! It reads the message as sent, word by word, and spells each word as it goes: there is no
 //! buffer of reduced white space and no cutting into fields beforehand.
