@@ -98,7 +98,7 @@ seeking-starts {chg} {k} {at} h l d =
           ∙ ap (λ (i : ℕ). lookupAt k i (entriesOf chg)) (place-at 5 at chg l d);
     }
 
-drop-take : (b n : ℕ) (l : List ℕ) → b ≤ n → drop b (take n l) ≡ take (n - b) (drop b l)
+pub drop-take : (b n : ℕ) (l : List ℕ) → b ≤ n → drop b (take n l) ≡ take (n - b) (drop b l)
 drop-take zero n l h = let z : n ≡ n - 0 = omega arith in ap (λ (i : ℕ). take i l) z
 drop-take (suc b) zero l h = absurd (omega arith)
 drop-take (suc b) (suc n) [] h = sym (take-nil (suc n - suc b))

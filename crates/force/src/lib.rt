@@ -14,7 +14,7 @@ pub enum Found {
 }
 
 // The cursor at field j of a text; at the end where there are fewer.
-fn seek(s: &[u8], j: usize) -> Cursor
+pub fn seek(s: &[u8], j: usize) -> Cursor
     ensures { λ r. ⌜ (r .at ≤ length (now (s .entry))) × (drop (r .at) (now (s .entry)) ≡ behindHyphen j (now (s .entry))) ⌝ }
 {
     let mut c = Cursor { at: 0 };
@@ -54,7 +54,7 @@ fn find_entry(chg: &[u8], k: usize) -> Found
 }
 
 // What a CHG has for the field of rank k. Rank 0 is field 3, which no entry names.
-fn named(chg: &[u8], k: usize) -> Found
+pub fn named(chg: &[u8], k: usize) -> Found
     ensures { λ r. ⌜ FoundIn (now (chg .entry)) k r ⌝ }
 {
     if k == 0 {

@@ -54,7 +54,7 @@ answered (Refused number field place) = refused number field place refl
 -- THE NUMBERS OF A REFUSAL
 
 -- 1 to 3
-abbrev OuterNumber : Outer → Type 0
+abbrev pub OuterNumber : Outer → Type 0
 OuterNumber Good = Unit
 OuterNumber (Bad number place) = (1 ≤ number) × (number ≤ 3)
 
@@ -94,7 +94,7 @@ first-number : (o p : Outer) → OuterNumber o → OuterNumber p → OuterNumber
 first-number Good p h k = k
 first-number (Bad number place) p h k = h
 
-outer-number : (m : List ℕ) → OuterNumber (outer m)
+pub outer-number : (m : List ℕ) → OuterNumber (outer m)
 unfolding outer
 outer-number m = go (ltb 1800 (length m))
   where
@@ -103,7 +103,7 @@ outer-number m = go (ltb 1800 (length m))
     go false = first-number (parens m) (lettersFrom 0 m) (parens-number m) (letters-number 0 m)
 
 -- 7 to 9
-abbrev FaultNumber : Fault → Type 0
+abbrev pub FaultNumber : Fault → Type 0
 FaultNumber Clear = Unit
 FaultNumber (At number j) = (7 ≤ number) × (number ≤ 9)
 
@@ -118,7 +118,7 @@ of-four k e z = go (eqb k 0) (eqb k 7) (eqb k 8) (eqb k 9) refl refl refl refl e
     go false false false true p q r s e = (omega (arith, eqb-true k 9 s), omega (arith, eqb-true k 9 s))
     go false false false false p q r s e = absurd (false≢true e)
 
-fault-numbers : (earlier : List ℕ) (j : ℕ) (fs : List Form) (cs : List Word) → FaultNumber (faultFrom earlier j fs cs)
+pub fault-numbers : (earlier : List ℕ) (j : ℕ) (fs : List Form) (cs : List Word) → FaultNumber (faultFrom earlier j fs cs)
 fault-numbers earlier j [] cs = tt
 fault-numbers earlier j (f ∷ fs) [] = tt
 fault-numbers earlier j (f ∷ fs) (c ∷ cs) =

@@ -47,7 +47,7 @@ pub enum Answer {
 }
 
 // The byte before a field: `(` before the first, `-` before the others.
-fn lead_of(j: usize) -> u8
+pub fn lead_of(j: usize) -> u8
     ensures { λ r. ⌜ r ≡ leadOf j ⌝ }
 {
     if j == 0 { b'(' } else { b'-' }
@@ -159,7 +159,7 @@ fn unexplained_in(s: &[u8]) -> u8
     )
 }
 
-fn is_plan(t: MessageType) -> bool
+pub fn is_plan(t: MessageType) -> bool
     ensures { λ r. ⌜ r ≡ isPlan t ⌝ }
 {
     match t {

@@ -42,24 +42,8 @@ const MOST_BYTES: usize = 1800;
 
 const PLAN_FIELDS: usize = 9;
 
-fn is_plan(t: MessageType) -> bool
-    ensures { λ r. ⌜ r ≡ isPlan t ⌝ }
-{
-    match t {
-        MessageType::Fpl => true,
-        MessageType::Chg => false,
-        MessageType::Cnl => false,
-        MessageType::Dla => false,
-        MessageType::Dep => false,
-        MessageType::Arr => false,
-        MessageType::Rqp => false,
-        MessageType::Rqs => false,
-        MessageType::Spl => false,
-    }
-}
-
 // Whether a strip is an FPL as it is written: it is accepted as one, and its spelling is the strip itself.
-fn is_canonical_plan(strip: &[u8]) -> bool
+pub fn is_canonical_plan(strip: &[u8]) -> bool
     ensures { λ r. ⌜ r ≡ canonicalPlan (now (strip .entry)) ⌝ }
 {
     let mut scratch = [0u8; 1800];
@@ -70,7 +54,7 @@ fn is_canonical_plan(strip: &[u8]) -> bool
             place: _,
         } => false,
         Answer::Accepted(t, n) => {
-            if !is_plan(t) {
+            if !message::is_plan(t) {
                 return false;
             }
             text::same_bytes(&scratch[..n], strip)
@@ -172,7 +156,7 @@ fn time_differs(t: MessageType, a: &[u8], b: &[u8]) -> bool
 }
 
 // What differs between a plan and a message, from their texts.
-fn differences_in(t: MessageType, plan: &[u8], said: &[u8]) -> Differences
+pub fn differences_in(t: MessageType, plan: &[u8], said: &[u8]) -> Differences
     ensures { λ r. ⌜ r ≡ differences t (split 45 (now (plan .entry))) (split 45 (now (said .entry))) ⌝ }
 {
     let ours = field(plan, 5);
@@ -264,13 +248,6 @@ fn new_length<'a>(t: MessageType, plan: &'a [u8], said: &'a [u8]) -> usize
     n + 1
 }
 
-// The byte before a field: `(` before the first, `-` before the others.
-fn lead_of(k: usize) -> u8
-    ensures { λ r. ⌜ r ≡ leadOf k ⌝ }
-{
-    if k == 0 { b'(' } else { b'-' }
-}
-
 // Writes a content behind the byte that leads to it, at the front of `out`.
 fn write_part(lead: u8, part: &[u8], out: &mut [u8]) -> usize
     requires { ⌜ length (lead ∷ now part) ≤ length (now out) ⌝ }
@@ -289,7 +266,11 @@ fn write_new<'a>(t: MessageType, plan: &'a [u8], said: &'a [u8], out: &mut [u8])
     let mut o = 0;
     let mut k = 0;
     while k < PLAN_FIELDS {
-        o += write_part(lead_of(k), content(t, plan, said, k), &mut out[o..]);
+        o += write_part(
+            message::lead_of(k),
+            content(t, plan, said, k),
+            &mut out[o..],
+        );
         k += 1;
     }
     out[o] = b')';

@@ -1,0 +1,185 @@
+-- The answers to a question for a field in force, as the code comes to them, and the bytes at the place given back. Assumes nothing.
+use Prim.Native.Nat.{ℕ, suc, _+_, _-_, _≤_}
+use mathlib.Core.Path.{_≡_, refl, sym, ap, ap₂, subst, _∙_}
+use mathlib.Core.Bool.{Bool, true, false, _&&_, cond}
+use mathlib.Core.List.{List}
+use mathlib.Core.Option.{Option}
+use native.Mathlib.Omega.{arith}
+use lib.Dec.{eqb, leb}
+use lib.ListN.{length, take, drop, length-take, length-drop}
+use lib.Seq.{length-take-le, drop-drop, take-take}
+use borrow.Author.Tests.{eq-eqb, ne-eqb}
+use Rattle.text.specs.Words.{Word, split, same, upTo}
+use Rattle.text.proofs.Tests.{same-eq}
+use Rattle.space.specs.Fields.{inner}
+use Rattle.space.specs.Hyphens.{behindHyphen}
+use Rattle.kinds.specs.declared.MessageType.{MessageType}
+use Rattle.kinds.specs.declared.MessageType.the-variants.{Chg}
+use Rattle.message.specs.declared.Answer.{Answer}
+use Rattle.message.specs.declared.Answer.the-variants.{Accepted as ReadAs, Refused as NotRead}
+use Rattle.message.specs.Reading.{spellingOf, answerOf}
+use Rattle.state.specs.declared.State.{State}
+use Rattle.state.specs.State.{sound}
+use Rattle.force.specs.declared.Found.the-variants.{At, Nowhere}
+use Rattle.force.specs.InForce.{inForce, namedAt, placeOf, FoundIn}
+use Rattle.force.proofs.Walk.{in-chg, in-plan, place-at, drop-take}
+use Rattle.strip.specs.Updating.{canonicalPlan, differences, differs}
+use Rattle.asked.specs.declared.Asked.{Asked}
+use Rattle.asked.specs.declared.Asked.the-variants.{InStrip, InChange, Refused}
+use Rattle.asked.specs.Asking.{rankOf, standsIn, standsAs, fieldAs, flightAs, isChange, typeAs, notReadAs, readAs, askedOf, shown, StandsAt}
+use Rattle.asked.specs.Parts.{PartOf, PartBehind, Shows, ShowsText}
+
+-- WHERE IT STANDS, from the texts
+
+module _ (plan said : List ℕ) (k : ℕ) where
+  abbrev pub Stood : Asked → Type 0
+  Stood r = (r ≡ standsAs plan said k) × ShowsText r plan said (inForce plan said k)
+
+  one-less : (s : List ℕ) (from to : ℕ) → from ≤ to → to ≤ length s → take (to - from) (drop from s) ≡ inForce plan said k
+      → PartBehind s (from + 1) (to + 1) (inForce plan said k)
+  one-less s from to l b c =
+      let f : from + 1 - 1 ≡ from = omega arith in
+      let n : to + 1 - (from + 1) ≡ to - from = omega arith in
+      (omega arith, omega (arith, l), omega (arith, b), ap₂ (λ (i j : ℕ). take i (drop j s)) n f ∙ c)
+
+  long : (s : List ℕ) (from to : ℕ) → from ≤ to → to ≤ length s → take (to - from) (drop from s) ≡ inForce plan said k → length (inForce plan said k) ≡ to - from
+  long s from to l b c = sym (ap length c) ∙ length-take-le (to - from) (drop from s) (omega (arith, l, b, length-drop from s))
+
+  pub in-change : (from to : ℕ) → FoundIn said k (At from to) → Stood (InChange (from + 1) (to + 1))
+  in-change from to h =
+      let c = in-chg {A = ℕ} plan said k 0 0 0 0 from to h .0 in
+      let f : suc from ≡ from + 1 = omega arith in
+      let t : suc from + length (inForce plan said k) ≡ to + 1 = omega (arith, h .0, long said from to (h .0) (h .1) c) in
+      (sym (ap (λ (o : Option ℕ). standsIn o plan said k) (h .3) ∙ ap₂ InChange f t), one-less said from to (h .0) (h .1) c)
+
+  pub in-strip : (at e : ℕ) → FoundIn said k Nowhere → at ≤ length plan → drop at plan ≡ behindHyphen k plan → e ≡ at + upTo 45 (drop at plan) → at ≤ e → e ≤ length plan
+      → Stood (InStrip (at + 1) (e + 1))
+  in-strip at e h l d end ae el =
+      let c = in-plan {A = ℕ} plan said k 0 0 0 0 at e h l d end .0 in
+      let f : suc (placeOf plan k) ≡ at + 1 = omega (arith, place-at k at plan l d) in
+      let t : suc (placeOf plan k) + length (inForce plan said k) ≡ e + 1 = omega (arith, place-at k at plan l d, ae, long plan at e ae el c) in
+      (sym (ap (λ (o : Option ℕ). standsIn o plan said k) (h .1) ∙ ap₂ InStrip f t), one-less plan at e ae el c)
+
+-- 12 AND 8
+
+module _ (plan said : List ℕ) (number : ℕ) where
+  abbrev pub Told : Asked → Type 0
+  Told r = (r ≡ flightAs plan said number) × ShowsText r plan said (inForce plan said (rankOf number))
+
+  by-differences : (b : Bool) → differs (differences Chg (split 45 plan) (split 45 said)) ≡ b → flightAs plan said number ≡ cond b (Refused 12 0 0) (fieldAs plan said number)
+  by-differences b e = ap (λ (x : Bool). cond x (Refused 12 0 0) (fieldAs plan said number)) e
+
+  pub other-flight : differs (differences Chg (split 45 plan) (split 45 said)) ≡ true → Told (Refused 12 0 0)
+  other-flight e = (sym (by-differences true e), tt)
+
+  module _ (same-flight : differs (differences Chg (split 45 plan) (split 45 said)) ≡ false) where
+    pub not-named : rankOf number ≡ 0 → Told (Refused 8 number 0)
+    not-named z = (sym (by-differences false same-flight ∙ rw (eq-eqb (rankOf number) 0 z)), tt)
+
+    pub asked-for : (k : ℕ) → k ≡ rankOf number → (k ≡ 0 → ⊥) → (r : Asked) → Stood plan said k r → Told r
+    asked-for k e z r h =
+        let n : eqb (rankOf number) 0 ≡ false = ne-eqb (rankOf number) 0 (λ q. z (e ∙ q)) in (
+          h .0 ∙ ap (standsAs plan said) e ∙ sym (by-differences false same-flight ∙ rw n),
+          subst (λ (i : ℕ). ShowsText r plan said (inForce plan said i)) e (h .1),
+        )
+
+-- FROM THE TEXTS TO THE MESSAGES
+
+inner-part : (s : List ℕ) (from to : ℕ) (w : Word) → 2 ≤ length s → PartBehind (inner s) from to w → PartOf s from to w
+inner-part s from to w two h =
+    let l : length (inner s) ≡ length s - 2 = length-take-le (length s - 2) (drop 1 s) (omega (arith, length-drop 1 s)) in
+    let b : to ≤ length s - 1 = omega (arith, h .2, l, two) in
+    let f : 1 + (from - 1) ≡ from = omega (arith, h .0) in (
+      h .1,
+      omega (arith, b),
+      ap (λ (i : ℕ). take (to - from) (drop i s)) (sym f)
+          ∙ ap (take (to - from)) (sym (drop-drop (from - 1) 1 s))
+          ∙ sym (take-take (to - from) (length s - 2 - (from - 1)) (drop (from - 1) (drop 1 s)) (omega (arith, h .0, h .1, b, two)))
+          ∙ ap (take (to - from)) (sym (drop-take (from - 1) (length s - 2) (drop 1 s) (omega (arith, h .0, h .1, b, two))))
+          ∙ h .3,
+    )
+
+module _ (strip chg : List ℕ) (w : Word) (two : 2 ≤ length strip) (two' : 2 ≤ length chg) where
+  shows : (r : Asked) → ShowsText r (inner strip) (inner chg) w → Shows r strip chg w
+  shows (InStrip from to) h = inner-part strip from to w two h
+  shows (InChange from to) h = inner-part chg from to w two' h
+  shows (Refused number field place) h = tt
+
+-- 14 AND 17
+
+pub same-long : (a b : List ℕ) → same a b ≡ true → length a ≡ length b
+same-long a b e = ap length (same-eq a b e)
+
+module _ (t : MessageType) (spelled strip chg : List ℕ) (number : ℕ) where
+  abbrev pub Answered : Asked → Type 0
+  Answered r = (r ≡ typeAs t spelled strip chg number) × Shows r strip chg (inForce (inner strip) (inner chg) (rankOf number))
+
+  pub no-change : isChange t ≡ false → Answered (Refused 14 0 0)
+  unfolding typeAs
+  no-change e = (sym (rw e), tt)
+
+  module _ (change : isChange t ≡ true) where
+    pub not-spelled : same spelled chg ≡ false → Answered (Refused 17 0 0)
+    unfolding typeAs
+    not-spelled e = (sym (rw (change, e)), tt)
+
+    pub spelled-so : same spelled chg ≡ true → 2 ≤ length spelled → 2 ≤ length strip → (p s : List ℕ) → p ≡ inner strip → s ≡ inner chg → (r : Asked) → Told p s number r → Answered r
+    unfolding typeAs
+    spelled-so e two two' p s ep es r h =
+        let c : spelled ≡ chg = same-eq spelled chg e in (
+          h .0 ∙ ap₂ (λ (x y : List ℕ). flightAs x y number) ep es ∙ sym (rw (change, e)),
+          shows strip chg (inForce (inner strip) (inner chg) (rankOf number)) two' (omega (arith, two, ap length c)) r
+              (subst (λ (x : List ℕ). ShowsText r x (inner chg) (inForce x (inner chg) (rankOf number))) ep
+              (subst (λ (y : List ℕ). ShowsText r p y (inForce p y (rankOf number))) es (h .1))),
+        )
+
+-- 15, AND THE READING
+
+module _ (strip : List ℕ) (state : State) (chg : List ℕ) (number : ℕ) where
+  abbrev pub Whole : Asked → Type 0
+  Whole r = (r ≡ askedOf strip state chg number) × Shows r strip chg (inForce (inner strip) (inner chg) (rankOf number))
+
+  by-tests : (a b : Bool) → sound state ≡ a → canonicalPlan strip ≡ b → askedOf strip state chg number ≡ cond (a && b) (readAs (answerOf chg 1800) strip chg number) (Refused 15 0 0)
+  unfolding askedOf
+  by-tests a b e f = ap₂ (λ (x y : Bool). cond (x && y) (readAs (answerOf chg 1800) strip chg number) (Refused 15 0 0)) e f
+
+  pub unsound : sound state ≡ false → Whole (Refused 15 0 0)
+  unsound e = (sym (by-tests false (canonicalPlan strip) e refl), tt)
+
+  module _ (is-sound : sound state ≡ true) where
+    pub no-plan : canonicalPlan strip ≡ false → Whole (Refused 15 0 0)
+    no-plan e = (sym (by-tests true false is-sound e), tt)
+
+    module _ (is-plan : canonicalPlan strip ≡ true) where
+      reading : (a : Answer) → answerOf chg 1800 ≡ a → askedOf strip state chg number ≡ readAs a strip chg number
+      reading a e = by-tests true true is-sound is-plan ∙ ap (λ (x : Answer). readAs x strip chg number) e
+
+      pub not-read : (n field place : ℕ) → answerOf chg 1800 ≡ NotRead n field place → (r : Asked) → r ≡ notReadAs n field place → Whole r
+      not-read n field place e r h = (h ∙ sym (reading (NotRead n field place) e), subst (λ (x : Asked). Shows x strip chg w) (sym h) (nothing (leb n 9)))
+        where
+          w : Word
+          w = inForce (inner strip) (inner chg) (rankOf number)
+
+          nothing : (b : Bool) → Shows (cond b (Refused n field place) (Refused 14 0 0)) strip chg w
+          nothing true = tt
+          nothing false = tt
+
+      pub was-read : (t : MessageType) (n : ℕ) → answerOf chg 1800 ≡ ReadAs t n → (spelled : List ℕ) → spelled ≡ spellingOf t chg → (r : Asked) → Answered t spelled strip chg number r → Whole r
+      was-read t n e spelled s r h =
+          (h .0 ∙ ap (λ (x : List ℕ). typeAs t x strip chg number) s ∙ sym (reading (ReadAs t n) e), h .1)
+
+-- THE PART SHOWN
+
+module _ (strip : List ℕ) (state : State) (chg : List ℕ) (number : ℕ) {a r : Asked} (whole : Whole strip state chg number a) (is : a ≡ r) where
+  answer-is : askedOf strip state chg number ≡ r
+  answer-is = sym (whole .0) ∙ is
+
+  pub shows-so : Shows r strip chg (inForce (inner strip) (inner chg) (rankOf number))
+  shows-so = subst (λ (x : Asked). Shows x strip chg (inForce (inner strip) (inner chg) (rankOf number))) is (whole .1)
+
+  pub part-shown : {A : Type 0} (sb : A) (sp : ℕ) (cb : A) (cp : ℕ) (w : Word) (block : A) (place : ℕ) → w ≡ shown r strip chg number → StandsAt r sb sp cb cp block place
+      → (w ≡ shown (askedOf strip state chg number) strip chg number) × StandsAt (askedOf strip state chg number) sb sp cb cp block place
+  part-shown sb sp cb cp w block place b p = (
+    b ∙ ap (λ (x : Asked). shown x strip chg number) (sym answer-is),
+    subst (λ (x : Asked). StandsAt x sb sp cb cp block place) (sym answer-is) p,
+  )

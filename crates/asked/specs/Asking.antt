@@ -1,0 +1,127 @@
+-- The field in force, as the desk asks for it (document 01, "The strip"): given strip, state, CHG and a field number, where that content
+-- stands, or the refusal. Assumes nothing.
+use Prim.Native.Nat.{ℕ, suc, _+_}
+use mathlib.Core.Path.{_≡_, refl}
+use mathlib.Core.Bool.{Bool, true, false, _&&_, cond}
+use mathlib.Core.List.{List, []}
+use mathlib.Core.Option.{Option, none, some}
+use lib.Dec.{eqb, leb}
+use lib.ListN.{length, take, drop}
+use Rattle.alphabet.specs.Text.{bytes}
+use Rattle.text.specs.Words.{Word, split, same}
+use Rattle.space.specs.Fields.{inner}
+use Rattle.space.specs.Hyphens.{behindHyphen}
+use Rattle.kinds.specs.declared.MessageType.{MessageType}
+use Rattle.kinds.specs.declared.MessageType.the-variants.{Fpl, Chg, Cnl, Dla, Dep, Arr, Rqp, Rqs, Spl}
+use Rattle.forms.specs.Field22.{labels}
+use Rattle.message.specs.declared.Answer.{Answer}
+use Rattle.message.specs.declared.Answer.the-variants.{Accepted as ReadAs, Refused as NotRead}
+use Rattle.message.specs.Reading.{spellingOf, answerOf}
+use Rattle.state.specs.declared.State.{State}
+use Rattle.state.specs.State.{sound}
+use Rattle.force.specs.InForce.{inForce, namedBy, namedAt, placeOf}
+use Rattle.strip.specs.Updating.{most, canonicalPlan, differences, differs}
+use Rattle.asked.specs.declared.Asked.{Asked}
+use Rattle.asked.specs.declared.Asked.the-variants.{InStrip, InChange, Refused}
+
+-- THE NUMBER ASKED: the eight that an entry may name, by their ranks; any other has none
+
+abbrev pub rankOf : ℕ → ℕ
+rankOf n =
+    cond (eqb n 7) 1
+    (cond (eqb n 8) 2
+    (cond (eqb n 9) 3
+    (cond (eqb n 10) 4
+    (cond (eqb n 13) 5
+    (cond (eqb n 15) 6
+    (cond (eqb n 16) 7
+    (cond (eqb n 18) 8 0)))))))
+
+-- WHERE IT STANDS: a content in force begins at this place of its text, and a text begins one byte behind its message
+
+abbrev pub standsIn : Option ℕ → List ℕ → List ℕ → ℕ → Asked
+standsIn (some at) plan said k = InChange (suc at) (suc at + length (inForce plan said k))
+standsIn none plan said k = InStrip (suc (placeOf plan k)) (suc (placeOf plan k) + length (inForce plan said k))
+
+abbrev pub standsAs : List ℕ → List ℕ → ℕ → Asked
+standsAs plan said k = standsIn (namedAt said k) plan said k
+
+-- THE ANSWER: 15, 1 to 9, 14, 17, 12, 8
+
+-- 8, with the number asked as its field
+abbrev pub fieldAs : List ℕ → List ℕ → ℕ → Asked
+fieldAs plan said number = cond (eqb (rankOf number) 0) (Refused 8 number 0) (standsAs plan said (rankOf number))
+
+-- 12: the message is for another flight
+abbrev pub flightAs : List ℕ → List ℕ → ℕ → Asked
+flightAs plan said number = cond (differs (differences Chg (split 45 plan) (split 45 said))) (Refused 12 0 0) (fieldAs plan said number)
+
+abbrev pub isChange : MessageType → Bool
+isChange Chg = true
+isChange Fpl = false
+isChange Cnl = false
+isChange Dla = false
+isChange Dep = false
+isChange Arr = false
+isChange Rqp = false
+isChange Rqs = false
+isChange Spl = false
+
+-- 14: it is no CHG; 17: it is not its own spelling
+unfoldable pub typeAs : MessageType → List ℕ → List ℕ → List ℕ → ℕ → Asked
+typeAs t spelled strip chg number =
+    cond (isChange t)
+    (cond (same spelled chg) (flightAs (inner strip) (inner chg) number) (Refused 17 0 0))
+    (Refused 14 0 0)
+
+-- 1 to 9, in the message as sent; an FPL that leaves a field unexplained is no CHG
+abbrev pub notReadAs : ℕ → ℕ → ℕ → Asked
+notReadAs number field place = cond (leb number 9) (Refused number field place) (Refused 14 0 0)
+
+abbrev pub readAs : Answer → List ℕ → List ℕ → ℕ → Asked
+readAs (NotRead n field place) strip chg number = notReadAs n field place
+readAs (ReadAs t n) strip chg number = typeAs t (spellingOf t chg) strip chg number
+
+unfoldable pub askedOf : List ℕ → State → List ℕ → ℕ → Asked
+askedOf strip state chg number =
+    cond (sound state && canonicalPlan strip) (readAs (answerOf chg most) strip chg number) (Refused 15 0 0)
+
+-- THE PART SHOWN
+
+-- its bytes: the content in force, and none of a refusal
+abbrev pub shown : Asked → List ℕ → List ℕ → ℕ → Word
+shown (InStrip from to) strip chg number = inForce (inner strip) (inner chg) (rankOf number)
+shown (InChange from to) strip chg number = inForce (inner strip) (inner chg) (rankOf number)
+shown (Refused n field place) strip chg number = []
+
+-- its place: in which of the two slices, and how far from its start; a refusal at the strip's start
+abbrev pub StandsAt : {A : Type 0} → Asked → (strip-block : A) (strip-place : ℕ) (chg-block : A) (chg-place : ℕ) (block : A) (place : ℕ) → Type 0
+StandsAt (InStrip from to) sb sp cb cp block place = (block ≡ sb) × (place ≡ from + sp)
+StandsAt (InChange from to) sb sp cb cp block place = (block ≡ cb) × (place ≡ from + cp)
+StandsAt (Refused n field place') sb sp cb cp block place = (block ≡ sb) × (place ≡ sp)
+
+-- EXAMPLES, computed
+
+abbrev plan : List ℕ
+plan = bytes "FPL-ABC12-IS-B738/M-SDFG/S-EHAM0930-N0440F310 DCT PAM DCT-EDDF0100 EDDK-0"
+
+abbrev said : List ℕ
+said = bytes "CHG-ABC12-EHAM0930-EDDF-0-9/B39M/M-8/IN"
+
+-- field 9 stands in the CHG, 10 in the strip, 3 and 22 cannot be asked for
+asked : (flightAs plan said 9 ≡ InChange 29 35) × (flightAs plan said 10 ≡ InStrip 21 27) × (flightAs plan said 3 ≡ Refused 8 3 0) × (flightAs plan said 22 ≡ Refused 8 22 0)
+unfolding namedAt namedBy labels behindHyphen
+asked = (refl, refl, refl, refl)
+
+parts : (take 6 (drop 29 (bytes "(CHG-ABC12-EHAM0930-EDDF-0-9/B39M/M-8/IN)")) ≡ bytes "B39M/M")
+    × (take 6 (drop 21 (bytes "(FPL-ABC12-IS-B738/M-SDFG/S-EHAM0930-N0440F310 DCT PAM DCT-EDDF0100 EDDK-0)")) ≡ bytes "SDFG/S")
+parts = (refl, refl)
+
+-- another flight; the number asked is looked at last
+other : (flightAs plan (bytes "CHG-ABC13-EHAM0930-EDDF-0-9/B39M/M") 9 ≡ Refused 12 0 0) × (flightAs plan (bytes "CHG-ABC13-EHAM0930-EDDF-0-9/B39M/M") 3 ≡ Refused 12 0 0)
+other = (refl, refl)
+
+-- not a CHG; not its own spelling
+unfit : (typeAs Cnl (bytes "(CNL)") (bytes "(FPL)") (bytes "(CNL)") 9 ≡ Refused 14 0 0) × (typeAs Chg (bytes "(CHG)") (bytes "(FPL)") (bytes "( CHG)") 9 ≡ Refused 17 0 0)
+unfolding typeAs
+unfit = (refl, refl)

@@ -1,0 +1,188 @@
+// The field in force, as the desk asks for it: where its content stands, in the CHG or in the strip.
+ghost use mathlib.Core.Path.{_≡_};
+ghost use Prim.Native.Nat.{_≤_};
+ghost use lib.ListN.{length};
+ghost use Rattle.asked.specs.Asking.{rankOf, isChange, standsAs, flightAs, typeAs, notReadAs, askedOf, shown, StandsAt};
+ghost use Rattle.force.specs.InForce.{inForce};
+ghost use Rattle.space.specs.Fields.{inner};
+ghost use Rattle.asked.specs.Parts.{Shows, ShowsText};
+use force::Found;
+use kinds::MessageType;
+use message::Answer;
+use state::Strip;
+
+// Where the content stands, from its first byte to behind its last, or the refusal.
+pub enum Asked {
+    InStrip { from: usize, to: usize },
+    InChange { from: usize, to: usize },
+    Refused { number: u8, field: u8, place: usize },
+}
+
+// The rank of a field number among the eight that an entry may name; 0 for any other number.
+fn rank_of(number: u8) -> usize
+    ensures { λ r. ⌜ r ≡ rankOf number ⌝ }
+{
+    match number {
+        7 => 1,
+        8 => 2,
+        9 => 3,
+        10 => 4,
+        13 => 5,
+        15 => 6,
+        16 => 7,
+        18 => 8,
+        _ => 0,
+    }
+}
+
+fn is_change(t: MessageType) -> bool
+    ensures { λ r. ⌜ r ≡ isChange t ⌝ }
+{
+    match t {
+        MessageType::Chg => true,
+        MessageType::Fpl => false,
+        MessageType::Cnl => false,
+        MessageType::Dla => false,
+        MessageType::Dep => false,
+        MessageType::Arr => false,
+        MessageType::Rqp => false,
+        MessageType::Rqs => false,
+        MessageType::Spl => false,
+    }
+}
+
+// Where the field of rank k stands, from the texts between the parentheses; a text begins one byte behind its message.
+fn stands(plan: &[u8], said: &[u8], k: usize) -> Asked
+    requires { ⌜ (length (now plan) ≤ 1800) × (length (now said) ≤ 1800) ⌝ }
+    ensures { λ r. ⌜ r ≡ standsAs (now (plan .entry)) (now (said .entry)) k ⌝ }
+    ensures { λ r. ⌜ ShowsText r (now (plan .entry)) (now (said .entry)) (inForce (now (plan .entry)) (now (said .entry)) k) ⌝ }
+{
+    match force::named(said, k) {
+        Found::At { from, to } => Asked::InChange {
+            from: from + 1,
+            to: to + 1,
+        },
+        Found::Nowhere => {
+            let c = force::seek(plan, k);
+            let at = c.at;
+            let e = c.end(plan, b'-');
+            Asked::InStrip {
+                from: at + 1,
+                to: e + 1,
+            }
+        }
+    }
+}
+
+// Numbers 12 and 8, and the place.
+fn ask_texts(plan: &[u8], said: &[u8], number: u8) -> Asked
+    requires { ⌜ (length (now plan) ≤ 1800) × (length (now said) ≤ 1800) ⌝ }
+    ensures { λ r. ⌜ r ≡ flightAs (now (plan .entry)) (now (said .entry)) number ⌝ }
+    ensures { λ r. ⌜ ShowsText r (now (plan .entry)) (now (said .entry)) (inForce (now (plan .entry)) (now (said .entry)) (rankOf number)) ⌝ }
+{
+    if strip::differences_in(MessageType::Chg, plan, said).any() {
+        return Asked::Refused {
+            number: 12,
+            field: 0,
+            place: 0,
+        };
+    }
+    let k = rank_of(number);
+    if k == 0 {
+        return Asked::Refused {
+            number: 8,
+            field: number,
+            place: 0,
+        };
+    }
+    stands(plan, said, k)
+}
+
+// A message that was not read: its own number where that is 1 to 9, otherwise 14.
+fn not_read(number: u8, field: u8, place: usize) -> Asked
+    ensures { λ r. ⌜ r ≡ notReadAs number field place ⌝ }
+{
+    if number <= 9 {
+        return Asked::Refused {
+            number,
+            field,
+            place,
+        };
+    }
+    Asked::Refused {
+        number: 14,
+        field: 0,
+        place: 0,
+    }
+}
+
+// Numbers 14 and 17 of a message that was read and is spelled so, and what its text gives.
+fn ask_read(t: MessageType, spelled: &[u8], strip: &[u8], chg: &[u8], number: u8) -> Asked
+    requires { ⌜ (2 ≤ length (now spelled)) × (length (now spelled) ≤ 1800) × (2 ≤ length (now strip)) × (length (now strip) ≤ 1800) ⌝ }
+    ensures { λ r. ⌜ r ≡ typeAs t (now (spelled .entry)) (now (strip .entry)) (now (chg .entry)) number ⌝ }
+    ensures { λ r. ⌜ Shows r (now (strip .entry)) (now (chg .entry)) (inForce (inner (now (strip .entry))) (inner (now (chg .entry))) (rankOf number)) ⌝ }
+{
+    if !is_change(t) {
+        return Asked::Refused {
+            number: 14,
+            field: 0,
+            place: 0,
+        };
+    }
+    if !text::same_bytes(spelled, chg) {
+        return Asked::Refused {
+            number: 17,
+            field: 0,
+            place: 0,
+        };
+    }
+    let last = strip.len() - 1;
+    let e = chg.len() - 1;
+    ask_texts(&strip[1..last], &chg[1..e], number)
+}
+
+// Where the content of a field in force stands: in the CHG if an entry names it, otherwise in the strip.
+pub fn ask(strip: &[u8], held: Strip, chg: &[u8], number: u8) -> Asked
+    ensures { λ r. ⌜ r ≡ askedOf (now (strip .entry)) (held .state) (now (chg .entry)) number ⌝ }
+    ensures { λ r. ⌜ Shows r (now (strip .entry)) (now (chg .entry)) (inForce (inner (now (strip .entry))) (inner (now (chg .entry))) (rankOf number)) ⌝ }
+{
+    if !held.is_sound() {
+        return Asked::Refused {
+            number: 15,
+            field: 0,
+            place: 0,
+        };
+    }
+    if !strip::is_canonical_plan(strip) {
+        return Asked::Refused {
+            number: 15,
+            field: 0,
+            place: 0,
+        };
+    }
+    let mut scratch = [0u8; 1800];
+    match message::read(chg, &mut scratch) {
+        Answer::Refused {
+            number: n,
+            field,
+            place,
+        } => not_read(n, field, place),
+        Answer::Accepted(t, n) => ask_read(t, &scratch[..n], strip, chg, number),
+    }
+}
+
+// Shows the content of a field in force, as a part of the CHG or of the strip; a refusal shows an empty part at the strip's start.
+pub fn in_force<'a>(strip: &'a [u8], held: Strip, chg: &'a [u8], number: u8) -> &'a [u8]
+    ensures { λ r. ⌜ now r ≡ shown (askedOf (now (strip .entry)) (held .state) (now (chg .entry)) number) (now (strip .entry)) (now (chg .entry)) number ⌝ }
+    ensures { λ r. ⌜ StandsAt (askedOf (now (strip .entry)) (held .state) (now (chg .entry)) number) (strip .entry .ptr .0) (strip .entry .ptr .1) (chg .entry .ptr .0) (chg .entry .ptr .1) (r .ptr .0) (r .ptr .1) ⌝ }
+{
+    match ask(strip, held, chg, number) {
+        Asked::InStrip { from, to } => &strip[from..to],
+        Asked::InChange { from, to } => &chg[from..to],
+        Asked::Refused {
+            number: _,
+            field: _,
+            place: _,
+        } => &strip[..0],
+    }
+}
