@@ -1,4 +1,4 @@
--- Demands 1 and 2 hold of every result of reading, and readers that must not pass do not. Assumes nothing.
+-- Demands 1 and 2 hold of every result of reading, and readers that must not pass do not; demand 3 holds of the update. Assumes nothing.
 use Prim.Native.Nat.{ℕ, _≤_}
 use mathlib.Core.Path.{_≡_, refl, sym, ap, ap₂, subst, _∙_}
 use mathlib.Core.Bool.{true, false, false≢true}
@@ -21,6 +21,8 @@ use Rattle.message.proofs.Canonical.{canonical-settled, canonical-valid, spelli
 use Rattle.message.proofs.Canonical.{equal-records as records-equal}
 use Rattle.message.proofs.Examples.{cancelled, accepted-types}
 use Rattle.message.proofs.Readers.{refuses-all, accepts-all, one-answer, one-acceptance, one-spelling}
+use Rattle.history.specs.Demand3.{updater, Meets as Meets3}
+use Rattle.history.proofs.Demand3.{demand3 as of-history}
 use Rattle.demands.specs.Demands.{Reader, Reads, Demand1, accepted, refused, IsRecord, Fits, Spelled, spellingIn, Demand2, Passes, NotPassing}
 use Rattle.demands.proofs.Places.{refused-place}
 
@@ -223,3 +225,8 @@ not-passing =
       one-answer = one-answer;
       one-acceptance = one-acceptance;
     }
+
+-- DEMAND 3, of the update: the definitions are those of `history`
+
+pub demand3 : Meets3 updater
+demand3 = of-history

@@ -1,20 +1,34 @@
 -- The contracts of the library's public functions determine their results. One law for each kind of contract; those that say no more than an
 -- equation are under `equation`, and the others are named each. Assumes nothing.
 use Prim.Native.Nat.{ℕ, _+_, _-_, _≤_, _<_}
-use mathlib.Core.Path.{_≡_, sym, ap, ap₂, _∙_}
+use mathlib.Core.Path.{_≡_, refl, sym, ap, ap₂, _∙_}
 use mathlib.Core.List.{List}
+use mathlib.Core.Option.{Option, none, some, Option·some-injective, Option·some-ne-none}
 use native.Mathlib.Omega.{arith}
 use lib.ListN.{length, take, drop, length-drop}
+use lib.Seq.{length-take-le}
 use Rattle.text.specs.Words.{upTo, before}
 use Rattle.text.specs.Places.{Stepped}
 use Rattle.text.specs.Lent.{front}
 use Rattle.text.specs.declared.Cursor.{Cursor}
 use Rattle.shape.specs.Numbers.{value}
 use Rattle.space.specs.Reduced.{reduced}
+use Rattle.space.specs.Fields.{inner}
+use Rattle.space.specs.Hyphens.{behindHyphen}
 use Rattle.supplement.specs.Field19.{written19}
 use Rattle.kinds.specs.declared.Form.{Form}
 use Rattle.forms.specs.Forms.{rankIn, writtenOf}
 use Rattle.message.specs.declared.Answer.{Answer}
+use Rattle.state.specs.declared.State.{State}
+use Rattle.force.specs.declared.Found.{Found}
+use Rattle.force.specs.declared.Found.the-variants.{At, Nowhere}
+use Rattle.force.specs.InForce.{inForce, namedAt, placeOf, Stands, FoundIn}
+use Rattle.strip.specs.declared.Updated.{Updated}
+use Rattle.strip.specs.Updating.{updateOf, outAfter as updatedOut}
+use Rattle.asked.specs.declared.Asked.{Asked}
+use Rattle.asked.specs.declared.Asked.the-variants.{InStrip, InChange, Refused}
+use Rattle.asked.specs.Asking.{rankOf, askedOf, shown, StandsAt}
+use Rattle.asked.specs.Parts.{Shows}
 use Rattle.demands.specs.Demands.{Reads}
 use Rattle.demands.specs.Determined.{Determines}
 
@@ -83,6 +97,63 @@ next-one c s self x y p q = ap (λ (at : ℕ). record { at = at }) (step-place c
 
 pub part-one : (c : ℕ) (s : List ℕ) (self : Cursor) → Determines (List ℕ) (λ bytes. bytes ≡ before c (drop (self .at) s))
 part-one c s self = part-bytes (before c (drop (self .at) s))
+
+-- FINDING A FIELD: the cursor at it, and the ends of an entry's content
+
+pub seek-one : (j : ℕ) (s : List ℕ) → Determines Cursor (λ r. (r .at ≤ length s) × (drop (r .at) s ≡ behindHyphen j s))
+seek-one j s x y p q =
+    let left : length (drop (x .at) s) ≡ length (drop (y .at) s) = ap length (p .1 ∙ sym (q .1)) in
+    let at : x .at ≡ y .at = omega (arith, left, length-drop (x .at) s, length-drop (y .at) s, p .0, q .0) in
+    ap (λ (i : ℕ). record { at = i }) at
+
+pub named-one : (chg : List ℕ) (k : ℕ) → Determines Found (FoundIn chg k)
+named-one chg k (At a b) (At c d) p q =
+    let from : a ≡ c = Option·some-injective a c (sym (p .3) ∙ q .3) in
+    let same : take (b - a) (drop a chg) ≡ take (d - c) (drop c chg) = Option·some-injective (take (b - a) (drop a chg)) (take (d - c) (drop c chg)) (sym (p .2) ∙ q .2) in
+    let long : b - a ≡ d - c
+    = sym (length-take-le (b - a) (drop a chg) (omega (arith, p .1, length-drop a chg))) ∙ ap length same
+    ∙ length-take-le (d - c) (drop c chg) (omega (arith, q .1, length-drop c chg)) in
+    let to : b ≡ d = omega (arith, from, long, p .0, q .0) in
+    ap₂ At from to
+named-one chg k (At a b) Nowhere p q = absurd (Option·some-ne-none a (sym (p .3) ∙ q .1))
+named-one chg k Nowhere (At c d) p q = absurd (Option·some-ne-none c (sym (q .3) ∙ p .1))
+named-one chg k Nowhere Nowhere p q = refl
+
+-- A PART AND WHERE IT STANDS: its bytes, the slice that it is in, and its place there
+
+placed : {A : Type 0} (w v : List ℕ) (a b : A) (i j : ℕ) → w ≡ v → a ≡ b → i ≡ j → _≡_ {A = List ℕ × (A × ℕ)} (w, (a, i)) (v, (b, j))
+placed {A = A} w v a b i j p q r = ap₂ (λ (x : List ℕ) (y : A × ℕ). (x, y)) p (ap₂ (λ (x : A) (y : ℕ). (x, y)) q r)
+
+-- `force::in_force`, from two texts
+pub in-force-one : {A : Type 0} (plan chg : List ℕ) (k : ℕ) (pb : A) (pp : ℕ) (cb : A) (cp : ℕ)
+    → Determines (List ℕ × (A × ℕ)) (λ r. (r .0 ≡ inForce plan chg k) × Stands (namedAt chg k) (placeOf plan k) pb pp cb cp (r .1 .0) (r .1 .1))
+in-force-one plan chg k pb pp cb cp x y p q = go (namedAt chg k) (p .1) (q .1)
+  where
+    go : (o : Option ℕ) → Stands o (placeOf plan k) pb pp cb cp (x .1 .0) (x .1 .1) → Stands o (placeOf plan k) pb pp cb cp (y .1 .0) (y .1 .1) → x ≡ y
+    go (some a) u v = placed (x .0) (y .0) (x .1 .0) (y .1 .0) (x .1 .1) (y .1 .1) (p .0 ∙ sym (q .0)) (u .0 ∙ sym (v .0)) (u .1 ∙ sym (v .1))
+    go none u v = placed (x .0) (y .0) (x .1 .0) (y .1 .0) (x .1 .1) (y .1 .1) (p .0 ∙ sym (q .0)) (u .0 ∙ sym (v .0)) (u .1 ∙ sym (v .1))
+
+-- `asked::in_force`, from a strip and a CHG
+pub shown-one : {A : Type 0} (strip : List ℕ) (state : State) (chg : List ℕ) (number : ℕ) (sb : A) (sp : ℕ) (cb : A) (cp : ℕ)
+    → Determines (List ℕ × (A × ℕ))
+    (λ r. (r .0 ≡ shown (askedOf strip state chg number) strip chg number) × StandsAt (askedOf strip state chg number) sb sp cb cp (r .1 .0) (r .1 .1))
+shown-one strip state chg number sb sp cb cp x y p q = go (askedOf strip state chg number) (p .1) (q .1)
+  where
+    go : (a : Asked) → StandsAt a sb sp cb cp (x .1 .0) (x .1 .1) → StandsAt a sb sp cb cp (y .1 .0) (y .1 .1) → x ≡ y
+    go (InStrip from to) u v = placed (x .0) (y .0) (x .1 .0) (y .1 .0) (x .1 .1) (y .1 .1) (p .0 ∙ sym (q .0)) (u .0 ∙ sym (v .0)) (u .1 ∙ sym (v .1))
+    go (InChange from to) u v = placed (x .0) (y .0) (x .1 .0) (y .1 .0) (x .1 .1) (y .1 .1) (p .0 ∙ sym (q .0)) (u .0 ∙ sym (v .0)) (u .1 ∙ sym (v .1))
+    go (Refused n field place) u v = placed (x .0) (y .0) (x .1 .0) (y .1 .0) (x .1 .1) (y .1 .1) (p .0 ∙ sym (q .0)) (u .0 ∙ sym (v .0)) (u .1 ∙ sym (v .1))
+
+-- `asked::ask`: the answer, and what its place says of the bytes there
+pub ask-one : (strip : List ℕ) (state : State) (chg : List ℕ) (number : ℕ)
+    → Determines Asked (λ r. (r ≡ askedOf strip state chg number) × Shows r strip chg (inForce (inner strip) (inner chg) (rankOf number)))
+ask-one strip state chg number = bounded Asked (askedOf strip state chg number) (λ r. Shows r strip chg (inForce (inner strip) (inner chg) (rankOf number)))
+
+-- UPDATING: the answer with the state, and every byte of the output
+
+pub update-one : (strip : List ℕ) (state : State) (m out : List ℕ)
+    → Determines (Updated × List ℕ) (λ r. (r .0 ≡ updateOf strip state m (length out)) × (r .1 ≡ updatedOut strip state m out))
+update-one strip state m out = written Updated (updateOf strip state m (length out)) (updatedOut strip state m out)
 
 -- READING: the answer and every byte of the output
 

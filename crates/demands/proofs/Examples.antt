@@ -5,22 +5,30 @@ use Rattle.alphabet.specs.Alphabet.{text, inAlphabet, white}
 use Rattle.shape.specs.Shape.{letters}
 use Rattle.shape.specs.Time.{timeFits}
 use Rattle.head.specs.Field7.{fits7}
+use Rattle.head.specs.Field8.{fits8}
 use Rattle.head.specs.Field9.{fits9, countFits, aircraftFits}
 use Rattle.equipment.specs.Field10.{fits10, valid10, present}
 use Rattle.aerodromes.specs.Aerodromes.{fourLetters, timed}
+use Rattle.aerodromes.specs.Field16.{fits16plan}
 use Rattle.aerodromes.specs.Field17.{fits17, unlisted}
 use Rattle.route.specs.Levels.{speedDigits, levelDigits, speeds, levels, starts, changes, climbs}
 use Rattle.route.specs.Points.{within, radialFits, indicators, nameFits, pointFits}
 use Rattle.route.specs.Field15.{pairFits, elementFits, fits15}
 use Rattle.other.specs.Rules.{statuses, approvals, approved, daysIn, date, timed as timedWord, hexadecimal, base}
-use Rattle.other.specs.Field18.{fitsIn}
+use Rattle.other.specs.Field18.{fitsIn, hasKey}
 use Rattle.head.specs.Field3.{types, fits3, numbersFit}
 use Rattle.space.specs.Reduced.{opens, closes, standsForRun, reducedFrom, reduced}
-use Rattle.space.specs.Hyphens.{hyphens, upToHyphen, placeOfHyphen}
+use Rattle.space.specs.Hyphens.{hyphens, upToHyphen, placeOfHyphen, behindHyphen}
 use Rattle.outer.specs.Outer.{parensFrom, parens, lettersFrom, outer}
-use Rattle.kinds.specs.Kinds.{briefForms, formsOf, formAt, typesRead, typeRanked, typeNamed}
+use Rattle.kinds.specs.Kinds.{planForms, briefForms, formsOf, formAt, typesRead, typeRanked, typeNamed}
+use Rattle.forms.specs.Field22.{labels, fits22, fault22}
+use Rattle.plan.specs.Unexplained.{unexplained}
 use Rattle.message.specs.Reading.{spellingOf, faultIn, countAs, answerOf}
-use Rattle.demands.specs.Examples.{Example, AllHold, ofFields, ofMessages, examples}
+use Rattle.text.specs.Lent.{front}
+use Rattle.force.specs.InForce.{namedBy, namedAt}
+use Rattle.strip.specs.Updating.{canonicalPlan, updateOf, outAfter}
+use Rattle.asked.specs.Asking.{typeAs, askedOf}
+use Rattle.demands.specs.Examples.{Example, AllHold, ofFields, ofMessages, ofStrips, examples}
 
 -- two lists joined
 both-hold : (xs ys : List Example) → AllHold xs → AllHold ys → AllHold (xs ++ ys)
@@ -39,5 +47,13 @@ unfolding answerOf countAs faultIn spellingOf outer parens parensFrom lettersFro
     upToHyphen placeOfHyphen typeNamed typeRanked typesRead types formsOf briefForms formAt fits3 numbersFit fits7 fourLetters timed timeFits fitsIn
 messages-hold = ((refl, refl), (refl, (refl, (refl, (refl, tt)))))
 
+strips-hold : AllHold ofStrips
+unfolding answerOf countAs faultIn spellingOf outer parens parensFrom lettersFrom inAlphabet white text reduced reducedFrom standsForRun opens closes
+    hyphens typeNamed typeRanked typesRead types formsOf planForms briefForms fits3 numbersFit fits7 fits8 fits9 countFits aircraftFits fits10
+    valid10 present fits16plan fits15 starts speeds levels speedDigits levelDigits elementFits letters within radialFits indicators nameFits
+    pointFits fourLetters timed timeFits fitsIn unexplained hasKey labels fits22 fault22 canonicalPlan updateOf outAfter front namedBy namedAt
+    behindHyphen typeAs askedOf
+strips-hold = ((refl, refl), (refl, (refl, tt)))
+
 pub examples-hold : AllHold examples
-examples-hold = both-hold ofFields ofMessages fields-hold messages-hold
+examples-hold = both-hold ofFields (ofMessages ++ ofStrips) fields-hold (both-hold ofMessages ofStrips messages-hold strips-hold)

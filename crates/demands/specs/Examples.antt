@@ -5,7 +5,7 @@ use mathlib.Core.Path.{_≡_}
 use mathlib.Core.Bool.{true, false}
 use mathlib.Core.List.{List, [], _∷_, _++_}
 use mathlib.Core.Option.{some}
-use lib.ListN.{length}
+use lib.ListN.{length, replicate}
 use Rattle.alphabet.specs.Text.{bytes}
 use Rattle.shape.specs.Field.{Field, read}
 use Rattle.shape.specs.Time.{clockFits}
@@ -19,6 +19,12 @@ use Rattle.kinds.specs.declared.MessageType.{MessageType}
 use Rattle.kinds.specs.declared.MessageType.the-variants.{Cnl}
 use Rattle.message.specs.declared.Answer.the-variants.{Accepted, Refused}
 use Rattle.message.specs.Reading.{answerOf, spellingOf}
+use Rattle.state.specs.declared.State.the-variants.{Filed}
+use Rattle.strip.specs.declared.Updated.the-variants.{Accepted as Taken}
+use Rattle.strip.specs.Updating.{updateOf, outAfter}
+use Rattle.asked.specs.declared.Asked.{Asked}
+use Rattle.asked.specs.declared.Asked.the-variants.{InStrip, InChange}
+use Rattle.asked.specs.Asking.{askedOf}
 
 -- what an example says of the definitions
 pub data Example : Type 1 where
@@ -36,6 +42,10 @@ pub data Example : Type 1 where
   -- a message is accepted as one of a type, with a spelling, or is refused with a number, a field and a place; the room is 1,800 bytes
   accepted : String → MessageType → String → Example
   refused : String → ℕ → ℕ → ℕ → Example
+  -- a strip as filed is given a new spelling by a message, in room for just that
+  updated : String → String → String → Example
+  -- the field in force, by its number, stands at a place of the strip or of the CHG
+  asked : String → String → ℕ → Asked → Example
 
 abbrev pub alone : String → List ℕ
 alone word = bytes "N0440F310 " ++ bytes word
@@ -50,6 +60,10 @@ Holds (time s) = clockFits (bytes s) ≡ true
 Holds (noTime s) = clockFits (bytes s) ≡ false
 Holds (accepted s t w) = (answerOf (bytes s) 1800 ≡ Accepted t (length (bytes w))) × (spellingOf t (bytes s) ≡ bytes w)
 Holds (refused s number field place) = answerOf (bytes s) 1800 ≡ Refused number field place
+Holds (updated s m w) =
+    (updateOf (bytes s) Filed (bytes m) (length (bytes w)) ≡ Taken (record { state = Filed }) (length (bytes w)))
+    × (outAfter (bytes s) Filed (bytes m) (replicate (length (bytes w)) 0) ≡ bytes w)
+Holds (asked s m number a) = askedOf (bytes s) Filed (bytes m) number ≡ a
 
 abbrev pub AllHold : List Example → Type 0
 AllHold [] = Unit
@@ -89,5 +103,13 @@ ofMessages =
     ∷ (refused "(" 2 0 1
     ∷ (refused "((" 2 0 1 ∷ []))))
 
+-- document 01's strip and its CHG
+abbrev pub ofStrips : List Example
+ofStrips =
+    updated "(FPL-ABC12-IS-B738/M-SDFG/S-EHAM0930-N0440F310 DCT PAM DCT-EDDF0100 EDDK-0)" "(CHG-ABC12-EHAM0930-EDDF-0-9/B39M/M-8/IN)"
+    "(FPL-ABC12-IN-B39M/M-SDFG/S-EHAM0930-N0440F310 DCT PAM DCT-EDDF0100 EDDK-0)"
+    ∷ (asked "(FPL-ABC12-IS-B738/M-SDFG/S-EHAM0930-N0440F310 DCT PAM DCT-EDDF0100 EDDK-0)" "(CHG-ABC12-EHAM0930-EDDF-0-9/B39M/M-8/IN)" 9 (InChange 29 35)
+    ∷ (asked "(FPL-ABC12-IS-B738/M-SDFG/S-EHAM0930-N0440F310 DCT PAM DCT-EDDF0100 EDDK-0)" "(CHG-ABC12-EHAM0930-EDDF-0-9/B39M/M-8/IN)" 10 (InStrip 21 27) ∷ []))
+
 abbrev pub examples : List Example
-examples = ofFields ++ ofMessages
+examples = ofFields ++ (ofMessages ++ ofStrips)

@@ -1,12 +1,9 @@
--- Document 01's strip and its CHG, computed through the update; what follows are the messages by which other updaters are refuted.
--- Assumes nothing.
+-- Document 01's strip and its CHG, by which other updaters are refuted. Assumes nothing.
 use mathlib.Core.Path.{_≡_, refl}
 use Prim.Native.Nat.{ℕ}
-use mathlib.Core.List.{List, [], _∷_, _++_}
-use lib.ListN.{replicate}
+use mathlib.Core.List.{List}
 use Rattle.alphabet.specs.Text.{bytes}
 use Rattle.alphabet.specs.Alphabet.{text, inAlphabet, white}
-use Rattle.text.specs.Lent.{front}
 use Rattle.shape.specs.Shape.{letters}
 use Rattle.shape.specs.Time.{timeFits}
 use Rattle.space.specs.Reduced.{opens, closes, standsForRun, reducedFrom, reduced}
@@ -29,10 +26,6 @@ use Rattle.forms.specs.Field22.{labels, fits22, fault22}
 use Rattle.plan.specs.Unexplained.{unexplained}
 use Rattle.message.specs.declared.Answer.the-variants.{Accepted as ReadAs}
 use Rattle.message.specs.Reading.{spellingOf, faultIn, countAs, answerOf}
-use Rattle.force.specs.InForce.{namedBy}
-use Rattle.state.specs.declared.State.the-variants.{Filed}
-use Rattle.strip.specs.declared.Updated.the-variants.{Accepted}
-use Rattle.strip.specs.Updating.{canonicalPlan, updateOf, outAfter}
 
 abbrev pub filing : List ℕ
 filing = bytes "(FPL-ABC12-IS-B738/M-SDFG/S-EHAM0930-N0440F310 DCT PAM DCT-EDDF0100 EDDK-0)"
@@ -47,21 +40,3 @@ unfolding answerOf countAs faultIn spellingOf outer parens parensFrom lettersFro
     speedDigits levelDigits elementFits letters within radialFits indicators nameFits pointFits fourLetters timed timeFits fitsIn unexplained
     hasKey labels fits22 fault22
 filing-read = refl
-
-pub change-accepted : updateOf filing Filed change 75 ≡ Accepted (record { state = Filed }) 75
-unfolding answerOf countAs faultIn spellingOf outer parens parensFrom lettersFrom inAlphabet white text reduced reducedFrom standsForRun opens closes
-    hyphens typeNamed typeRanked typesRead types formsOf planForms briefForms fits3
-    numbersFit fits7 fits8 fits9 countFits aircraftFits fits10 valid10 present fits16plan fits15 starts speeds levels
-    speedDigits levelDigits elementFits letters within radialFits indicators nameFits pointFits fourLetters timed timeFits fitsIn unexplained
-    hasKey labels fits22 fault22 canonicalPlan updateOf namedBy
-change-accepted = refl
-
--- byte 75 of the output stays
-pub changed-strip : outAfter filing Filed change (replicate 76 0)
-    ≡ bytes "(FPL-ABC12-IN-B39M/M-SDFG/S-EHAM0930-N0440F310 DCT PAM DCT-EDDF0100 EDDK-0)" ++ (0 ∷ [])
-unfolding answerOf countAs faultIn spellingOf outer parens parensFrom lettersFrom inAlphabet white text reduced reducedFrom standsForRun opens closes
-    hyphens typeNamed typeRanked typesRead types formsOf planForms briefForms fits3
-    numbersFit fits7 fits8 fits9 countFits aircraftFits fits10 valid10 present fits16plan fits15 starts speeds levels
-    speedDigits levelDigits elementFits letters within radialFits indicators nameFits pointFits fourLetters timed timeFits fitsIn unexplained
-    hasKey labels fits22 fault22 canonicalPlan updateOf namedBy outAfter front
-changed-strip = refl

@@ -1,5 +1,6 @@
 -- Updaters that the third demand stops: one that refuses all, one that does nothing, one that copies the strip, one that applies only the first
--- entry, and one that applies only the first message. Assumes nothing.
+-- entry, one that applies only the first message, one that matches against the plan after the change, one by which a DEP overwrites the off-block
+-- time, and one that searches the text. Assumes nothing.
 use Prim.Native.Nat.{ℕ}
 use mathlib.Core.Path.{_≡_, refl, sym, ap, subst, fun-ext, _∙_}
 use mathlib.Core.Bool.{Bool, true, false, false≢true}
@@ -17,7 +18,7 @@ use Rattle.strip.specs.declared.Updated.the-variants.{Accepted, Refused}
 use Rattle.strip.specs.Updating.{canonicalPlan, updateOf, outAfter}
 use Rattle.history.specs.History.{planIn, spelled, given, planBy}
 use Rattle.history.specs.Demand3.{Updater, Offer, offeredAll, logAll, answered, Cause, filedAs, Meets}
-use Rattle.history.specs.Slips.{refusesAll, doesNothing, copies, firstEntry, firstMessage}
+use Rattle.history.specs.Slips.{refusesAll, doesNothing, copies, firstEntry, firstMessage, matchesAfter, depOverwrites, searches}
 use Rattle.history.proofs.Causes.{cause-refused}
 use Rattle.history.proofs.Latest.{left-latest}
 use Rattle.history.proofs.Examples.{filing, change, filing-read}
@@ -36,9 +37,9 @@ use Rattle.head.specs.Field9.{fits9, countFits, aircraftFits}
 use Rattle.equipment.specs.Field10.{fits10, valid10, present}
 use Rattle.aerodromes.specs.Aerodromes.{fourLetters, timed}
 use Rattle.aerodromes.specs.Field16.{fits16plan}
-use Rattle.route.specs.Levels.{speedDigits, levelDigits, speeds, levels, starts}
+use Rattle.route.specs.Levels.{speedDigits, levelDigits, speeds, levels, starts, changes}
 use Rattle.route.specs.Points.{within, radialFits, indicators, nameFits, pointFits}
-use Rattle.route.specs.Field15.{elementFits, fits15}
+use Rattle.route.specs.Field15.{pairFits, elementFits, fits15}
 use Rattle.other.specs.Field18.{fitsIn, hasKey}
 use Rattle.kinds.specs.Kinds.{planForms, briefForms, formsOf, typesRead, typeRanked, typeNamed}
 use Rattle.forms.specs.Field22.{labels, fits22, fault22}
@@ -151,4 +152,61 @@ pub first-message-fails : Meets (firstMessage filing) → ⊥
 first-message-fails h =
     let q = ap (λ (w : List ℕ). getD w 11 0) (meets-strip (firstMessage filing) h filing 1800 75 filing-read (changing ∷ again ∷ [])) in
     let z : _≡_ {A = ℕ} 73 86 = sym (message-byte .0) ∙ q ∙ message-byte .1 in
+    omega arith
+
+-- ONE THAT MATCHES AGAINST THE PLAN AFTER THE CHANGE: it refuses a CHG that sets field 13
+
+abbrev retiming : Offer
+retiming = record { bytes = bytes "(CHG-ABC12-EHAM0930-EDDF-0-13/EHAM1000)"; lent = replicate 75 0 }
+
+retiming-taken : (accepts (updateOf (filedAs filing .strip) Filed (retiming .bytes) 75) ≡ true)
+    × (answered matchesAfter (filedAs filing) retiming ≡ Refused 12 0 0)
+unfolding answerOf countAs faultIn spellingOf outer parens parensFrom lettersFrom inAlphabet white text reduced reducedFrom standsForRun opens closes
+    hyphens typeNamed typeRanked typesRead types formsOf planForms briefForms fits3 numbersFit fits7 fits8 fits9 countFits aircraftFits fits10
+    valid10 present fits16plan fits15 starts speeds levels speedDigits levelDigits elementFits letters within radialFits indicators nameFits
+    pointFits fourLetters timed timeFits fitsIn unexplained hasKey labels fits22 fault22 canonicalPlan updateOf namedBy outAfter front
+retiming-taken = (refl, refl)
+
+pub matches-after-fails : Meets matchesAfter → ⊥
+matches-after-fails h =
+    let q = meets-refused matchesAfter h filing 1800 75 filing-read [] retiming 12 0 0 (retiming-taken .1) in
+    false≢true (sym (ap accepts q) ∙ retiming-taken .0)
+
+-- ONE BY WHICH A DEP OVERWRITES THE OFF-BLOCK TIME: byte 34 is the third digit of the time in field 13
+
+abbrev departing : Offer
+departing = record { bytes = bytes "(DEP-ABC12-EHAM0941-EDDF-0)"; lent = replicate 75 0 }
+
+time-byte : (getD (offeredAll depOverwrites (filedAs filing) (departing ∷ []) .strip) 34 0 ≡ 52)
+    × (getD (spelled (planBy (planIn (contents filing)) (logAll depOverwrites (filedAs filing) [] (departing ∷ [])))) 34 0 ≡ 51)
+unfolding answerOf countAs faultIn spellingOf outer parens parensFrom lettersFrom inAlphabet white text reduced reducedFrom standsForRun opens closes
+    hyphens typeNamed typeRanked typesRead types formsOf planForms briefForms fits3 numbersFit fits7 fits8 fits9 countFits aircraftFits fits10
+    valid10 present fits16plan fits15 starts speeds levels speedDigits levelDigits elementFits letters within radialFits indicators nameFits
+    pointFits fourLetters timed timeFits fitsIn unexplained hasKey labels fits22 fault22 canonicalPlan updateOf namedBy outAfter front
+time-byte = (refl, refl)
+
+pub dep-overwrites-fails : Meets depOverwrites → ⊥
+dep-overwrites-fails h =
+    let q = ap (λ (w : List ℕ). getD w 34 0) (meets-strip depOverwrites h filing 1800 75 filing-read (departing ∷ [])) in
+    let z : _≡_ {A = ℕ} 52 51 = sym (time-byte .0) ∙ q ∙ time-byte .1 in
+    omega arith
+
+-- ONE THAT SEARCHES THE TEXT: it finds a field 9 in a route. Byte 14 is the first of field 9
+
+abbrev rerouting : Offer
+rerouting = record { bytes = bytes "(CHG-ABC12-EHAM0930-EDDF-0-15/N0440F310 FOJ180049/N0440F290 DCT)"; lent = replicate 100 0 }
+
+found-byte : (getD (offeredAll searches (filedAs filing) (rerouting ∷ []) .strip) 14 0 ≡ 78)
+    × (getD (spelled (planBy (planIn (contents filing)) (logAll searches (filedAs filing) [] (rerouting ∷ [])))) 14 0 ≡ 66)
+unfolding answerOf countAs faultIn spellingOf outer parens parensFrom lettersFrom inAlphabet white text reduced reducedFrom standsForRun opens closes
+    hyphens typeNamed typeRanked typesRead types formsOf planForms briefForms fits3 numbersFit fits7 fits8 fits9 countFits aircraftFits fits10
+    valid10 present fits16plan fits15 starts speeds levels speedDigits levelDigits elementFits letters within radialFits indicators nameFits
+    pointFits fourLetters timed timeFits fitsIn unexplained hasKey labels fits22 fault22 canonicalPlan updateOf namedBy outAfter front
+    pairFits changes
+found-byte = (refl, refl)
+
+pub searches-fails : Meets searches → ⊥
+searches-fails h =
+    let q = ap (λ (w : List ℕ). getD w 14 0) (meets-strip searches h filing 1800 75 filing-read (rerouting ∷ [])) in
+    let z : _≡_ {A = ℕ} 78 66 = sym (found-byte .0) ∙ q ∙ found-byte .1 in
     omega arith

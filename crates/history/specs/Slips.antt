@@ -1,14 +1,22 @@
--- Updaters that must not pass (document 01, "How far each contract reaches"). But for its slip each does as the update does. Assumes nothing.
-use Prim.Native.Nat.{ℕ}
+-- Updaters that must not pass (document 01, "Examples on each side" and "How far each contract reaches"). But for its slip each does as the
+-- update does. Assumes nothing.
+use Prim.Native.Nat.{ℕ, zero, suc}
 use mathlib.Core.Bool.{cond}
-use mathlib.Core.List.{List}
-use lib.ListN.{length, take}
-use Rattle.text.specs.Words.{same}
+use mathlib.Core.List.{List, [], _∷_, _++_}
+use mathlib.Core.Option.{Option, none, some, Option·getD}
+use lib.ListN.{length, take, drop, getD}
+use Rattle.text.specs.Words.{Word, same, before}
 use Rattle.text.specs.Lent.{front}
+use Rattle.space.specs.Fields.{inner}
 use Rattle.sent.specs.Sent.{messageOf, contents}
+use Rattle.kinds.specs.declared.MessageType.{MessageType}
+use Rattle.kinds.specs.declared.MessageType.the-variants.{Fpl, Chg, Cnl, Dla, Dep, Arr, Rqp, Rqs, Spl}
+use Rattle.forms.specs.Field22.{labelOf}
+use Rattle.message.specs.Reading.{answerOf}
+use Rattle.force.specs.InForce.{fieldsFrom}
 use Rattle.strip.specs.declared.Updated.{Updated}
 use Rattle.strip.specs.declared.Updated.the-variants.{Accepted, Refused}
-use Rattle.strip.specs.Updating.{updateOf, outAfter}
+use Rattle.strip.specs.Updating.{plan, said, differences, differs, amended, newStrip, updateOf, typeRead, outAfter}
 use Rattle.history.specs.Demand3.{Updater}
 
 -- one that refuses all, with whatever number, field and place
@@ -52,4 +60,54 @@ firstMessage filed =
     record {
       answer = λ strip s m out. cond (same strip filed) (updateOf strip s m (length out)) (copiedAs (updateOf strip s m (length out)) strip);
       output = λ strip s m out. cond (same strip filed) (outAfter strip s m out) (copyAs (updateOf strip s m (length out)) strip out);
+    }
+
+-- one that matches a message against the plan as it is after the change
+abbrev pub matchesAfter : Updater
+matchesAfter =
+    record {
+      answer = λ strip s m out.
+          let t = typeRead (answerOf m 1800) in
+          cond (differs (differences t (amended t strip m) (said t m))) (Refused 12 0 0) (updateOf strip s m (length out));
+      output = λ strip s m out.
+          let t = typeRead (answerOf m 1800) in
+          cond (differs (differences t (amended t strip m) (said t m))) out (outAfter strip s m out);
+    }
+
+-- one by which a DEP overwrites the off-block time, as a DLA does
+abbrev pub asDelay : MessageType → MessageType
+asDelay Dep = Dla
+asDelay Fpl = Fpl
+asDelay Chg = Chg
+asDelay Cnl = Cnl
+asDelay Dla = Dla
+asDelay Arr = Arr
+asDelay Rqp = Rqp
+asDelay Rqs = Rqs
+asDelay Spl = Spl
+
+abbrev pub depOverwrites : Updater
+depOverwrites =
+    record {
+      answer = λ strip s m out. updateOf strip s m (length out);
+      output = λ strip s m out. copyAs (updateOf strip s m (length out)) (newStrip (asDelay (typeRead (answerOf m 1800))) strip m) out;
+    }
+
+-- one that finds a field by searching the text of the message for its number and an oblique
+abbrev pub findText : Word → List ℕ → Option Word
+findText w [] = none
+findText w (b ∷ s) = cond (same (take (length w) (b ∷ s)) w) (some (before 45 (drop (length w) (b ∷ s)))) (findText w s)
+
+abbrev pub searchedFor : List ℕ → List ℕ → ℕ → Word
+searchedFor strip m zero = getD (plan strip) 0 []
+searchedFor strip m (suc k) = Option·getD (findText (labelOf (suc k) ++ (47 ∷ [])) (inner m)) (getD (plan strip) (suc k) [])
+
+abbrev pub searchedAs : List ℕ → List ℕ → List ℕ
+searchedAs strip m = messageOf (fieldsFrom (searchedFor strip m) 0 9)
+
+abbrev pub searches : Updater
+searches =
+    record {
+      answer = λ strip s m out. copiedAs (updateOf strip s m (length out)) (searchedAs strip m);
+      output = λ strip s m out. copyAs (updateOf strip s m (length out)) (searchedAs strip m) out;
     }
