@@ -35,13 +35,10 @@ use Rattle.strip.specs.declared.Offered.the-variants.{Says, Unfit}
 use Rattle.strip.specs.declared.Updated.{Updated}
 use Rattle.strip.specs.declared.Updated.the-variants.{Accepted, Refused}
 use Rattle.strip.specs.Updating.{canonicalPlan, readAsPlan, plan, said, textSaid, eventOf, differences, differs, amended, newStrip, roomAs, amendedAs, eventAs, readAs, updateOf, typeRead, writtenAs, outAfter}
-use Rattle.strip.specs.Texts.{amendedOf, newText, offeredAs, textsAs, writtenText, notReadAs}
+use Rattle.strip.specs.Texts.{amendedOf, newText, offeredAs, textsAs, writtenText, Due, notReadAs}
 use Rattle.strip.proofs.Steps.{plan-type, spelling-two}
 
 -- THE ANSWER DUE, and the output that goes with it
-
-abbrev pub Due : Updated → MessageType → List ℕ → List ℕ → List ℕ → Updated → List ℕ → Type 0
-Due due t p s out answer after = (answer ≡ due) × (after ≡ writtenText due t p s out)
 
 pub told : (due answer : Updated) (t : MessageType) (p s out after : List ℕ) → due ≡ answer → after ≡ writtenText answer t p s out → Due due t p s out answer after
 told due answer t p s out after e w = (sym e, w ∙ ap (λ (a : Updated). writtenText a t p s out) (sym e))

@@ -1,8 +1,10 @@
 -- The update from two texts, which stand between the parentheses: the plan's, and that of the message's spelling. Assumes nothing.
 use Prim.Native.Nat.{ℕ}
+use mathlib.Core.Path.{_≡_}
 use mathlib.Core.Bool.{cond}
 use mathlib.Core.List.{List}
 use lib.Dec.{eqb, leb}
+use lib.ListN.{length}
 use Rattle.text.specs.Words.{Word, split}
 use Rattle.text.specs.Lent.{front}
 use Rattle.sent.specs.Sent.{messageOf}
@@ -50,6 +52,16 @@ textsAs t plan state said room = offeredAs (eventOf t (split 45 said)) t plan st
 abbrev pub writtenText : Updated → MessageType → List ℕ → List ℕ → List ℕ → List ℕ
 writtenText (Accepted held n) t plan said out = front (newText t plan said) out
 writtenText (Refused number field place) t plan said out = out
+
+-- an answer that is due, and the output that goes with it
+abbrev pub Due : Updated → MessageType → List ℕ → List ℕ → List ℕ → Updated → List ℕ → Type 0
+Due due t plan said out answer after = (answer ≡ due) × (after ≡ writtenText due t plan said out)
+
+abbrev pub Amends : MessageType → State → List ℕ → List ℕ → List ℕ → Updated → List ℕ → Type 0
+Amends t next plan said out answer after = Due (amendedAs (amendedOf t plan said) next (length out)) t plan said out answer after
+
+abbrev pub Offers : MessageType → State → List ℕ → List ℕ → List ℕ → Updated → List ℕ → Type 0
+Offers t state plan said out answer after = Due (textsAs t plan state said (length out)) t plan said out answer after
 
 -- a message that was not read
 abbrev pub notReadAs : ℕ → ℕ → ℕ → Updated

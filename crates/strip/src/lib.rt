@@ -2,15 +2,14 @@
 ghost use mathlib.Core.Path.{_≡_};
 ghost use mathlib.Core.Bool.{_&&_, not};
 ghost use mathlib.Core.List.{[], _∷_};
-ghost use Prim.Native.Nat.{_≤_, _-_};
+ghost use Prim.Native.Nat.{_≤_};
 ghost use lib.ListN.{length, drop, getD};
 ghost use Rattle.text.specs.Words.{split, same};
 ghost use Rattle.text.specs.Lent.{front};
 ghost use Rattle.aerodromes.specs.Asked.{clockAt};
-ghost use Rattle.message.specs.Reading.{isPlan, leadOf, unexplainedIn};
-ghost use Rattle.state.specs.State.{allowedIn};
-ghost use Rattle.strip.specs.Updating.{canonicalPlan, timeOf, arrival, eventOf, comparesTime, differences, differs, amendedAs, updateOf, outAfter};
-ghost use Rattle.strip.specs.Texts.{contentOf, amendedOf, newText, offeredAs, textsAs, writtenText, notReadAs};
+ghost use Rattle.message.specs.Reading.{unexplainedIn};
+ghost use Rattle.strip.specs.Updating.{canonicalPlan, timeOf, arrival, eventOf, comparesTime, differences, differs, updateOf, outAfter};
+ghost use Rattle.strip.specs.Texts.{contentOf, amendedOf, newText, Amends, Offers, notReadAs};
 use kinds::MessageType;
 use message::Answer;
 use shape::Clock;
@@ -280,7 +279,7 @@ fn write_new<'a>(t: MessageType, plan: &'a [u8], said: &'a [u8], out: &mut [u8])
 // Numbers 10, 16 and 11 of the amended plan, and the acceptance: everything is checked before the first byte is written.
 fn amend<'a>(t: MessageType, next: Strip, plan: &'a [u8], said: &'a [u8], out: &mut [u8]) -> Updated
     requires { ⌜ (length (now plan) ≤ 1800) × (length (now said) ≤ 1800) ⌝ }
-    ensures { λ r. ⌜ (r ≡ amendedAs (amendedOf t (now (plan .entry)) (now (said .entry))) (next .state) (length (now (out .entry)))) × (now (out .exit) ≡ writtenText (amendedAs (amendedOf t (now (plan .entry)) (now (said .entry))) (next .state) (length (now (out .entry)))) t (now (plan .entry)) (now (said .entry)) (now (out .entry))) ⌝ }
+    ensures { λ r. ⌜ Amends t (next .state) (now (plan .entry)) (now (said .entry)) (now (out .entry)) r (now (out .exit)) ⌝ }
 {
     let field = unexplained_in(t, plan, said);
     if field != 0 {
@@ -312,7 +311,7 @@ fn amend<'a>(t: MessageType, next: Strip, plan: &'a [u8], said: &'a [u8], out: &
 // Numbers 14, 12 and 13, and what the amended plan gives.
 fn offer<'a>(t: MessageType, held: Strip, plan: &'a [u8], said: &'a [u8], out: &mut [u8]) -> Updated
     requires { ⌜ (length (now plan) ≤ 1800) × (length (now said) ≤ 1800) ⌝ }
-    ensures { λ r. ⌜ (r ≡ textsAs t (now (plan .entry)) (held .state) (now (said .entry)) (length (now (out .entry)))) × (now (out .exit) ≡ writtenText (textsAs t (now (plan .entry)) (held .state) (now (said .entry)) (length (now (out .entry)))) t (now (plan .entry)) (now (said .entry)) (now (out .entry))) ⌝ }
+    ensures { λ r. ⌜ Offers t (held .state) (now (plan .entry)) (now (said .entry)) (now (out .entry)) r (now (out .exit)) ⌝ }
 {
     match event_of(t, said) {
         Offered::Unfit => Updated::Refused {
