@@ -13,7 +13,7 @@ use lib.Seq.{take-nil, drop-nil, drop-drop, getD-drop, length-take-le}
 use borrow.Author.Tests.{ltb-true, ltb-false, eq-eqb, ne-eqb}
 use Rattle.text.specs.Words.{Word, split, after, upTo, before, behind}
 use Rattle.text.specs.Places.{Stepped}
-use Rattle.text.proofs.Index.{drop-end, split-at, after-here, after-end, piece}
+use Rattle.text.proofs.Index.{drop-end, split-at, split-cut, after-here, after-end, piece}
 use Rattle.space.specs.Hyphens.{behindHyphen}
 use Rattle.forms.specs.Field22.{labels, whichOf}
 use Rattle.force.specs.declared.Found.{Found}
@@ -32,11 +32,6 @@ pub hyphen-end : (s u : List ℕ) (at left : ℕ) → length s ≤ at → behind
 hyphen-end s u at left h e =
     drop-end s at h ∙ sym (nothing-behind left) ∙ ap (behindHyphen left) (sym (drop-end s at h)) ∙ e
 
-first-piece : (s : List ℕ) → split 45 s ≡ before 45 s ∷ after 45 (drop (upTo 45 s) s)
-first-piece s =
-    let end : upTo 45 s ≡ 0 + upTo 45 (drop 0 s) = sym (zero-add (upTo 45 s)) in
-    split-at 45 s 0 (upTo 45 s) end ∙ ap (λ (w : Word). w ∷ after 45 (drop (upTo 45 s) s)) (piece 45 s 0 (upTo 45 s) end)
-
 -- whatever takes no fields and one empty field alike takes the fields from the j-th on as those that stand behind the j-th hyphen
 module _ {A : Type 0} (G : List Word → A) (alike : G [] ≡ G ([] ∷ [])) where
   pub cut-at : (j : ℕ) (s : List ℕ) → G (drop j (split 45 s)) ≡ G (split 45 (behindHyphen j s))
@@ -48,7 +43,7 @@ module _ {A : Type 0} (G : List Word → A) (alike : G [] ≡ G ([] ∷ [])) whe
           → (b : Bool) → ltb (upTo 45 s) (length s) ≡ b → G (drop (suc j) (split 45 s)) ≡ G (split 45 (behindHyphen j (behind 45 s)))
       go ih true p =
           let cut : split 45 s ≡ before 45 s ∷ split 45 (behind 45 s)
-          = first-piece s
+          = split-cut 45 s
           ∙ ap (λ (l : List Word). before 45 s ∷ l)
           (after-here 45 s (upTo 45 s) (ltb-true (upTo 45 s) (length s) p) ∙ ap (λ (k : ℕ). split 45 (drop k s)) (add-one (upTo 45 s))) in
           ap (λ (l : List Word). G (drop (suc j) l)) cut ∙ ih
@@ -56,7 +51,7 @@ module _ {A : Type 0} (G : List Word → A) (alike : G [] ≡ G ([] ∷ [])) whe
           let far : length s ≤ upTo 45 s = ltb-false (upTo 45 s) (length s) p in
           let further : length s ≤ suc (upTo 45 s) = omega arith in
           let cut : split 45 s ≡ before 45 s ∷ []
-          = first-piece s ∙ ap (λ (l : List Word). before 45 s ∷ l) (after-end 45 s (upTo 45 s) far) in
+          = split-cut 45 s ∙ ap (λ (l : List Word). before 45 s ∷ l) (after-end 45 s (upTo 45 s) far) in
           ap (λ (l : List Word). G (drop (suc j) l)) cut ∙ ap G (drop-nil {A = Word} j) ∙ alike
           ∙ ap (λ (t : List ℕ). G (split 45 t)) (sym (ap (behindHyphen j) (drop-end s (suc (upTo 45 s)) further) ∙ nothing-behind j))
 
@@ -64,7 +59,7 @@ pub field-at : (j : ℕ) (s : List ℕ) → fieldAt s j ≡ before 45 (behindHyp
 field-at j s =
     ap (λ (i : ℕ). getD (split 45 s) i []) (sym (add-zero j)) ∙ sym (getD-drop j (split 45 s) 0 [])
     ∙ cut-at (λ (l : List Word). getD l 0 []) refl j s
-    ∙ ap (λ (l : List Word). getD l 0 []) (first-piece (behindHyphen j s))
+    ∙ ap (λ (l : List Word). getD l 0 []) (split-cut 45 (behindHyphen j s))
 
 pub place-at : (j at : ℕ) (s : List ℕ) → at ≤ length s → drop at s ≡ behindHyphen j s → at ≡ placeOf s j
 place-at j at s h d = omega (arith, ap length d, length-drop at s)

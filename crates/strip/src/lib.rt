@@ -16,7 +16,6 @@ use shape::Clock;
 use shape::ClockRead;
 use state::Event;
 use state::Strip;
-use text::Cursor;
 
 // What a message of a type does to the state, or that its type is not fit for an update.
 pub enum Offered {
@@ -65,12 +64,7 @@ pub fn is_canonical_plan(strip: &[u8]) -> bool
 fn field<'a>(s: &'a [u8], j: usize) -> &'a [u8]
     ensures { λ r. ⌜ now r ≡ getD (split 45 (now (s .entry))) j [] ⌝ }
 {
-    let mut c = Cursor { at: 0 };
-    let mut left = j;
-    while left > 0 {
-        c = c.next(s, b'-');
-        left -= 1;
-    }
+    let c = force::seek(s, j);
     c.part(s, b'-')
 }
 
