@@ -1,12 +1,12 @@
 -- `listing::each_piece` meets its contract. Assumes nothing.
 use lib.ListN.{length}
-use Prim.Native.Nat.{_-_, _≤_}
+use Prim.Native.Nat.{_-_}
 use borrow.Author.Needs.{needs}
 use Rattle.listing.proofs.each_piece.Statement.{statement}
 use Rattle.listing.proofs.each_piece.Tie as tie
 
 abbrev Inv-loop : tie.InvT-loop
-Inv-loop s at₀ at = at ≤ length s
+Inv-loop s at₀ at = Unit {0}
 
 abbrev μ-loop : tie.MeasureT-loop
 μ-loop s at₀ at = length s - at

@@ -16,33 +16,24 @@ read-requires c κs = search needs
 enum-known-t : tie.Need-enum-known-t
 enum-known-t c = search needs
 
-tell-type-requires : tie.Need-tell-type-requires
-tell-type-requires c κs = search needs
-
 array-share-prefix-out : tie.Need-array-share-prefix-out
 array-share-prefix-out c =
-    let n = c .before .before .t .given .0 .1 .0 in
-    let r = c .before .before .before .before .before in
-    let k = accepted-taken _ (r .before .before .before .args .piece .now) _ n (sym (r .read .ensures .0) ∙ c .before .before .t .given .1) in
+    let n = c .before .t .given .0 .1 .0 in
+    let r = c .before .before .before .before in
+    let k = accepted-taken _ (r .before .before .before .args .piece .now) _ n (sym (r .read .ensures .0) ∙ c .before .t .given .1) in
     omega (arith, k .long, k .fits, r .read .kept .1 .0)
 
-slice-aggregate-write-all : tie.Need-slice-aggregate-write-all
-slice-aggregate-write-all c = sym (length-take-le _ _ (array-share-prefix-out (c .before)))
+slice-aggregate-accepted : tie.Need-slice-aggregate-accepted
+slice-aggregate-accepted c = sym (length-take-le _ _ (array-share-prefix-out (c .before)))
 
-write-all-requires : tie.Need-write-all-requires
-write-all-requires c κs = search needs
-
-slice-aggregate-write-all-2 : tie.Need-slice-aggregate-write-all-2
-slice-aggregate-write-all-2 c = search needs
-
-write-all-requires-2 : tie.Need-write-all-requires-2
-write-all-requires-2 c κs = search needs
+accepted-requires : tie.Need-accepted-requires
+accepted-requires c κs = search needs
 
 enum-known-number : tie.Need-enum-known-number
 enum-known-number c = search needs
 
-tell-refusal-requires : tie.Need-tell-refusal-requires
-tell-refusal-requires c κs = search needs
+refusal-requires : tie.Need-refusal-requires
+refusal-requires c κs = search needs
 
 returns : tie.Need-returns
 returns c = search needs
@@ -57,13 +48,10 @@ tell-spec =
     slice-aggregate-read
     read-requires
     enum-known-t
-    tell-type-requires
     array-share-prefix-out
-    slice-aggregate-write-all
-    write-all-requires
-    slice-aggregate-write-all-2
-    write-all-requires-2
+    slice-aggregate-accepted
+    accepted-requires
     enum-known-number
-    tell-refusal-requires
+    refusal-requires
     returns
     returns-2)

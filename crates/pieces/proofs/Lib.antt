@@ -1,1 +1,2 @@
 pub mod White
+pub mod Walk

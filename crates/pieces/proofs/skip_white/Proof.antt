@@ -1,17 +1,17 @@
--- `listing::skip_white` meets its contract. Assumes nothing.
+-- `pieces::skip_white` meets its contract. Assumes nothing.
 use lib.ListN.{length, drop}
-use Prim.Native.Nat.{_+_, _-_, _≤_}
+use Prim.Native.Nat.{_+_, _-_}
 use mathlib.Core.Path.{_≡_, sym, _∙_}
-use Rattle.listing.specs.Pieces.{whiteAhead}
-use Rattle.listing.proofs.White.{white-stop, white-next, white-end}
+use Rattle.pieces.specs.Pieces.{whiteAhead}
+use Rattle.pieces.proofs.White.{white-stop, white-next, white-end}
 use borrow.Author.Tests.{not-true, not-false}
 use borrow.Author.Needs.{needs}
 use native.Mathlib.Omega.{arith}
-use Rattle.listing.proofs.skip_white.Statement.{statement}
-use Rattle.listing.proofs.skip_white.Tie as tie
+use Rattle.pieces.proofs.skip_white.Statement.{statement}
+use Rattle.pieces.proofs.skip_white.Tie as tie
 
 abbrev Inv-loop : tie.InvT-loop
-Inv-loop s from i₀ i = (from ≤ i) × (i ≤ length s) × (from + whiteAhead (drop from s) ≡ i + whiteAhead (drop i s))
+Inv-loop s from i₀ i = from + whiteAhead (drop from s) ≡ i + whiteAhead (drop i s)
 
 abbrev μ-loop : tie.MeasureT-loop
 μ-loop s from i₀ i = length s - i

@@ -6,7 +6,7 @@ use mathlib.Core.List.{List}
 use lib.ListN.{length, drop, getD}
 use Rattle.alphabet.specs.Alphabet.{white}
 use Rattle.text.proofs.Index.{drop-here, drop-end}
-use Rattle.listing.specs.Pieces.{whiteAhead}
+use Rattle.pieces.specs.Pieces.{whiteAhead}
 
 pub white-stop : (s : List ℕ) (i : ℕ) → i < length s → white (getD s i 0) ≡ false → whiteAhead (drop i s) ≡ 0
 white-stop s i h e = rw (drop-here s i h, e)

@@ -1,0 +1,138 @@
+// The desk: the first accepted FPL of standard input becomes the strip, and each later piece is offered to it. One line for each piece: `OK`,
+// the state and the strip, or `NO`, number, field and place.
+ghost use mathlib.Core.Path.{_≡_};
+ghost use Prim.Native.Nat.{_≤_};
+ghost use mathlib.Core.Option.{none};
+ghost use lib.ListN.{length};
+ghost use Rattle.pieces.specs.Pieces.{piecesOf};
+ghost use Rattle.desk.specs.Desk.{boardIn, boardAfter, afterAll, InRoom, Offering};
+use libc::STDIN_FILENO;
+use libc::STDOUT_FILENO;
+use message::Answer;
+use state::State;
+use state::Strip;
+use strip::Updated;
+
+// The most bytes that are read.
+const MOST: usize = 65536;
+
+// What the desk holds: nothing yet, or a flight's state and how many bytes of a buffer its strip takes.
+pub enum Held {
+    Nothing,
+    Flight(Strip, usize),
+}
+
+// Before there is a strip: an accepted FPL becomes it, and another type is not fit.
+fn file(piece: &[u8], strip: &mut [u8]) -> Updated
+    requires { ⌜ length (now strip) ≡ 1800 ⌝ }
+    ensures { λ r. ⌜ Offering Held.Nothing (now (strip .entry)) (now (piece .entry)) r (now (strip .exit)) ⌝ }
+{
+    match message::read(piece, strip) {
+        Answer::Accepted(t, n) => {
+            if !message::is_plan(t) {
+                return Updated::Refused {
+                    number: 14,
+                    field: 0,
+                    place: 0,
+                };
+            }
+            Updated::Accepted(
+                Strip {
+                    state: State::Filed,
+                },
+                n,
+            )
+        }
+        Answer::Refused {
+            number,
+            field,
+            place,
+        } => Updated::Refused {
+            number,
+            field,
+            place,
+        },
+    }
+}
+
+// Offers a piece to the strip in the first n bytes of `strip`, and puts the new strip in its place.
+fn offer(held: Strip, n: usize, piece: &[u8], strip: &mut [u8]) -> Updated
+    requires { ⌜ (length (now strip) ≡ 1800) × (n ≤ 1800) ⌝ }
+    ensures { λ r. ⌜ Offering (Held.Flight held n) (now (strip .entry)) (now (piece .entry)) r (now (strip .exit)) ⌝ }
+{
+    let mut new = [0u8; 1800];
+    match strip::update(&strip[..n], held, piece, &mut new) {
+        Updated::Accepted(next, k) => {
+            text::put(&new[..k], strip);
+            Updated::Accepted(next, k)
+        }
+        Updated::Refused {
+            number,
+            field,
+            place,
+        } => Updated::Refused {
+            number,
+            field,
+            place,
+        },
+    }
+}
+
+// The answer to a piece, with what the desk then holds in `strip`.
+fn answer(desk: Held, piece: &[u8], strip: &mut [u8]) -> Updated
+    requires { ⌜ (length (now strip) ≡ 1800) × InRoom desk ⌝ }
+    ensures { λ r. ⌜ Offering desk (now (strip .entry)) (now (piece .entry)) r (now (strip .exit)) ⌝ }
+{
+    match desk {
+        Held::Nothing => file(piece, strip),
+        Held::Flight(held, n) => offer(held, n, piece, strip),
+    }
+}
+
+// Takes a piece: prints its line and hands back what the desk then holds.
+fn take(desk: Held, piece: &[u8], strip: &mut [u8]) -> Held
+    requires { ⌜ (length (now strip) ≡ 1800) × InRoom desk ⌝ }
+    ensures { λ r. ⌜ (boardIn r (now (strip .exit)) ≡ boardAfter (boardIn desk (now (strip .entry))) (now (piece .entry))) × InRoom r ⌝ }
+{
+    match answer(desk, piece, strip) {
+        Updated::Accepted(held, n) => {
+            say::strip(held, &strip[..n]);
+            Held::Flight(held, n)
+        }
+        Updated::Refused {
+            number,
+            field,
+            place,
+        } => {
+            say::refusal(number, field, place);
+            desk
+        }
+    }
+}
+
+// Takes each piece of an input in its turn.
+fn run(s: &[u8], strip: &mut [u8]) -> Held
+    requires { ⌜ length (now strip) ≡ 1800 ⌝ }
+    ensures { λ r. ⌜ boardIn r (now (strip .exit)) ≡ afterAll none (piecesOf (now (s .entry))) ⌝ }
+{
+    let mut desk = Held::Nothing;
+    let mut at = pieces::skip_white(s, 0);
+    while at < s.len() {
+        let e = pieces::piece_end(s, at);
+        desk = take(desk, &s[at..e], strip);
+        at = pieces::skip_white(s, e);
+    }
+    desk
+}
+
+// One byte more than may be read shows that there is too much, before anything is printed.
+fn main() {
+    let mut buffer = [0u8; 65537];
+    let n = io::read_full(STDIN_FILENO, &mut buffer);
+    if MOST < n {
+        io::write_all(STDOUT_FILENO, b"TOO LONG\n");
+        return;
+    }
+    let mut strip = [0u8; 1800];
+    run(&buffer[..n], &mut strip);
+}
