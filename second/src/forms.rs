@@ -1,7 +1,7 @@
 //! The forms of fields 3 to 17; field 15's words, 18 and 19 have modules of their own.
 
 use crate::alphabet::*;
-use crate::kind::Kind;
+use crate::kind::{is_unread, Kind};
 use crate::other::other_information;
 use crate::route::route;
 use crate::supplement::supplement;
@@ -138,11 +138,11 @@ fn is_reduced(content: &[u8]) -> bool {
     !closed && !doubled && content.last() != Some(&b' ')
 }
 
-/// Field 3: the type, then at most two numbers, all joined.
+/// Field 3: one of the sixteen standard types, then at most two numbers, all joined.
 fn message_type(word: &[u8]) -> bool {
     let Some((name, rest)) = word.split_at_checked(3) else { return false };
     let two = || past_number(past_number(rest)?);
-    Kind::named(name).is_some()
+    (Kind::named(name).is_some() || is_unread(name))
         && (rest.is_empty() || past_number(rest).is_some_and(<[u8]>::is_empty) || two().is_some_and(<[u8]>::is_empty))
 }
 

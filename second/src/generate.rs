@@ -3,6 +3,7 @@
 mod contents;
 mod damage;
 mod dice;
+pub mod questions;
 mod runs;
 
 use std::io::{self, Write};
@@ -33,18 +34,24 @@ pub fn valid(dice: &mut Dice, kind: Kind) -> Vec<u8> {
     runs::write(dice, &draft)
 }
 
+/// Valid one time in two, else damaged.
 fn offered(dice: &mut Dice, kind: Kind, flight: &Flight) -> Vec<u8> {
-    match dice.below(10) {
-        0..=4 => {
-            let draft = contents::draft(dice, kind, flight);
-            runs::write(dice, &draft)
-        }
-        5 | 6 => {
-            let percent = *dice.pick(&[1, 2, 5]);
+    if dice.chance(50) {
+        let draft = contents::draft(dice, kind, flight);
+        return runs::write(dice, &draft);
+    }
+    damaged(dice, kind, flight)
+}
+
+/// Damaged while it is made, before it is written out or as written; now and then valid all the same.
+fn damaged(dice: &mut Dice, kind: Kind, flight: &Flight) -> Vec<u8> {
+    match dice.below(5) {
+        0 | 1 => {
+            let percent = *dice.pick(&[1, 3, 8, 15]);
             let draft = dice.wildly(percent, |dice| contents::draft(dice, kind, flight));
             runs::write(dice, &draft)
         }
-        7 | 8 => {
+        2 | 3 => {
             let mut draft = contents::draft(dice, kind, flight);
             damage::draft(dice, &mut draft);
             runs::write(dice, &draft)

@@ -5,6 +5,8 @@
 //! buffer of reduced white space and no cutting into fields beforehand.
 
 mod alphabet;
+pub mod corpus;
+mod escapes;
 mod explained;
 mod forms;
 pub mod generate;
@@ -17,10 +19,12 @@ mod refusal;
 mod route;
 mod strip;
 mod supplement;
+pub mod tally;
+pub mod vectors;
 mod words;
 
 pub use forms::{field_fits, spelling19, Form};
 pub use kind::Kind;
 pub use message::{read, Accepted, LONGEST};
 pub use refusal::Refusal;
-pub use strip::{in_force, update, State, Updated};
+pub use strip::{field_in_force, in_force, update, InForce, State, Updated};

@@ -1,6 +1,7 @@
 //! The strip: one plan and the state of its flight.
 
 use std::fmt;
+use std::ops::Range;
 
 use crate::alphabet::{is_four_letters, minutes};
 use crate::explained::unexplained;
@@ -71,7 +72,7 @@ pub struct Updated {
 }
 
 /// The fields of a plan behind field 3, in their order; each may be named by an entry.
-const PLAN_FIELDS: [u32; 8] = [7, 8, 9, 10, 13, 15, 16, 18];
+pub(crate) const PLAN_FIELDS: [u32; 8] = [7, 8, 9, 10, 13, 15, 16, 18];
 
 type Contents<'a> = [&'a [u8]; PLAN_FIELDS.len()];
 
@@ -98,8 +99,25 @@ pub fn update(strip: &[u8], state: State, msg: &[u8], room: usize) -> Result<Upd
     Ok(Updated { strip: new_strip, state: new_state })
 }
 
-/// The content of a field in force: a part of the CHG if an entry names it, else of the strip.
+/// Where the content of a field in force stands.
+#[derive(Clone, Debug, PartialEq, Eq)]
+pub enum InForce {
+    /// In the strip.
+    Strip(Range<usize>),
+    /// In the CHG, which names the field.
+    Change(Range<usize>),
+}
+
+/// The content of a field in force: a part of the CHG or of the strip.
 pub fn in_force<'a>(strip: &'a [u8], state: State, chg: &'a [u8], field: u32) -> Result<&'a [u8], Refusal> {
+    Ok(match field_in_force(strip, state, chg, field)? {
+        InForce::Strip(range) => &strip[range],
+        InForce::Change(range) => &chg[range],
+    })
+}
+
+/// Where a field in force stands: in the CHG if an entry names it, else in the strip.
+pub fn field_in_force(strip: &[u8], state: State, chg: &[u8], field: u32) -> Result<InForce, Refusal> {
     let plan = read_strip(strip, state)?;
     let message = Reading::of(chg)?;
     if message.kind != Kind::Chg {
@@ -115,7 +133,7 @@ pub fn in_force<'a>(strip: &'a [u8], state: State, chg: &'a [u8], field: u32) ->
         return Err(Refusal::new(8, field, 0));
     }
     // Both spellings are the bytes lent, so a range of one is a range of the other.
-    Ok(message.entry_range(field).map_or_else(|| &strip[plan.own_range(field)], |range| &chg[range]))
+    Ok(message.entry_range(field).map_or_else(|| InForce::Strip(plan.own_range(field)), InForce::Change))
 }
 
 /// Number 15.

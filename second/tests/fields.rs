@@ -21,7 +21,8 @@ fn do_not_fit(form: &str, contents: &[&str]) {
 #[test]
 fn field_3() {
     fit("3", &["FPL", "CNL", "CHGA/B234A/B231", "CHGO/B016O/B014", "SPLABCD/EFGH123"]);
-    do_not_fit("3", &["CPL", "CPLA/B002", "CNLX", "CNL A/B123", "CNLA/B123 A/B124", "CNLA/BCDEF123", "CNLA/B1234"]);
+    fit("3", &["ALR", "RCF", "CPL", "CPLA/B002", "EST", "CDN", "ACP", "LAMP/M178M/P100"]);
+    do_not_fit("3", &["XXX", "CNLX", "CNL A/B123", "CNLA/B123 A/B124", "CNLA/BCDEF123", "CNLA/B1234"]);
     do_not_fit("3", &["CNLABCDE/B123", "CNL/B123", "CNLA/123", "CNLA/B12", "CNLA/B123C/D456E/F789", "CN", "cnl"]);
 }
 

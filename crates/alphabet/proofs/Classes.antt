@@ -2,12 +2,12 @@
 -- Assumes nothing.
 use mathlib.Core.Path.{_≡_, refl, sym, _∙_}
 use mathlib.Core.List.{List, [], _∷_}
-use mathlib.Core.Bool.{Bool, true, false, _&&_, not, Bool·beq}
+use mathlib.Core.Bool.{Bool, true, false, _&&_, _||_, not, cond, Bool·beq}
 use Prim.Native.Nat.{ℕ, _<_, _≤_}
 use lib.Dec.{T, eqb, eqb→eq, leb}
 use lib.ListN.{getD}
 use borrow.Author.Tests.{le-leb, lt-leb}
-use Rattle.alphabet.specs.Alphabet.{classOf, inAlphabet, letter, digit, octal, sign, text, white}
+use Rattle.alphabet.specs.Alphabet.{classOf, inAlphabet, letter, digit, octal, sign, text, white, oneOf, marks}
 use Rattle.alphabet.proofs.Table.{at, both, both-left, both-right}
 
 abbrev pub classes : List ℕ
@@ -82,3 +82,22 @@ below low high k h = rw (lt-leb low k h)
 
 pub from : (low high k : ℕ) → low ≤ k → leb k high ≡ within low high k
 from low high k h = rw (le-leb low k h)
+
+-- a range of bytes, tested at its lower end and then at its upper
+pub under : (low high b : ℕ) → b < low → false ≡ (leb low b && leb b high)
+under low high b h = rw (lt-leb low b h)
+
+pub over : (low high b : ℕ) → low ≤ b → leb b high ≡ (leb low b && leb b high)
+over low high b h = rw (le-leb low b h)
+
+-- a byte of a text word is a sign or one of seven marks: computed at each of the 256 bytes
+abbrev text-right : ℕ → ℕ → Bool
+text-right b k = Bool·beq (text b) (sign b || oneOf b marks)
+
+pub text-marks : (b : ℕ) → b < 256 → text b ≡ (sign b || oneOf b marks)
+unfolding inAlphabet text white
+text-marks b h = beq→eq (text b) (sign b || oneOf b marks) (at text-right classes tt b h)
+
+pub last-test : (x : Bool) → x ≡ cond x true false
+last-test true = refl
+last-test false = refl

@@ -34,6 +34,15 @@ white b = oneOf b (bytes " \r\n")
 unfoldable pub inAlphabet : ℕ → Bool
 inAlphabet b = sign b || (white b || oneOf b (bytes "()-?:.,'=/+"))
 
+-- how many bytes stand before the first that is not in the alphabet
+abbrev pub known : List ℕ → ℕ
+known [] = 0
+known (b ∷ s) = cond (inAlphabet b) (suc (known s)) 0
+
+-- the marks of a text word
+abbrev pub marks : List ℕ
+marks = bytes "?:.,'=+"
+
 -- a byte of a text word: of the alphabet, other than white space and ( ) - /
 unfoldable pub text : ℕ → Bool
 text b = inAlphabet b && (not (white b) && not (oneOf b (bytes "()-/")))

@@ -1,6 +1,8 @@
 // The alphabet of a message: a table of 256 classes, one to each byte value, and the sets of bytes that the forms name.
 ghost use mathlib.Core.Path.{_≡_};
-ghost use Rattle.alphabet.specs.Alphabet.{classOf, inAlphabet, letter, digit, octal, sign, text, white};
+ghost use Prim.Native.Nat.{_≤_};
+ghost use lib.ListN.{length};
+ghost use Rattle.alphabet.specs.Alphabet.{classOf, inAlphabet, letter, digit, octal, sign, text, white, oneOf, marks, known};
 
 const CLASSES: [u8; 256] = [
     0,
@@ -267,50 +269,104 @@ pub fn class_of(b: u8) -> u8
     CLASSES[b as usize]
 }
 
-pub fn in_alphabet(b: u8) -> bool
-    ensures { λ r. ⌜ r ≡ inAlphabet b ⌝ }
+// How many bytes stand before the first that is not in the alphabet. The table is laid down once for all of them.
+pub fn known_bytes(s: &[u8]) -> usize
+    ensures { λ r. ⌜ (r ≡ known (now (s .entry))) × (r ≤ length (now (s .entry))) ⌝ }
 {
-    class_of(b) != 0
+    let classes = CLASSES;
+    let mut i = 0;
+    while i < s.len() {
+        let b = s[i] as usize;
+        if classes[b] == 0 {
+            return i;
+        }
+        i += 1;
+    }
+    i
 }
 
+// The sets that the forms name are tested by comparisons: a constant table is laid down anew at each use, which costs more than a look into it.
 pub fn is_letter(b: u8) -> bool
     ensures { λ r. ⌜ r ≡ letter b ⌝ }
 {
-    class_of(b) == 1
+    if b < b'A' {
+        return false;
+    }
+    b <= b'Z'
 }
 
 pub fn is_digit(b: u8) -> bool
     ensures { λ r. ⌜ r ≡ digit b ⌝ }
 {
-    let k = class_of(b);
-    if k < 2 { false } else { k <= 3 }
+    if b < b'0' {
+        return false;
+    }
+    b <= b'9'
 }
 
 pub fn is_octal(b: u8) -> bool
     ensures { λ r. ⌜ r ≡ octal b ⌝ }
 {
-    class_of(b) == 2
+    if b < b'0' {
+        return false;
+    }
+    b <= b'7'
 }
 
 // A letter or a digit.
 pub fn is_sign(b: u8) -> bool
     ensures { λ r. ⌜ r ≡ sign b ⌝ }
 {
-    let k = class_of(b);
-    if k < 1 { false } else { k <= 3 }
+    if is_letter(b) {
+        return true;
+    }
+    is_digit(b)
+}
+
+// A mark that may stand in a text word.
+fn is_mark(b: u8) -> bool
+    ensures { λ r. ⌜ r ≡ oneOf b marks ⌝ }
+{
+    if b == b'?' {
+        return true;
+    }
+    if b == b':' {
+        return true;
+    }
+    if b == b'.' {
+        return true;
+    }
+    if b == b',' {
+        return true;
+    }
+    if b == b'\'' {
+        return true;
+    }
+    if b == b'=' {
+        return true;
+    }
+    b == b'+'
 }
 
 // A byte of a text word: of the alphabet, other than white space and ( ) - /.
 pub fn is_text(b: u8) -> bool
     ensures { λ r. ⌜ r ≡ text b ⌝ }
 {
-    let k = class_of(b);
-    if k < 1 { false } else { k <= 10 }
+    if is_sign(b) {
+        return true;
+    }
+    is_mark(b)
 }
 
 // Space, CR or LF.
 pub fn is_white(b: u8) -> bool
     ensures { λ r. ⌜ r ≡ white b ⌝ }
 {
-    class_of(b) == 15
+    if b == b' ' {
+        return true;
+    }
+    if b == b'\r' {
+        return true;
+    }
+    b == b'\n'
 }

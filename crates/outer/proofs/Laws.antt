@@ -1,13 +1,13 @@
 -- Numbers 1 to 3 at an index: where each walk stops, its next step and its end. Assumes nothing.
-use Prim.Native.Nat.{ℕ, _+_, _≤_, _<_}
-use mathlib.Core.Path.{_≡_, refl}
-use mathlib.Core.Bool.{true, false}
+use Prim.Native.Nat.{ℕ, suc, _+_, _≤_, _<_}
+use mathlib.Core.Path.{_≡_, refl, ap, _∙_}
+use mathlib.Core.Bool.{Bool, true, false, cond}
 use mathlib.Core.List.{List, [], _∷_}
 use native.Mathlib.Numerals.{add-one}
 use native.Mathlib.Omega.{arith}
 use borrow.Author.Tests.{ne-eqb, lt-ltb, le-ltb}
 use lib.ListN.{length, getD, drop}
-use Rattle.alphabet.specs.Alphabet.{inAlphabet}
+use Rattle.alphabet.specs.Alphabet.{inAlphabet, known}
 use Rattle.text.proofs.Index.{drop-here, drop-end}
 use Rattle.outer.specs.Outer.{parensFrom, parens, lettersFrom, outer}
 use Rattle.outer.specs.declared.Outer.the-variants.{Good, Bad}
@@ -50,20 +50,27 @@ unfolding parens
 parens-first [] n e = absurd (n refl)
 parens-first (b ∷ bs) n e = rw e
 
--- NUMBER 3
+-- NUMBER 3: the bytes up to the first that is not in the alphabet are counted
 
-module _ (m : List ℕ) (i : ℕ) (h : i < length m) where
-  pub letters-next : inAlphabet (getD m i 0) ≡ true → lettersFrom i (drop i m) ≡ lettersFrom (i + 1) (drop (i + 1) m)
-  unfolding lettersFrom
-  letters-next a = rw (drop-here m i h, a, add-one i)
-
-  pub letters-stop : inAlphabet (getD m i 0) ≡ false → lettersFrom i (drop i m) ≡ Bad 3 i
-  unfolding lettersFrom
-  letters-stop a = rw (drop-here m i h, a)
-
-pub letters-end : (m : List ℕ) (i : ℕ) → length m ≤ i → lettersFrom i (drop i m) ≡ Good
+pub letters-known : (s : List ℕ) (i n : ℕ) → n ≡ known s → n < length s → lettersFrom i s ≡ Bad 3 (i + n)
 unfolding lettersFrom
-letters-end m i h = rw (drop-end m i h)
+letters-known [] i n e h = absurd (omega arith)
+letters-known (b ∷ s) i n e h = go (letters-known s (suc i) (known s) refl) (inAlphabet b) e
+  where
+    go : (known s < length s → lettersFrom (suc i) s ≡ Bad 3 (suc i + known s)) → (a : Bool) → n ≡ cond a (suc (known s)) 0
+        → cond a (lettersFrom (suc i) s) (Bad 3 i) ≡ Bad 3 (i + n)
+    go ih true q = ih (omega arith) ∙ ap (Bad 3) (omega arith)
+    go ih false q = ap (Bad 3) (omega arith)
+
+pub letters-all : (s : List ℕ) (i : ℕ) → length s ≤ known s → lettersFrom i s ≡ Good
+unfolding lettersFrom
+letters-all [] i h = refl
+letters-all (b ∷ s) i h = go (letters-all s (suc i)) (inAlphabet b) h
+  where
+    go : (length s ≤ known s → lettersFrom (suc i) s ≡ Good) → (a : Bool) → suc (length s) ≤ cond a (suc (known s)) 0
+        → cond a (lettersFrom (suc i) s) (Bad 3 i) ≡ Good
+    go ih true q = ih (omega arith)
+    go ih false q = absurd (omega arith)
 
 -- NUMBERS 1 TO 3
 

@@ -57,16 +57,12 @@ fn check_parens(msg: &[u8]) -> Outer
 fn check_letters(msg: &[u8]) -> Outer
     ensures { λ r. ⌜ r ≡ lettersFrom 0 (now (msg .entry)) ⌝ }
 {
-    let mut i = 0;
-    while i < msg.len() {
-        if alphabet::in_alphabet(msg[i]) {
-            i += 1;
-        } else {
-            return Outer::Bad {
-                number: 3,
-                place: i,
-            };
-        }
+    let n = alphabet::known_bytes(msg);
+    if n < msg.len() {
+        return Outer::Bad {
+            number: 3,
+            place: n,
+        };
     }
     Outer::Good
 }

@@ -48,9 +48,12 @@ starts-list w = ap (λ (ts : List Word). any ts w) starts-wide
 pub changes-list : (w : Word) → pairFits (split 32 changes-text) w ≡ pairFits (wides changes) w
 changes-list w = ap (λ (ts : List Word). pairFits ts w) changes-wide
 
+pub climbs-list : (w : Word) → pairFits (split 32 climbs-text) w ≡ pairFits (wides climbs) w
+climbs-list w = ap (λ (ts : List Word). pairFits ts w) climbs-wide
+
 -- with what Rattle says of `&w[i..]`
-pub climbs-list : (w : Word) (i : ℕ) → pairFits (split 32 climbs-text) (take (length w - i) (drop i w)) ≡ pairFits (wides climbs) (drop i w)
-climbs-list w i = ap (pairFits (split 32 climbs-text)) (rest w i) ∙ ap (λ (ts : List Word). pairFits ts (drop i w)) climbs-wide
+pub climbs-rest : (w : Word) (i : ℕ) → pairFits (wides climbs) (take (length w - i) (drop i w)) ≡ pairFits (wides climbs) (drop i w)
+climbs-rest w i = ap (pairFits (wides climbs)) (rest w i)
 
 -- A WORD AT ITS OBLIQUE, which stands at o
 

@@ -3,6 +3,8 @@ ghost use mathlib.Core.Path.{_≡_};
 ghost use Prim.Native.Nat.{ℕ, _+_, _-_, _≤_, _<_};
 ghost use lib.ListN.{length, drop};
 ghost use Rattle.text.specs.Words.{split};
+ghost use Rattle.shape.specs.Shape.{wides};
+ghost use Rattle.route.specs.Levels.{changes, climbs};
 ghost use Rattle.route.specs.Points.{degreesInRange, within as withinDegrees, minutesInRange, degreesOf, minutesOf, radialFits, nameFits, pointFits};
 ghost use Rattle.route.specs.Field15.{pairFits, wordFits, elementFits, routeFits, fits15};
 
@@ -122,6 +124,24 @@ fn word(last: bool, w: &[u8]) -> bool
     point(7, w)
 }
 
+// A climb, behind its `C/`: a point, a speed and two levels, or PLUS for the second. A list stands in a function of its own, since it is laid down
+// whenever its function is called.
+fn climb(w: &[u8]) -> bool
+    ensures { λ r. ⌜ r ≡ pairFits (wides climbs) (now (w .entry)) ⌝ }
+{
+    pair(
+        b"k9999f999f999 k9999f999s9999 k9999f999PLUS k9999s9999f999 k9999s9999s9999 k9999s9999PLUS M999f999f999 M999f999s9999 M999f999PLUS M999s9999f999 M999s9999s9999 M999s9999PLUS",
+        w,
+    )
+}
+
+// A change of speed and level at a point.
+fn change(w: &[u8]) -> bool
+    ensures { λ r. ⌜ r ≡ pairFits (wides changes) (now (w .entry)) ⌝ }
+{
+    pair(b"k9999f999 k9999s9999 M999f999 M999s9999", w)
+}
+
 // A word. `C/` is a climb, any other oblique a change of speed and level.
 fn element(last: bool, w: &[u8]) -> bool
     ensures { λ r. ⌜ r ≡ elementFits last (now (w .entry)) ⌝ }
@@ -131,12 +151,9 @@ fn element(last: bool, w: &[u8]) -> bool
         return word(last, w);
     }
     if text::same_bytes(&w[..o], b"C") {
-        return pair(
-            b"k9999f999f999 k9999f999s9999 k9999f999PLUS k9999s9999f999 k9999s9999s9999 k9999s9999PLUS M999f999f999 M999f999s9999 M999f999PLUS M999s9999f999 M999s9999s9999 M999s9999PLUS",
-            &w[o + 1..],
-        );
+        return climb(&w[o + 1..]);
     }
-    pair(b"k9999f999 k9999s9999 M999f999 M999s9999", w)
+    change(w)
 }
 
 // The words from `from` on.

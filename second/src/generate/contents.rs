@@ -492,7 +492,7 @@ fn other_information(dice: &mut Dice, due: &[&[u8]]) -> Vec<u8> {
     if due.is_empty() && dice.chance(25) {
         return b"0".to_vec();
     }
-    let rate = *dice.pick(&[2, 5, 15, 50]);
+    let rate = *dice.pick(&[2, 5, 12, 35]);
     let mut items: Vec<Vec<u8>> = Vec::new();
     for key in KEYS {
         if due.contains(&key) || dice.chance(rate) {

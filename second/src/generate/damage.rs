@@ -19,6 +19,7 @@ pub fn draft(dice: &mut Dice, draft: &mut Draft) {
 
 fn any_field(dice: &mut Dice, draft: &mut Draft) {
     match dice.below(10) {
+        _ if dice.chance(3) => lengthen(dice, draft, LONGEST + 1),
         0 => swap(dice, draft),
         1 => drop_field(dice, draft),
         2 => add_field(dice, draft),
@@ -26,8 +27,7 @@ fn any_field(dice: &mut Dice, draft: &mut Draft) {
         4 => replace_four_digits(dice, draft),
         5 => lead_with_white(dice, draft),
         6 => spoil_code(draft),
-        7 => lengthen(dice, draft, LONGEST + 1),
-        8 => draft.truncate(dice.from_to(1, draft.len())),
+        7 => draft.truncate(dice.from_to(1, draft.len())),
         _ => in_some_field(dice, draft, content),
     }
 }

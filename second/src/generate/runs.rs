@@ -5,7 +5,7 @@ use super::Draft;
 
 /// With runs of white space where they may stand: for a space, and before `-` and `)`.
 pub fn write(dice: &mut Dice, draft: &Draft) -> Vec<u8> {
-    if dice.chance(40) {
+    if dice.chance(50) {
         return plain(draft);
     }
     let mut written = Vec::new();

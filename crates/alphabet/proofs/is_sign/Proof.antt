@@ -1,18 +1,20 @@
--- `alphabet::is_sign` meets its contract: `Classes.rule`, at each side of the test. Assumes nothing.
-use mathlib.Core.Path.{_∙_}
+-- `alphabet::is_sign` meets its contract. Assumes nothing.
+use mathlib.Core.Path.{sym, _∙_}
 use borrow.Author.Needs.{needs}
-use Rattle.alphabet.proofs.Classes.{rule, below, from}
 use Rattle.alphabet.proofs.is_sign.Statement.{statement}
 use Rattle.alphabet.proofs.is_sign.Tie as tie
 
-class-of-requires : tie.Need-class-of-requires
-class-of-requires c κs = search needs
+is-letter-requires : tie.Need-is-letter-requires
+is-letter-requires c κs = search needs
 
 returns : tie.Need-returns
-returns c = below 1 3 _ (c .if1 .taken) ∙ rule _ _ (search needs) (c .before .class-of .ensures) .sign-is
+returns c = rw (sym (c .before .is-letter .ensures) ∙ c .if1 .taken)
+
+is-digit-requires : tie.Need-is-digit-requires
+is-digit-requires c κs = search needs
 
 returns-2 : tie.Need-returns-2
-returns-2 c = from 1 3 _ (c .if1 .left) ∙ rule _ _ (search needs) (c .before .class-of .ensures) .sign-is
+returns-2 c = rw (sym (c .before .before .is-letter .ensures) ∙ c .before .if1 .left) (c .is-digit .ensures)
 
 pub is-sign-spec : {M : Type 1} → statement M
-is-sign-spec = tie.close (tie.spec class-of-requires returns returns-2)
+is-sign-spec = tie.close (tie.spec is-letter-requires returns is-digit-requires returns-2)

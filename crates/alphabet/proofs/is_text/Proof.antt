@@ -1,18 +1,21 @@
--- `alphabet::is_text` meets its contract: `Classes.rule`, at each side of the test. Assumes nothing.
-use mathlib.Core.Path.{_∙_}
+-- `alphabet::is_text` meets its contract. Assumes nothing.
+use mathlib.Core.Path.{sym, _∙_}
+use Rattle.alphabet.proofs.Classes.{text-marks}
 use borrow.Author.Needs.{needs}
-use Rattle.alphabet.proofs.Classes.{rule, below, from}
 use Rattle.alphabet.proofs.is_text.Statement.{statement}
 use Rattle.alphabet.proofs.is_text.Tie as tie
 
-class-of-requires : tie.Need-class-of-requires
-class-of-requires c κs = search needs
+is-sign-requires : tie.Need-is-sign-requires
+is-sign-requires c κs = search needs
 
 returns : tie.Need-returns
-returns c = below 1 10 _ (c .if1 .taken) ∙ rule _ _ (search needs) (c .before .class-of .ensures) .text-is
+returns c = rw (text-marks (c .before .before .args .b) (search needs), sym (c .before .is-sign .ensures) ∙ c .if1 .taken)
+
+is-mark-requires : tie.Need-is-mark-requires
+is-mark-requires c κs = search needs
 
 returns-2 : tie.Need-returns-2
-returns-2 c = from 1 10 _ (c .if1 .left) ∙ rule _ _ (search needs) (c .before .class-of .ensures) .text-is
+returns-2 c = rw (text-marks (c .before .before .before .args .b) (search needs), sym (c .before .before .is-sign .ensures) ∙ c .before .if1 .left) (c .is-mark .ensures)
 
 pub is-text-spec : {M : Type 1} → statement M
-is-text-spec = tie.close (tie.spec class-of-requires returns returns-2)
+is-text-spec = tie.close (tie.spec is-sign-requires returns is-mark-requires returns-2)

@@ -2,7 +2,7 @@
 use mathlib.Core.Path.{sym, _∙_}
 use Prim.Native.Nat.{_+_}
 use lib.Seq.{length-take-le}
-use Rattle.route.proofs.Index.{element-plain, element-at, changes-list, climbs-list}
+use Rattle.route.proofs.Index.{element-plain, element-at, climbs-rest}
 use borrow.Author.Needs.{needs}
 use Rattle.route.proofs.element.Statement.{statement}
 use Rattle.route.proofs.element.Tie as tie
@@ -27,45 +27,37 @@ slice-aggregate-same-bytes-2 c = search needs
 same-bytes-requires : tie.Need-same-bytes-requires
 same-bytes-requires c κs = search needs
 
-slice-aggregate-pair : tie.Need-slice-aggregate-pair
-slice-aggregate-pair c = search needs
+add-climb : tie.Need-add-climb
+add-climb c = search needs
 
-add-pair : tie.Need-add-pair
-add-pair c = search needs
+sub-climb : tie.Need-sub-climb
+sub-climb c = search needs
 
-sub-pair : tie.Need-sub-pair
-sub-pair c = search needs
+part-climb-start : tie.Need-part-climb-start
+part-climb-start c = search needs
 
-part-pair-start : tie.Need-part-pair-start
-part-pair-start c = search needs
+part-climb-end : tie.Need-part-climb-end
+part-climb-end c = search needs
 
-part-pair-end : tie.Need-part-pair-end
-part-pair-end c = search needs
-
-pair-requires : tie.Need-pair-requires
-pair-requires c κs = search needs
+climb-requires : tie.Need-climb-requires
+climb-requires c κs = search needs
 
 returns-2 : tie.Need-returns-2
 returns-2 c =
-    let k = c .before .before .before .before in
-    let a = k .before .before .before .before .before .before .args in
-    let f = k .before .before .before .before .find in
-    let at = element-at (a .w .now) (f .result) (f .ensures .0) (a .last) (k .before .before .before .if1 .left) (f .ensures .1 .1) in
-    rw (at, sym (k .same-bytes .ensures) ∙ c .before .before .before .if2 .taken) (c .pair .ensures ∙ climbs-list (a .w .now) (f .result + 1))
+    let a = c .before .before .before .before .before .before .before .before .before .args in
+    let f = c .before .before .before .before .before .before .before .find in
+    let at = element-at (a .w .now) (f .result) (f .ensures .0) (a .last) (c .before .before .before .before .before .before .if1 .left) (f .ensures .1 .1) in
+    rw (at, sym (c .before .before .before .same-bytes .ensures) ∙ c .before .before .if2 .taken) (c .climb .ensures ∙ climbs-rest (a .w .now) (f .result + 1))
 
-slice-aggregate-pair-2 : tie.Need-slice-aggregate-pair-2
-slice-aggregate-pair-2 c = search needs
-
-pair-requires-2 : tie.Need-pair-requires-2
-pair-requires-2 c κs = search needs
+change-requires : tie.Need-change-requires
+change-requires c κs = search needs
 
 returns-3 : tie.Need-returns-3
 returns-3 c =
-    let k = c .before .before .before in
-    let a = k .before .before .before .before .before .before .args in
-    let f = k .before .before .before .before .find in
-    let at = element-at (a .w .now) (f .result) (f .ensures .0) (a .last) (k .before .before .before .if1 .left) (f .ensures .1 .1) in
-    rw (at, sym (k .same-bytes .ensures) ∙ c .before .before .if2 .left) (c .pair2 .ensures ∙ changes-list (a .w .now))
+    let a = c .before .before .before .before .before .before .before .before .args in
+    let f = c .before .before .before .before .before .before .find in
+    let at = element-at (a .w .now) (f .result) (f .ensures .0) (a .last) (c .before .before .before .before .before .if1 .left) (f .ensures .1 .1) in
+    rw (at, sym (c .before .before .same-bytes .ensures) ∙ c .before .if2 .left) (c .change .ensures)
 
 pub element-spec : {M : Type 1} → statement M
 element-spec =
@@ -77,13 +69,11 @@ element-spec =
     slice-aggregate-same-bytes
     slice-aggregate-same-bytes-2
     same-bytes-requires
-    slice-aggregate-pair
-    add-pair
-    sub-pair
-    part-pair-start
-    part-pair-end
-    pair-requires
+    add-climb
+    sub-climb
+    part-climb-start
+    part-climb-end
+    climb-requires
     returns-2
-    slice-aggregate-pair-2
-    pair-requires-2
+    change-requires
     returns-3)

@@ -1,0 +1,322 @@
+-- Numbers lose nothing: two answers or two states with the same numbers are the same, and a state comes back from its numbers. The number 0 is
+-- an acceptance's alone. Assumes nothing.
+use Prim.Native.Nat.{ℕ, zero, suc, _+_, _≤_, _<_}
+use mathlib.Core.Path.{_≡_, refl, sym, ap, subst, subst⁻¹, _∙_}
+use mathlib.Core.Bool.{Bool, true, false, _&&_, cond, false≢true}
+use mathlib.Core.List.{List, [], _∷_}
+use mathlib.Core.Option.{Option, none, some}
+use native.Mathlib.Omega.{arith}
+use lib.Dec.{eqb, ltb, leb}
+use lib.ListN.{length, getD}
+use lib.Seq.{ext-getD}
+use borrow.Author.Tests.{eq-eqb, ne-eqb, eqb-true, eqb-false, lt-ltb, leb-true}
+use Rattle.shape.specs.declared.Clock.{Clock}
+use Rattle.aerodromes.specs.declared.Aerodrome.{Aerodrome}
+use Rattle.kinds.specs.declared.MessageType.{MessageType}
+use Rattle.kinds.specs.declared.MessageType.the-variants.{Fpl, Chg, Cnl, Dla, Dep, Arr, Rqp, Rqs, Spl}
+use Rattle.message.specs.declared.Answer.{Answer}
+use Rattle.message.specs.declared.Answer.the-variants.{Accepted as ReadAs, Refused as NotRead}
+use Rattle.message.specs.Reading.{spellingOf, answerOf, outAfter}
+use Rattle.message.proofs.Answers.{refused-number}
+use Rattle.state.specs.declared.Departure.{Departure}
+use Rattle.state.specs.declared.Departure.the-variants.{Known, Unknown}
+use Rattle.state.specs.declared.State.{State}
+use Rattle.state.specs.declared.State.the-variants.{Filed, Departed, Arrived, Cancelled}
+use Rattle.text.specs.Words.{all, split, same}
+use Rattle.space.specs.Fields.{inner}
+use Rattle.text.proofs.Tests.{both}
+use Rattle.alphabet.specs.Alphabet.{letter}
+use Rattle.aerodromes.specs.Asked.{fourBytes}
+use Rattle.state.specs.State.{sound}
+use Rattle.state.specs.declared.Strip.{Strip}
+use Rattle.strip.specs.declared.Updated.{Updated}
+use Rattle.strip.specs.declared.Updated.the-variants.{Accepted, Refused}
+use Rattle.strip.specs.Updating.{most, canonicalPlan, differences, differs, updateOf}
+use Rattle.force.specs.InForce.{namedAt}
+use Rattle.history.specs.Demand3.{Cause, not-proper, not-read, not-fit, no-type, another-flight, not-allowed, unexplained, too-long, no-room}
+use Rattle.history.proofs.Causes.{Took, Verdict, verdict, refused-cause}
+use Rattle.history.proofs.Demand3.{took-proper}
+use Rattle.asked.specs.declared.Asked.{Asked}
+use Rattle.asked.specs.declared.Asked.the-variants.{InStrip, InChange, Refused as NotShown}
+use Rattle.asked.specs.Asking.{rankOf, standsIn, standsAs, fieldAs, flightAs, isChange, typeAs, readAs, askedOf}
+use Rattle.beechdoublet.specs.declared.Handed.{Handed}
+use Rattle.beechdoublet.specs.declared.Handed.the-variants.{Held, NoState}
+use Rattle.beechdoublet.specs.Numbers.{typeNumber, readNumber, readNumbers, updateNumber, updateNumbers, askedNumber, askedNumbers}
+use Rattle.beechdoublet.specs.Handed.{arrivedNumbers, stateNumbers, kept, minuteOf, byteOf, stateOf, agree, handedAs, updateAs, stateAs, askedAs}
+use Rattle.beechdoublet.specs.Laws.{wasRead, wasTaken, wasShown, Numbered, Told}
+
+-- THE TYPES
+
+abbrev typeOf : ℕ → MessageType
+typeOf n =
+    cond (eqb n 1) Fpl (cond (eqb n 2) Chg (cond (eqb n 3) Cnl (cond (eqb n 4) Dla (cond (eqb n 5) Dep
+    (cond (eqb n 6) Arr (cond (eqb n 7) Rqp (cond (eqb n 8) Rqs Spl)))))))
+
+type-back : (t : MessageType) → typeOf (typeNumber t) ≡ t
+type-back Fpl = refl
+type-back Chg = refl
+type-back Cnl = refl
+type-back Dla = refl
+type-back Dep = refl
+type-back Arr = refl
+type-back Rqp = refl
+type-back Rqs = refl
+type-back Spl = refl
+
+pub type-one : (t u : MessageType) → typeNumber t ≡ typeNumber u → t ≡ u
+type-one t u e = sym (type-back t) ∙ ap typeOf e ∙ type-back u
+
+type-some : (t : MessageType) → 1 ≤ typeNumber t
+type-some Fpl = omega arith
+type-some Chg = omega arith
+type-some Cnl = omega arith
+type-some Dla = omega arith
+type-some Dep = omega arith
+type-some Arr = omega arith
+type-some Rqp = omega arith
+type-some Rqs = omega arith
+type-some Spl = omega arith
+
+-- READING
+
+pub read-one : (a b : Answer) → readNumbers a ≡ readNumbers b → a ≡ b
+read-one (ReadAs t n) (ReadAs u k) e =
+    let p : typeNumber t ≡ typeNumber u = cc in
+    let q : t ≡ u = type-one t u p in
+    cc
+read-one (ReadAs t n) (NotRead number field place) e = let p : typeNumber t ≡ 0 = cc in absurd (omega (arith, type-some t))
+read-one (NotRead number field place) (ReadAs u k) e = let p : typeNumber u ≡ 0 = cc in absurd (omega (arith, type-some u))
+read-one (NotRead number field place) (NotRead number′ field′ place′) e = cc
+
+-- 0 is given back exactly where the message is accepted
+pub read-zero : (m : List ℕ) (room : ℕ) → eqb (readNumber (answerOf m room)) 0 ≡ wasRead (answerOf m room)
+read-zero m room = go (answerOf m room) refl
+  where
+    go : (a : Answer) → answerOf m room ≡ a → eqb (readNumber a) 0 ≡ wasRead a
+    go (ReadAs t n) e = refl
+    go (NotRead number field place) e = ne-eqb number 0 (λ z. absurd (omega (arith, refused-number m room number field place e .0)))
+
+-- THE STATE
+
+abbrev stateBack : List ℕ → State
+stateBack ns =
+    cond (eqb (getD ns 0 0) 1) (Departed (record { 0 = getD ns 2 0 }))
+    (cond (eqb (getD ns 0 0) 2)
+    (Arrived (cond (eqb (getD ns 1 0) 0) Unknown (Known (record { 0 = getD ns 2 0 })))
+    (record { 0 = getD ns 3 0; 1 = getD ns 4 0; 2 = getD ns 5 0; 3 = getD ns 6 0 }) (record { 0 = getD ns 7 0 }))
+    (cond (eqb (getD ns 0 0) 3) Cancelled Filed))
+
+state-back : (s : State) → stateBack (stateNumbers s) ≡ s
+state-back Filed = refl
+state-back (Departed t) = refl
+state-back (Arrived (Known d) a t) = refl
+state-back (Arrived Unknown a t) = refl
+state-back Cancelled = refl
+
+pub state-one : (s t : State) → stateNumbers s ≡ stateNumbers t → s ≡ t
+state-one s t e = sym (state-back s) ∙ ap stateBack e ∙ state-back t
+
+state-long : (s : State) → length (stateNumbers s) ≡ 8
+state-long Filed = refl
+state-long (Departed t) = refl
+state-long (Arrived (Known d) a t) = refl
+state-long (Arrived Unknown a t) = refl
+state-long Cancelled = refl
+
+-- A STATE COMES BACK from its numbers, if it is sound
+
+minute-kept : (t : Clock) → leb (t .0) 1439 ≡ true → minuteOf (t .0) ≡ t
+minute-kept t e = rw (lt-ltb (t .0) 65536 (omega (arith, leb-true (t .0) 1439 e)))
+
+letter-kept : (b : ℕ) → letter b ≡ true → byteOf b ≡ b
+letter-kept b e = rw (lt-ltb b 256 (omega (arith, leb-true b 90 (both (leb 65 b) (leb b 90) e .1))))
+
+same-agree : (k : ℕ) (xs : List ℕ) → agree k xs xs ≡ true
+same-agree zero xs = refl
+same-agree (suc k) xs = rw (same-agree k xs, eq-eqb (getD xs k 0) (getD xs k 0) refl)
+
+agree-at : (k : ℕ) (xs ys : List ℕ) → agree k xs ys ≡ true → (i : ℕ) → i < k → getD xs i 0 ≡ getD ys i 0
+agree-at zero xs ys h i l = absurd (omega arith)
+agree-at (suc k) xs ys h i l = go (λ p. agree-at k xs ys (b .0) i p) (eqb i k) refl
+  where
+    b : (agree k xs ys ≡ true) × (eqb (getD xs k 0) (getD ys k 0) ≡ true)
+    b = both (agree k xs ys) (eqb (getD xs k 0) (getD ys k 0)) h
+
+    go : (i < k → getD xs i 0 ≡ getD ys i 0) → (c : Bool) → eqb i k ≡ c → getD xs i 0 ≡ getD ys i 0
+    go ih true e = subst⁻¹ (λ j. getD xs j 0 ≡ getD ys j 0) (eqb-true i k e) (eqb-true (getD xs k 0) (getD ys k 0) (b .1))
+    go ih false e = ih (omega (arith, eqb-false i k e))
+
+state-meant : (s : State) → sound s ≡ true → stateOf (stateNumbers s) ≡ s
+state-meant Filed h = refl
+state-meant (Departed t) h = ap Departed (minute-kept t h)
+state-meant (Arrived (Known d) a t) h =
+    let p = both (leb (d .0) 1439) _ h in
+    let q = both (all letter (fourBytes a)) _ (p .1) in
+    let r = both (letter (a .0)) _ (q .0) in
+    let u = both (letter (a .1)) _ (r .1) in
+    let v = both (letter (a .2)) _ (u .1) in
+    let w = both (letter (a .3)) _ (v .1) in
+    rw (minute-kept d (p .0), minute-kept t (q .1), letter-kept (a .0) (r .0), letter-kept (a .1) (u .0), letter-kept (a .2) (v .0), letter-kept (a .3) (w .0))
+state-meant (Arrived Unknown a t) h =
+    let q = both (all letter (fourBytes a)) _ h in
+    let r = both (letter (a .0)) _ (q .0) in
+    let u = both (letter (a .1)) _ (r .1) in
+    let v = both (letter (a .2)) _ (u .1) in
+    let w = both (letter (a .3)) _ (v .1) in
+    rw (minute-kept t (q .1), letter-kept (a .0) (r .0), letter-kept (a .1) (u .0), letter-kept (a .2) (v .0), letter-kept (a .3) (w .0))
+state-meant Cancelled h = refl
+
+pub handed-back : (s : State) → sound s ≡ true → handedAs (stateNumbers s) ≡ Held (record { state = s })
+unfolding handedAs
+handed-back s h = rw (state-meant s h, same-agree 8 (stateNumbers s))
+
+-- and only from its numbers: eight numbers that are taken for a state are that state's own
+pub handed-only : (ns : List ℕ) → length ns ≡ 8 → (held : Strip) → handedAs ns ≡ Held held → stateNumbers (held .state) ≡ ns
+unfolding handedAs
+handed-only ns long held e = go (agree 8 (stateNumbers (stateOf ns)) ns) refl e
+  where
+    go : (b : Bool) → agree 8 (stateNumbers (stateOf ns)) ns ≡ b → cond b (Held (record { state = stateOf ns })) NoState ≡ Held held
+        → stateNumbers (held .state) ≡ ns
+    go true a q =
+        let h : record { state = stateOf ns } ≡ held = cc in
+        ap (λ (x : Strip). stateNumbers (x .state)) (sym h)
+        ∙ ext-getD 0 (stateNumbers (stateOf ns)) ns (state-long (stateOf ns) ∙ sym long)
+        (λ i l. agree-at 8 (stateNumbers (stateOf ns)) ns a i (omega (arith, state-long (stateOf ns))))
+    go false a q = let z : _≡_ {A = ℕ} 0 1 = cc in absurd (omega arith)
+
+-- AN UPDATE
+
+caused : (strip : List ℕ) (s : State) (m : List ℕ) (room number field place : ℕ) → Cause strip s m room number field place → 1 ≤ number
+caused strip s m room number field place (not-proper h) = omega arith
+caused strip s m room number field place (not-read p q l) = refused-number m 1800 number field place q .0
+caused strip s m room number field place (not-fit p q) = omega arith
+caused strip s m room number field place (no-type p q e) = omega arith
+caused strip s m room number field place (another-flight p q e h) = omega arith
+caused strip s m room number field place (not-allowed p q e h a) = omega arith
+caused strip s m room number field place (unexplained k u) = omega arith
+caused strip s m room number field place (too-long k u l) = omega arith
+caused strip s m room number field place (no-room k u l h) = omega arith
+
+-- a refusal has a number
+pub update-numbered : (h : Handed) (strip m : List ℕ) (room : ℕ) → Numbered (updateAs h strip m room)
+update-numbered NoState strip m room = omega arith
+update-numbered (Held held) strip m room = go (updateOf strip (held .state) m room) refl
+  where
+    go : (u : Updated) → updateOf strip (held .state) m room ≡ u → Numbered u
+    go (Accepted next n) e = tt
+    go (Refused number field place) e =
+        caused strip (held .state) m room number field place (refused-cause strip (held .state) m room number field place e)
+
+-- 0 is given back exactly where the message is accepted
+pub update-zero : (h : Handed) (strip m : List ℕ) (room : ℕ) → eqb (updateNumber (updateAs h strip m room)) 0 ≡ wasTaken (updateAs h strip m room)
+update-zero h strip m room = go (updateAs h strip m room) (update-numbered h strip m room)
+  where
+    go : (u : Updated) → Numbered u → eqb (updateNumber u) 0 ≡ wasTaken u
+    go (Accepted next n) k = refl
+    go (Refused number field place) k = ne-eqb number 0 (λ z. absurd (omega arith))
+
+-- the answer's numbers and the state's tell which answer it was
+pub update-one : (ns : List ℕ) (u v : Updated) → Numbered u → Numbered v → updateNumbers u ≡ updateNumbers v → stateAs u ns ≡ stateAs v ns → u ≡ v
+update-one ns (Accepted a n) (Accepted b k) hu hv e f =
+    let p : a .state ≡ b .state = state-one (a .state) (b .state) f in
+    let q : n ≡ k = cc in
+    ap (λ (s : State). Accepted (record { state = s }) n) p ∙ ap (Accepted b) q
+update-one ns (Accepted a n) (Refused number field place) hu hv e f = let z : number ≡ 0 = cc in absurd (omega (arith, hv))
+update-one ns (Refused number field place) (Accepted b k) hu hv e f = let z : number ≡ 0 = cc in absurd (omega (arith, hu))
+update-one ns (Refused number field place) (Refused number′ field′ place′) hu hv e f = cc
+
+-- what an accepted message leaves can be handed in again
+pub next-handed : (ns strip m : List ℕ) (room : ℕ) (held next : Strip) (n : ℕ) → updateOf strip (held .state) m room ≡ Accepted next n
+    → handedAs (stateAs (updateOf strip (held .state) m room) ns) ≡ Held next
+next-handed ns strip m room held next n e =
+    let k : Took strip (held .state) m room next n = subst (Verdict strip (held .state) m room) e (verdict strip (held .state) m room) in
+    ap (λ (u : Updated). handedAs (stateAs u ns)) e
+    ∙ handed-back (next .state) (took-proper strip (held .state) m room next n k .state-sound)
+
+-- THE FIELD IN FORCE
+
+pub asked-one : (a b : Asked) → askedNumbers a ≡ askedNumbers b → a ≡ b
+asked-one (InStrip from to) (InStrip from′ to′) e = cc
+asked-one (InStrip from to) (InChange from′ to′) e = let z : _≡_ {A = ℕ} 1 2 = cc in absurd (omega arith)
+asked-one (InStrip from to) (NotShown number field place) e = let z : _≡_ {A = ℕ} 1 0 = cc in absurd (omega arith)
+asked-one (InChange from to) (InStrip from′ to′) e = let z : _≡_ {A = ℕ} 2 1 = cc in absurd (omega arith)
+asked-one (InChange from to) (InChange from′ to′) e = cc
+asked-one (InChange from to) (NotShown number field place) e = let z : _≡_ {A = ℕ} 2 0 = cc in absurd (omega arith)
+asked-one (NotShown number field place) (InStrip from to) e = let z : _≡_ {A = ℕ} 0 1 = cc in absurd (omega arith)
+asked-one (NotShown number field place) (InChange from to) e = let z : _≡_ {A = ℕ} 0 2 = cc in absurd (omega arith)
+asked-one (NotShown number field place) (NotShown number′ field′ place′) e = cc
+
+place-told : (o : Option ℕ) (plan said : List ℕ) (k : ℕ) → Told (standsIn o plan said k)
+place-told (some at) plan said k = tt
+place-told none plan said k = tt
+
+field-told : (plan said : List ℕ) (number : ℕ) → Told (fieldAs plan said number)
+field-told plan said number = go (eqb (rankOf number) 0)
+  where
+    go : (b : Bool) → Told (cond b (NotShown 8 number 0) (standsAs plan said (rankOf number)))
+    go true = omega arith
+    go false = place-told (namedAt said (rankOf number)) plan said (rankOf number)
+
+flight-told : (plan said : List ℕ) (number : ℕ) → Told (flightAs plan said number)
+flight-told plan said number = go (differs (differences Chg (split 45 plan) (split 45 said)))
+  where
+    go : (b : Bool) → Told (cond b (NotShown 12 0 0) (fieldAs plan said number))
+    go true = omega arith
+    go false = field-told plan said number
+
+type-told : (t : MessageType) (spelled strip chg : List ℕ) (number : ℕ) → Told (typeAs t spelled strip chg number)
+unfolding typeAs
+type-told t spelled strip chg number = go (isChange t) (same spelled chg)
+  where
+    go : (a b : Bool) → Told (cond a (cond b (flightAs (inner strip) (inner chg) number) (NotShown 17 0 0)) (NotShown 14 0 0))
+    go true true = flight-told (inner strip) (inner chg) number
+    go true false = omega arith
+    go false b = omega arith
+
+read-told : (strip chg : List ℕ) (number : ℕ) → Told (readAs (answerOf chg 1800) strip chg number)
+read-told strip chg number = go (answerOf chg 1800) refl
+  where
+    go : (a : Answer) → answerOf chg 1800 ≡ a → Told (readAs a strip chg number)
+    go (ReadAs t n) e = type-told t (spellingOf t chg) strip chg number
+    go (NotRead n field place) e = pick (leb n 9)
+      where
+        pick : (b : Bool) → Told (cond b (NotShown n field place) (NotShown 14 0 0))
+        pick true = refused-number chg 1800 n field place e .0
+        pick false = omega arith
+
+pub asked-told : (h : Handed) (strip chg : List ℕ) (number : ℕ) → Told (askedAs h strip chg number)
+unfolding askedOf
+asked-told NoState strip chg number = omega arith
+asked-told (Held held) strip chg number = go (sound (held .state) && canonicalPlan strip)
+  where
+    go : (b : Bool) → Told (cond b (readAs (answerOf chg most) strip chg (byteOf number)) (NotShown 15 0 0))
+    go true = read-told strip chg (byteOf number)
+    go false = omega arith
+
+-- 0 is given back exactly where the field is shown
+pub asked-zero : (h : Handed) (strip chg : List ℕ) (number : ℕ) → eqb (askedNumber (askedAs h strip chg number)) 0 ≡ wasShown (askedAs h strip chg number)
+asked-zero h strip chg number = go (askedAs h strip chg number) (asked-told h strip chg number)
+  where
+    go : (a : Asked) → Told a → eqb (askedNumber a) 0 ≡ wasShown a
+    go (InStrip from to) k = refl
+    go (InChange from to) k = refl
+    go (NotShown n field place) k = ne-eqb n 0 (λ z. absurd (omega arith))
+
+-- EACH CONTRACT ALLOWS ONE RESULT: the number that is given back, the answer's numbers, the state's numbers and the output; that of
+-- `beechdoublet_sound` is an equation
+
+pub read-determined : (m out : List ℕ) (r r′ : ℕ) (a a′ o o′ : List ℕ)
+    → (r ≡ readNumber (answerOf m (length out))) × (a ≡ readNumbers (answerOf m (length out))) × (o ≡ outAfter m out)
+    → (r′ ≡ readNumber (answerOf m (length out))) × (a′ ≡ readNumbers (answerOf m (length out))) × (o′ ≡ outAfter m out)
+    → (r ≡ r′) × (a ≡ a′) × (o ≡ o′)
+read-determined m out r r′ a a′ o o′ p q = (p .0 ∙ sym (q .0), p .1 ∙ sym (q .1), p .2 ∙ sym (q .2))
+
+pub update-determined : (u : Updated) (ns out : List ℕ) (r r′ : ℕ) (a a′ s s′ o o′ : List ℕ)
+    → (r ≡ updateNumber u) × (a ≡ updateNumbers u) × (s ≡ stateAs u ns) × (o ≡ out)
+    → (r′ ≡ updateNumber u) × (a′ ≡ updateNumbers u) × (s′ ≡ stateAs u ns) × (o′ ≡ out)
+    → (r ≡ r′) × (a ≡ a′) × (s ≡ s′) × (o ≡ o′)
+update-determined u ns out r r′ a a′ s s′ o o′ p q = (p .0 ∙ sym (q .0), p .1 ∙ sym (q .1), p .2 ∙ sym (q .2), p .3 ∙ sym (q .3))
+
+pub asked-determined : (x : Asked) (more : Type 0) (r r′ : ℕ) (a a′ : List ℕ) → (r ≡ askedNumber x) × (a ≡ askedNumbers x) × more
+    → (r′ ≡ askedNumber x) × (a′ ≡ askedNumbers x) × more → (r ≡ r′) × (a ≡ a′)
+asked-determined x more r r′ a a′ p q = (p .0 ∙ sym (q .0), p .1 ∙ sym (q .1))

@@ -1,0 +1,49 @@
+-- `beechdoublet::tell_asked` meets its contract. Assumes nothing.
+use mathlib.Core.Path.{sym, ap}
+use Rattle.beechdoublet.specs.Numbers.{askedNumber, askedNumbers}
+use borrow.Author.Needs.{needs}
+use Rattle.beechdoublet.proofs.tell_asked.Statement.{statement}
+use Rattle.beechdoublet.proofs.tell_asked.Tie as tie
+
+enum-known-a : tie.Need-enum-known-a
+enum-known-a c = search needs
+
+enum-known-a-2 : tie.Need-enum-known-a-2
+enum-known-a-2 c = search needs
+
+enum-known-a-3 : tie.Need-enum-known-a-3
+enum-known-a-3 c = search needs
+
+cast-t15 : tie.Need-cast-t15
+cast-t15 c = search needs
+
+cast-t16 : tie.Need-cast-t16
+cast-t16 c = search needs
+
+returns : tie.Need-returns
+returns c =
+    let e = c .before .before .a .given .1 in
+    (sym (ap askedNumber e), sym (ap askedNumbers e))
+
+returns-2 : tie.Need-returns-2
+returns-2 c =
+    let e = c .before .before .a2 .given .1 in
+    (sym (ap askedNumber e), sym (ap askedNumbers e))
+
+returns-3 : tie.Need-returns-3
+returns-3 c =
+    let e = c .before .before .a3 .given .1 in
+    (sym (ap askedNumber e), sym (ap askedNumbers e))
+
+pub tell-asked-spec : {M : Type 1} → statement M
+tell-asked-spec =
+    tie.close
+    (tie.spec
+    enum-known-a
+    enum-known-a-2
+    enum-known-a-3
+    cast-t15
+    cast-t16
+    returns
+    returns-2
+    returns-3)

@@ -1,0 +1,70 @@
+-- An answer as plain numbers, for callers in other languages (include/beechdoublet.h gives each number its name). Assumes nothing.
+use Prim.Native.Nat.{ℕ}
+use mathlib.Core.Path.{_≡_, refl}
+use mathlib.Core.List.{List, [], _∷_}
+use Rattle.alphabet.specs.Text.{bytes}
+use Rattle.kinds.specs.declared.MessageType.{MessageType}
+use Rattle.kinds.specs.declared.MessageType.the-variants.{Fpl, Chg, Cnl, Dla, Dep, Arr, Rqp, Rqs, Spl}
+use Rattle.message.specs.declared.Answer.{Answer}
+use Rattle.message.specs.declared.Answer.the-variants.{Accepted as ReadAs, Refused as NotRead}
+use Rattle.strip.specs.declared.Updated.{Updated}
+use Rattle.strip.specs.declared.Updated.the-variants.{Accepted, Refused}
+use Rattle.asked.specs.declared.Asked.{Asked}
+use Rattle.asked.specs.declared.Asked.the-variants.{InStrip, InChange, Refused as NotShown}
+use Rattle.state.specs.declared.State.the-variants.{Filed}
+
+-- THE TYPES, from 1 in document 01's order; 0 is none
+abbrev pub typeNumber : MessageType → ℕ
+typeNumber Fpl = 1
+typeNumber Chg = 2
+typeNumber Cnl = 3
+typeNumber Dla = 4
+typeNumber Dep = 5
+typeNumber Arr = 6
+typeNumber Rqp = 7
+typeNumber Rqs = 8
+typeNumber Spl = 9
+
+-- READING: number, field, place, type, length. An accepted message has the number 0, a refused one the type 0
+
+abbrev pub readNumber : Answer → ℕ
+readNumber (ReadAs t n) = 0
+readNumber (NotRead number field place) = number
+
+abbrev pub readNumbers : Answer → List ℕ
+readNumbers (ReadAs t n) = 0 ∷ 0 ∷ 0 ∷ typeNumber t ∷ n ∷ []
+readNumbers (NotRead number field place) = number ∷ field ∷ place ∷ 0 ∷ 0 ∷ []
+
+-- AN UPDATE: number, field, place, length. An accepted message has the number 0; the new state stands beside these
+
+abbrev pub updateNumber : Updated → ℕ
+updateNumber (Accepted held n) = 0
+updateNumber (Refused number field place) = number
+
+abbrev pub updateNumbers : Updated → List ℕ
+updateNumbers (Accepted held n) = 0 ∷ 0 ∷ 0 ∷ n ∷ []
+updateNumbers (Refused number field place) = number ∷ field ∷ place ∷ 0 ∷ []
+
+-- THE FIELD IN FORCE: number, field, place, source (1 the strip, 2 the CHG, 0 where refused), from, to
+
+abbrev pub askedNumber : Asked → ℕ
+askedNumber (InStrip from to) = 0
+askedNumber (InChange from to) = 0
+askedNumber (NotShown number field place) = number
+
+abbrev pub askedNumbers : Asked → List ℕ
+askedNumbers (InStrip from to) = 0 ∷ 0 ∷ 0 ∷ 1 ∷ from ∷ to ∷ []
+askedNumbers (InChange from to) = 0 ∷ 0 ∷ 0 ∷ 2 ∷ from ∷ to ∷ []
+askedNumbers (NotShown number field place) = number ∷ field ∷ place ∷ 0 ∷ 0 ∷ 0 ∷ []
+
+-- EXAMPLES, computed: the three messages of the listing (27 bytes accepted as a CNL; 7 in field 13 at 10; 5 in field 3 at 0), and an update
+listed : (readNumbers (ReadAs Cnl 27) ≡ 0 ∷ 0 ∷ 0 ∷ 3 ∷ 27 ∷ []) × (readNumbers (NotRead 7 13 10) ≡ 7 ∷ 13 ∷ 10 ∷ 0 ∷ 0 ∷ [])
+    × (readNumbers (NotRead 5 3 0) ≡ 5 ∷ 3 ∷ 0 ∷ 0 ∷ 0 ∷ [])
+listed = (refl, refl, refl)
+
+offered : (updateNumbers (Accepted (record { state = Filed }) 77) ≡ 0 ∷ 0 ∷ 0 ∷ 77 ∷ []) × (updateNumbers (Refused 12 0 0) ≡ 12 ∷ 0 ∷ 0 ∷ 0 ∷ [])
+offered = (refl, refl)
+
+asked : (askedNumbers (InStrip 21 27) ≡ 0 ∷ 0 ∷ 0 ∷ 1 ∷ 21 ∷ 27 ∷ []) × (askedNumbers (InChange 29 35) ≡ 0 ∷ 0 ∷ 0 ∷ 2 ∷ 29 ∷ 35 ∷ [])
+    × (askedNumbers (NotShown 8 22 0) ≡ 8 ∷ 22 ∷ 0 ∷ 0 ∷ 0 ∷ 0 ∷ [])
+asked = (refl, refl, refl)

@@ -1,0 +1,300 @@
+// The calls for programs in C and Rust. Answers and states go in and out as plain numbers, which include/beechdoublet.h names.
+ghost use mathlib.Core.Path.{_≡_};
+ghost use mathlib.Core.List.{[], _∷_};
+ghost use lib.ListN.{length};
+ghost use Rattle.message.specs.Reading.{answerOf, outAfter};
+ghost use Rattle.asked.specs.Parts.{Shows};
+ghost use Rattle.beechdoublet.specs.Numbers.{typeNumber, readNumber, readNumbers, updateNumber, updateNumbers, askedNumber, askedNumbers};
+ghost use Rattle.beechdoublet.specs.Handed.{arrivedNumbers, stateNumbers, kept, departureOf, stateOf, agree, handedAs, soundAs, updateAs, outAs, stateAs, askedAs, contentAsked};
+use aerodromes::Aerodrome;
+use asked::Asked;
+use kinds::MessageType;
+use message::Answer;
+use shape::Clock;
+use state::Departure;
+use state::State;
+use state::Strip;
+use strip::Updated;
+
+// What a caller's numbers are: a strip's state, or none.
+pub enum Handed {
+    Held(Strip),
+    NoState,
+}
+
+fn type_number(t: MessageType) -> u64
+    ensures { λ r. ⌜ r ≡ typeNumber t ⌝ }
+{
+    match t {
+        MessageType::Fpl => 1,
+        MessageType::Chg => 2,
+        MessageType::Cnl => 3,
+        MessageType::Dla => 4,
+        MessageType::Dep => 5,
+        MessageType::Arr => 6,
+        MessageType::Rqp => 7,
+        MessageType::Rqs => 8,
+        MessageType::Spl => 9,
+    }
+}
+
+// Lays out an answer to reading, and gives its number.
+fn tell_read(a: Answer, answer: &mut [u64; 5]) -> u8
+    ensures { λ r. ⌜ (r ≡ readNumber a) × (now (answer .exit) ≡ readNumbers a) ⌝ }
+{
+    match a {
+        Answer::Accepted(t, n) => {
+            *answer = [0, 0, 0, type_number(t), n as u64];
+            0
+        }
+        Answer::Refused {
+            number,
+            field,
+            place,
+        } => {
+            *answer = [number as u64, field as u64, place as u64, 0, 0];
+            number
+        }
+    }
+}
+
+// The numbers of an arrived flight.
+fn arrived_numbers(d: Departure, a: Aerodrome, t: Clock) -> [u64; 8]
+    ensures { λ r. ⌜ r ≡ arrivedNumbers d a t ⌝ }
+{
+    match d {
+        Departure::Known(off) => [
+            2,
+            1,
+            off.0 as u64,
+            a.0 as u64,
+            a.1 as u64,
+            a.2 as u64,
+            a.3 as u64,
+            t.0 as u64,
+        ],
+        Departure::Unknown => [
+            2,
+            0,
+            0,
+            a.0 as u64,
+            a.1 as u64,
+            a.2 as u64,
+            a.3 as u64,
+            t.0 as u64,
+        ],
+    }
+}
+
+// The numbers of a state.
+fn state_numbers(s: State) -> [u64; 8]
+    ensures { λ r. ⌜ r ≡ stateNumbers s ⌝ }
+{
+    match s {
+        State::Filed => [0, 0, 0, 0, 0, 0, 0, 0],
+        State::Departed(t) => [1, 1, t.0 as u64, 0, 0, 0, 0, 0],
+        State::Arrived(d, a, t) => arrived_numbers(d, a, t),
+        State::Cancelled => [3, 0, 0, 0, 0, 0, 0, 0],
+    }
+}
+
+// A number of at most 65,535; any other becomes 0.
+fn minute_of(n: u64) -> u16
+    ensures { λ r. ⌜ r ≡ kept 65536 n ⌝ }
+{
+    if n < 65536 { n as u16 } else { 0 }
+}
+
+// A number of at most 255; any other becomes 0.
+fn byte_of(n: u64) -> u8
+    ensures { λ r. ⌜ r ≡ kept 256 n ⌝ }
+{
+    if n < 256 { n as u8 } else { 0 }
+}
+
+fn departure_of(known: u64, minute: u64) -> Departure
+    ensures { λ r. ⌜ r ≡ departureOf known minute ⌝ }
+{
+    if known == 0 {
+        return Departure::Unknown;
+    }
+    Departure::Known(Clock(minute_of(minute)))
+}
+
+// The state that numbers mean, if they are those of a state.
+fn state_of(n: &[u64; 8]) -> State
+    ensures { λ r. ⌜ r ≡ stateOf (now (n .entry)) ⌝ }
+{
+    let kind = n[0];
+    if kind == 1 {
+        return State::Departed(Clock(minute_of(n[2])));
+    }
+    if kind == 2 {
+        return State::Arrived(
+            departure_of(n[1], n[2]),
+            Aerodrome(byte_of(n[3]), byte_of(n[4]), byte_of(n[5]), byte_of(n[6])),
+            Clock(minute_of(n[7])),
+        );
+    }
+    if kind == 3 {
+        return State::Cancelled;
+    }
+    State::Filed
+}
+
+fn same_numbers(a: &[u64; 8], b: &[u64; 8]) -> bool
+    ensures { λ r. ⌜ r ≡ agree 8 (now (a .entry)) (now (b .entry)) ⌝ }
+{
+    let mut i = 0;
+    while i < 8 {
+        if a[i] != b[i] {
+            return false;
+        }
+        i += 1;
+    }
+    true
+}
+
+// The state that a caller hands in; numbers that are not those of a state are none.
+fn hand_in(n: &[u64; 8]) -> Handed
+    ensures { λ r. ⌜ r ≡ handedAs (now (n .entry)) ⌝ }
+{
+    let state = state_of(n);
+    let again = state_numbers(state);
+    if !same_numbers(&again, n) {
+        return Handed::NoState;
+    }
+    Handed::Held(Strip { state })
+}
+
+// Offers a message to a strip that is handed in; 15 where the numbers are no state.
+fn updated(strip: &[u8], h: Handed, msg: &[u8], out: &mut [u8]) -> Updated
+    ensures { λ r. ⌜ (r ≡ updateAs h (now (strip .entry)) (now (msg .entry)) (length (now (out .entry))))
+        × (now (out .exit) ≡ outAs h (now (strip .entry)) (now (msg .entry)) (now (out .entry))) ⌝ }
+{
+    match h {
+        Handed::Held(held) => strip::update(strip, held, msg, out),
+        Handed::NoState => Updated::Refused {
+            number: 15,
+            field: 0,
+            place: 0,
+        },
+    }
+}
+
+// Lays out an answer to an update and the state afterwards, and gives its number.
+fn tell_update(u: Updated, state: &mut [u64; 8], answer: &mut [u64; 4]) -> u8
+    ensures { λ r. ⌜ (r ≡ updateNumber u) × (now (answer .exit) ≡ updateNumbers u) × (now (state .exit) ≡ stateAs u (now (state .entry))) ⌝ }
+{
+    match u {
+        Updated::Accepted(next, n) => {
+            let s = next.state;
+            *state = state_numbers(s);
+            *answer = [0, 0, 0, n as u64];
+            0
+        }
+        Updated::Refused {
+            number,
+            field,
+            place,
+        } => {
+            *answer = [number as u64, field as u64, place as u64, 0];
+            number
+        }
+    }
+}
+
+// Asks a strip that is handed in for a field in force; 15 where the numbers are no state.
+fn asked_of(strip: &[u8], h: Handed, chg: &[u8], number: u64) -> Asked
+    ensures { λ r. ⌜ (r ≡ askedAs h (now (strip .entry)) (now (chg .entry)) number)
+        × Shows r (now (strip .entry)) (now (chg .entry)) (contentAsked (now (strip .entry)) (now (chg .entry)) number) ⌝ }
+{
+    match h {
+        Handed::Held(held) => asked::ask(strip, held, chg, byte_of(number)),
+        Handed::NoState => Asked::Refused {
+            number: 15,
+            field: 0,
+            place: 0,
+        },
+    }
+}
+
+// Lays out where a field in force stands, and gives the answer's number.
+fn tell_asked(a: Asked, answer: &mut [u64; 6]) -> u8
+    ensures { λ r. ⌜ (r ≡ askedNumber a) × (now (answer .exit) ≡ askedNumbers a) ⌝ }
+{
+    match a {
+        Asked::InStrip { from, to } => {
+            *answer = [0, 0, 0, 1, from as u64, to as u64];
+            0
+        }
+        Asked::InChange { from, to } => {
+            *answer = [0, 0, 0, 2, from as u64, to as u64];
+            0
+        }
+        Asked::Refused {
+            number,
+            field,
+            place,
+        } => {
+            *answer = [number as u64, field as u64, place as u64, 0, 0, 0];
+            number
+        }
+    }
+}
+
+// Reads a message, as `message::read` does. The answer is number, field, place, type and length; the number is also given back.
+#[no_mangle]
+pub extern "C" fn beechdoublet_read(msg: &[u8], out: &mut [u8], answer: &mut [u64; 5]) -> u8
+    ensures { λ r. ⌜ (r ≡ readNumber (answerOf (now (msg .entry)) (length (now (out .entry)))))
+        × (now (answer .exit) ≡ readNumbers (answerOf (now (msg .entry)) (length (now (out .entry)))))
+        × (now (out .exit) ≡ outAfter (now (msg .entry)) (now (out .entry))) ⌝ }
+{
+    tell_read(message::read(msg, out), answer)
+}
+
+// Offers a message to a strip, as `strip::update` does. The answer is number, field, place and length; the number is also given back.
+#[no_mangle]
+pub extern "C" fn beechdoublet_update(
+    strip: &[u8],
+    state: &mut [u64; 8],
+    msg: &[u8],
+    out: &mut [u8],
+    answer: &mut [u64; 4],
+) -> u8
+    ensures { λ r. ⌜ (r ≡ updateNumber (updateAs (handedAs (now (state .entry))) (now (strip .entry)) (now (msg .entry)) (length (now (out .entry)))))
+        × (now (answer .exit) ≡ updateNumbers (updateAs (handedAs (now (state .entry))) (now (strip .entry)) (now (msg .entry)) (length (now (out .entry)))))
+        × (now (state .exit) ≡ stateAs (updateAs (handedAs (now (state .entry))) (now (strip .entry)) (now (msg .entry)) (length (now (out .entry)))) (now (state .entry)))
+        × (now (out .exit) ≡ outAs (handedAs (now (state .entry))) (now (strip .entry)) (now (msg .entry)) (now (out .entry))) ⌝ }
+{
+    let h = hand_in(state);
+    tell_update(updated(strip, h, msg, out), state, answer)
+}
+
+// Whether a strip may be handed in with these numbers: they are those of a state, and it is sound.
+#[no_mangle]
+pub extern "C" fn beechdoublet_sound(state: &[u64; 8]) -> bool
+    ensures { λ r. ⌜ r ≡ soundAs (handedAs (now (state .entry))) ⌝ }
+{
+    match hand_in(state) {
+        Handed::Held(held) => held.is_sound(),
+        Handed::NoState => false,
+    }
+}
+
+// Asks where a field in force stands, as `asked::ask` does. The answer is number, field, place, source, from and to; the number is also given back.
+#[no_mangle]
+pub extern "C" fn beechdoublet_in_force(
+    strip: &[u8],
+    state: &[u64; 8],
+    chg: &[u8],
+    number: u64,
+    answer: &mut [u64; 6],
+) -> u8
+    ensures { λ r. ⌜ (r ≡ askedNumber (askedAs (handedAs (now (state .entry))) (now (strip .entry)) (now (chg .entry)) number))
+        × (now (answer .exit) ≡ askedNumbers (askedAs (handedAs (now (state .entry))) (now (strip .entry)) (now (chg .entry)) number))
+        × Shows (askedAs (handedAs (now (state .entry))) (now (strip .entry)) (now (chg .entry)) number) (now (strip .entry)) (now (chg .entry))
+        (contentAsked (now (strip .entry)) (now (chg .entry)) number) ⌝ }
+{
+    tell_asked(asked_of(strip, hand_in(state), chg, number), answer)
+}

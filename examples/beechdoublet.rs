@@ -1,0 +1,142 @@
+//! Beechdoublet for Rust: the functions of include/beechdoublet.h, and a safe function over each.
+//!
+//! What the C caller has to see to, Rust's references see to here: each slice is as long as it says, and what is written overlaps nothing else.
+
+/// The most bytes of a message and of a strip.
+pub const MOST: usize = 1800;
+
+/// A state as numbers: kind, departure known, departure, the aerodrome's four bytes, arrival.
+pub type Numbers = [u64; 8];
+
+extern "C" {
+    fn beechdoublet_read(message: *const u8, length: usize, out: *mut u8, room: usize, answer: &mut [u64; 5]) -> u8;
+    fn beechdoublet_update(
+        strip: *const u8,
+        strip_length: usize,
+        state: &mut Numbers,
+        message: *const u8,
+        length: usize,
+        out: *mut u8,
+        room: usize,
+        answer: &mut [u64; 4],
+    ) -> u8;
+    fn beechdoublet_in_force(
+        strip: *const u8,
+        strip_length: usize,
+        state: &Numbers,
+        change: *const u8,
+        length: usize,
+        field: u64,
+        answer: &mut [u64; 6],
+    ) -> u8;
+    fn beechdoublet_sound(state: &Numbers) -> bool;
+}
+
+/// Why a message was not taken: document 01's number, field and place.
+#[derive(Clone, Copy, Debug, PartialEq, Eq)]
+pub struct Refusal {
+    pub number: u8,
+    pub field: u64,
+    pub place: usize,
+}
+
+/// The flight's state; times are minutes of the day.
+#[derive(Clone, Copy, Debug, PartialEq, Eq)]
+pub enum State {
+    Filed,
+    Departed { time: u64 },
+    Arrived { departed: Option<u64>, aerodrome: [u8; 4], time: u64 },
+    Cancelled,
+}
+
+impl State {
+    pub fn numbers(self) -> Numbers {
+        match self {
+            State::Filed => [0; 8],
+            State::Departed { time } => [1, 1, time, 0, 0, 0, 0, 0],
+            State::Arrived { departed, aerodrome, time } => {
+                let [a, b, c, d] = aerodrome.map(u64::from);
+                [2, u64::from(departed.is_some()), departed.unwrap_or(0), a, b, c, d, time]
+            }
+            State::Cancelled => [3, 0, 0, 0, 0, 0, 0, 0],
+        }
+    }
+
+    /// The state of sound numbers; of others there is none.
+    pub fn of(numbers: &Numbers) -> Option<State> {
+        let [kind, known, departure, a, b, c, d, time] = *numbers;
+        match kind {
+            _ if !is_sound(numbers) => None,
+            0 => Some(State::Filed),
+            1 => Some(State::Departed { time: departure }),
+            2 => {
+                let departed = (known == 1).then_some(departure);
+                Some(State::Arrived { departed, aerodrome: [a, b, c, d].map(|byte| byte as u8), time })
+            }
+            _ => Some(State::Cancelled),
+        }
+    }
+}
+
+/// Reads a message into `out`: its type's number, 1 to 9, and its spelling.
+pub fn read<'a>(message: &[u8], out: &'a mut [u8]) -> Result<(u64, &'a [u8]), Refusal> {
+    let mut answer = [0; 5];
+    let number =
+        unsafe { beechdoublet_read(message.as_ptr(), message.len(), out.as_mut_ptr(), out.len(), &mut answer) };
+    let [_, field, place, kind, length] = answer;
+    refused(number, field, place)?;
+    Ok((kind, &out[..length as usize]))
+}
+
+/// Offers a message to a strip; the new strip is written to `out`, and `state` moves on.
+pub fn update<'a>(strip: &[u8], state: &mut Numbers, message: &[u8], out: &'a mut [u8]) -> Result<&'a [u8], Refusal> {
+    let mut answer = [0; 4];
+    let number = unsafe {
+        beechdoublet_update(
+            strip.as_ptr(),
+            strip.len(),
+            state,
+            message.as_ptr(),
+            message.len(),
+            out.as_mut_ptr(),
+            out.len(),
+            &mut answer,
+        )
+    };
+    let [_, field, place, length] = answer;
+    refused(number, field, place)?;
+    Ok(&out[..length as usize])
+}
+
+/// A field in force, and where it stands.
+pub enum Part<'a> {
+    InStrip { from: usize, to: usize, content: &'a [u8] },
+    InChange { from: usize, to: usize, content: &'a [u8] },
+}
+
+/// Asks where the content of a field in force stands.
+pub fn in_force<'a>(strip: &'a [u8], state: &Numbers, change: &'a [u8], field: u64) -> Result<Part<'a>, Refusal> {
+    let mut answer = [0; 6];
+    let number = unsafe {
+        beechdoublet_in_force(strip.as_ptr(), strip.len(), state, change.as_ptr(), change.len(), field, &mut answer)
+    };
+    let [_, field, place, source, from, to] = answer;
+    refused(number, field, place)?;
+    let (from, to) = (from as usize, to as usize);
+    Ok(match source {
+        1 => Part::InStrip { from, to, content: &strip[from..to] },
+        _ => Part::InChange { from, to, content: &change[from..to] },
+    })
+}
+
+/// Whether a strip may be handed in with these numbers.
+pub fn is_sound(state: &Numbers) -> bool {
+    unsafe { beechdoublet_sound(state) }
+}
+
+fn refused(number: u8, field: u64, place: u64) -> Result<(), Refusal> {
+    match number {
+        0 => Ok(()),
+        _ => Err(Refusal { number, field, place: place as usize }),
+    }
+}

@@ -1,0 +1,181 @@
+/*
+ * Beechdoublet from C: reads messages, files a strip, keeps it up to date, and asks for a field in force. Every line that it writes stands in
+ * examples/expected.txt.
+ */
+#include <inttypes.h>
+#include <stdio.h>
+#include <string.h>
+
+#include "beechdoublet.h"
+
+static const char *const TYPES[] = {"", "FPL", "CHG", "CNL", "DLA", "DEP", "ARR", "RQP", "RQS", "SPL"};
+
+/* A strip: an accepted FPL's spelling, and its state. */
+typedef struct {
+    uint8_t bytes[BEECHDOUBLET_MOST];
+    size_t length;
+    beechdoublet_state state;
+} strip;
+
+static const uint8_t *bytes_of(const char *text)
+{
+    return (const uint8_t *)text;
+}
+
+static void tell_refusal(uint64_t number, uint64_t field, uint64_t place)
+{
+    printf("NO %" PRIu64 " %" PRIu64 " %" PRIu64 "\n", number, field, place);
+}
+
+/* Reads a message into an output of so many bytes. */
+static void show_reading(const char *message, size_t room)
+{
+    uint8_t out[BEECHDOUBLET_MOST];
+    beechdoublet_reading answer;
+    if (beechdoublet_read(bytes_of(message), strlen(message), out, room, &answer) != 0) {
+        tell_refusal(answer.number, answer.field, answer.place);
+        return;
+    }
+    printf("OK %s %.*s\n", TYPES[answer.type], (int)answer.length, (const char *)out);
+}
+
+static void print_time(uint64_t minute)
+{
+    printf(" %02" PRIu64 "%02" PRIu64, minute / 60, minute % 60);
+}
+
+static void print_state(const beechdoublet_state *state)
+{
+    static const char *const kinds[] = {"FILED", "DEPARTED", "ARRIVED", "CANCELLED"};
+    printf("%s", kinds[state->kind]);
+    if (state->departure_known != 0) {
+        print_time(state->departure);
+    }
+    if (state->kind == BEECHDOUBLET_ARRIVED) {
+        const uint64_t *a = state->aerodrome;
+        printf(" %c%c%c%c", (int)a[0], (int)a[1], (int)a[2], (int)a[3]);
+        print_time(state->arrival);
+    }
+}
+
+/* A filed strip: the spelling of an FPL, and all of its state 0. */
+static strip filed(const char *plan)
+{
+    strip held = {{0}, 0, {0, 0, 0, {0, 0, 0, 0}, 0}};
+    beechdoublet_reading answer;
+    if (beechdoublet_read(bytes_of(plan), strlen(plan), held.bytes, sizeof held.bytes, &answer) == 0 && answer.type == BEECHDOUBLET_FPL) {
+        held.length = (size_t)answer.length;
+    }
+    return held;
+}
+
+/* Offers a message to a strip. The new strip comes in another buffer, from which it is copied back. */
+static void offer(strip *held, const char *message, size_t room)
+{
+    uint8_t out[BEECHDOUBLET_MOST];
+    beechdoublet_updating answer;
+    if (beechdoublet_update(held->bytes, held->length, &held->state, bytes_of(message), strlen(message), out, room, &answer) != 0) {
+        tell_refusal(answer.number, answer.field, answer.place);
+        return;
+    }
+    held->length = (size_t)answer.length;
+    memcpy(held->bytes, out, held->length);
+    printf("OK ");
+    print_state(&held->state);
+    printf(" %.*s\n", (int)held->length, (const char *)held->bytes);
+}
+
+/* Offers a message to the strip with another state, of which nothing is kept. */
+static void offer_with(const strip *held, beechdoublet_state state, const char *message)
+{
+    strip other = *held;
+    printf("%s ", beechdoublet_sound(&state) ? "SOUND" : "NO STATE");
+    other.state = state;
+    offer(&other, message, sizeof other.bytes);
+}
+
+static void show_in_force(const strip *held, const char *change, uint64_t field)
+{
+    beechdoublet_part part;
+    const char *in = "CHG";
+    const uint8_t *from = bytes_of(change);
+    if (beechdoublet_in_force(held->bytes, held->length, &held->state, bytes_of(change), strlen(change), field, &part) != 0) {
+        tell_refusal(part.number, part.field, part.place);
+        return;
+    }
+    if (part.source == BEECHDOUBLET_IN_STRIP) {
+        in = "STRIP";
+        from = held->bytes;
+    }
+    printf("%s %" PRIu64 " %" PRIu64 " %.*s\n", in, part.from, part.to, (int)(part.to - part.from), (const char *)(from + part.from));
+}
+
+static const char *const PLAN = "(FPL-ABC12-IS-B738/M-SDFG/S-EHAM0930-N0440F310 DCT PAM DCT-EDDF0100 EDDK-0)";
+static const char *const CHANGE = "(CHG-ABC12-EHAM0930-EDDF-0-9/B39M/M-8/IN)";
+static const char *const DEPARTURE = "(DEP-ABC12-EHAM0941-EDDF-0)";
+
+static void show_readings(void)
+{
+    show_reading("(CNL-ABC12-EHAM0930-EDDF-0)", BEECHDOUBLET_MOST);
+    show_reading("(DLA-ABC12-EHAM2460-EDDF-0)", BEECHDOUBLET_MOST);
+    show_reading("(ACP-ABC12)", BEECHDOUBLET_MOST);
+    show_reading("(CNL-ABC12 -EHAM0930\r\n-EDDF\r\n-0 )", BEECHDOUBLET_MOST);
+    show_reading("(SPL-ABC12-EHAM0930-EDDF0100-0-E/0745 P/006 R/EV J/L)", BEECHDOUBLET_MOST);
+    show_reading("", BEECHDOUBLET_MOST);
+    show_reading("(CNL-ABC12-EHAM0930-EDDF-0)", 27);
+    show_reading("(CNL-ABC12-EHAM0930-EDDF-0)", 26);
+    show_reading("(CNL-ABC12-EHAM0930-EDDF-0)", 0);
+}
+
+static void show_parts(const strip *held)
+{
+    show_in_force(held, CHANGE, 9);
+    show_in_force(held, CHANGE, 10);
+    show_in_force(held, CHANGE, 22);
+    show_in_force(held, CHANGE, 263);
+    show_in_force(held, "(CHG-ABC12-EHAM0930-EDDF-0 -9/B39M/M-8/IN)", 9);
+    show_in_force(held, "(CHG-ABC13-EHAM0930-EDDF-0-9/B39M/M)", 9);
+    show_in_force(held, DEPARTURE, 9);
+}
+
+static void show_states(const strip *held)
+{
+    const beechdoublet_state kind_4 = {4, 0, 0, {0, 0, 0, 0}, 0};
+    const beechdoublet_state minute_1439 = {1, 1, 1439, {0, 0, 0, 0}, 0};
+    const beechdoublet_state minute_1440 = {1, 1, 1440, {0, 0, 0, 0}, 0};
+    const beechdoublet_state minute_70000 = {1, 1, 70000, {0, 0, 0, 0}, 0};
+    const beechdoublet_state off_and_filed = {0, 1, 575, {0, 0, 0, 0}, 0};
+    const beechdoublet_state at_ab1d = {2, 0, 0, {'A', 'B', '1', 'D'}, 642};
+    const beechdoublet_state cancelled = {3, 0, 0, {0, 0, 0, 0}, 0};
+    offer_with(held, kind_4, CHANGE);
+    offer_with(held, minute_1439, CHANGE);
+    offer_with(held, minute_1440, CHANGE);
+    offer_with(held, minute_70000, CHANGE);
+    offer_with(held, off_and_filed, CHANGE);
+    offer_with(held, at_ab1d, CHANGE);
+    offer_with(held, cancelled, CHANGE);
+}
+
+static void show_flight(strip *held)
+{
+    offer(held, CHANGE, BEECHDOUBLET_MOST);
+    offer(held, "(CHG-ABC13-EHAM0930-EDDF-0-8/IS)", BEECHDOUBLET_MOST);
+    offer(held, "(DLA-ABC12-EHAM0935-EDDF-0)", 0);
+    offer(held, "(DLA-ABC12-EHAM0935-EDDF-0)", BEECHDOUBLET_MOST);
+    offer(held, "(RQP-ABC12-EHAM0935-EDDF-0)", BEECHDOUBLET_MOST);
+    offer(held, "(CHG-ABC12-EHAM0935-EDDF-0-16/ZZZZ0100)", BEECHDOUBLET_MOST);
+    offer(held, DEPARTURE, BEECHDOUBLET_MOST);
+    offer(held, "(CNL-ABC12-EHAM0935-EDDF-0)", BEECHDOUBLET_MOST);
+    offer(held, "(ARR-ABC12-EHAM0935-EDDF-EDDK1042)", BEECHDOUBLET_MOST);
+    offer(held, CHANGE, BEECHDOUBLET_MOST);
+}
+
+int main(void)
+{
+    strip held = filed(PLAN);
+    show_readings();
+    show_parts(&held);
+    show_states(&held);
+    show_flight(&held);
+    return 0;
+}

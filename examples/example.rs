@@ -1,0 +1,149 @@
+//! Beechdoublet from Rust: reads messages, files a strip, keeps it up to date, and asks for a field in force. Every line that it writes stands in
+//! examples/expected.txt.
+#![cfg_attr(emulated, no_main)]
+
+mod beechdoublet;
+
+use beechdoublet::{in_force, is_sound, read, update, Numbers, Part, Refusal, State, MOST};
+
+const TYPES: [&str; 10] = ["", "FPL", "CHG", "CNL", "DLA", "DEP", "ARR", "RQP", "RQS", "SPL"];
+const PLAN: &[u8] = b"(FPL-ABC12-IS-B738/M-SDFG/S-EHAM0930-N0440F310 DCT PAM DCT-EDDF0100 EDDK-0)";
+const CHANGE: &[u8] = b"(CHG-ABC12-EHAM0930-EDDF-0-9/B39M/M-8/IN)";
+const DEPARTURE: &[u8] = b"(DEP-ABC12-EHAM0941-EDDF-0)";
+
+/// A strip: an accepted FPL's spelling, and its state as numbers.
+#[derive(Clone)]
+struct Strip {
+    spelling: Vec<u8>,
+    state: Numbers,
+}
+
+fn text(bytes: &[u8]) -> &str {
+    std::str::from_utf8(bytes).unwrap_or_default()
+}
+
+fn refusal(refusal: Refusal) -> String {
+    format!("NO {} {} {}", refusal.number, refusal.field, refusal.place)
+}
+
+fn clock(minute: u64) -> String {
+    format!("{:02}{:02}", minute / 60, minute % 60)
+}
+
+fn shown(state: &Numbers) -> String {
+    match State::of(state) {
+        Some(State::Filed) => "FILED".to_string(),
+        Some(State::Departed { time }) => format!("DEPARTED {}", clock(time)),
+        Some(State::Arrived { departed, aerodrome, time }) => {
+            let departed = departed.map(|time| format!(" {}", clock(time))).unwrap_or_default();
+            format!("ARRIVED{departed} {} {}", text(&aerodrome), clock(time))
+        }
+        Some(State::Cancelled) => "CANCELLED".to_string(),
+        None => "NO STATE".to_string(),
+    }
+}
+
+/// Reads a message into an output of so many bytes.
+fn show_reading(message: &[u8], room: usize) {
+    let mut out = vec![0; room];
+    match read(message, &mut out) {
+        Ok((kind, spelling)) => println!("OK {} {}", TYPES[kind as usize], text(spelling)),
+        Err(why) => println!("{}", refusal(why)),
+    }
+}
+
+/// Offers a message to a strip. The new strip comes in another buffer, which then takes the old one's place.
+fn offer(held: &mut Strip, message: &[u8], room: usize) {
+    let mut out = vec![0; room];
+    match update(&held.spelling, &mut held.state, message, &mut out) {
+        Ok(spelling) => {
+            println!("OK {} {}", shown(&held.state), text(spelling));
+            let length = spelling.len();
+            out.truncate(length);
+            held.spelling = out;
+        }
+        Err(why) => println!("{}", refusal(why)),
+    }
+}
+
+/// Offers a message to the strip with another state, of which nothing is kept.
+fn offer_with(held: &Strip, state: Numbers, message: &[u8]) {
+    print!("{} ", if is_sound(&state) { "SOUND" } else { "NO STATE" });
+    offer(&mut Strip { state, ..held.clone() }, message, MOST);
+}
+
+fn show_in_force(held: &Strip, change: &[u8], field: u64) {
+    match in_force(&held.spelling, &held.state, change, field) {
+        Ok(Part::InStrip { from, to, content }) => println!("STRIP {from} {to} {}", text(content)),
+        Ok(Part::InChange { from, to, content }) => println!("CHG {from} {to} {}", text(content)),
+        Err(why) => println!("{}", refusal(why)),
+    }
+}
+
+fn show_readings() {
+    show_reading(b"(CNL-ABC12-EHAM0930-EDDF-0)", MOST);
+    show_reading(b"(DLA-ABC12-EHAM2460-EDDF-0)", MOST);
+    show_reading(b"(ACP-ABC12)", MOST);
+    show_reading(b"(CNL-ABC12 -EHAM0930\r\n-EDDF\r\n-0 )", MOST);
+    show_reading(b"(SPL-ABC12-EHAM0930-EDDF0100-0-E/0745 P/006 R/EV J/L)", MOST);
+    show_reading(b"", MOST);
+    show_reading(b"(CNL-ABC12-EHAM0930-EDDF-0)", 27);
+    show_reading(b"(CNL-ABC12-EHAM0930-EDDF-0)", 26);
+    show_reading(b"(CNL-ABC12-EHAM0930-EDDF-0)", 0);
+}
+
+fn show_parts(held: &Strip) {
+    show_in_force(held, CHANGE, 9);
+    show_in_force(held, CHANGE, 10);
+    show_in_force(held, CHANGE, 22);
+    show_in_force(held, CHANGE, 263);
+    show_in_force(held, b"(CHG-ABC12-EHAM0930-EDDF-0 -9/B39M/M-8/IN)", 9);
+    show_in_force(held, b"(CHG-ABC13-EHAM0930-EDDF-0-9/B39M/M)", 9);
+    show_in_force(held, DEPARTURE, 9);
+}
+
+fn show_states(held: &Strip) {
+    offer_with(held, [4, 0, 0, 0, 0, 0, 0, 0], CHANGE);
+    offer_with(held, State::Departed { time: 1439 }.numbers(), CHANGE);
+    offer_with(held, State::Departed { time: 1440 }.numbers(), CHANGE);
+    offer_with(held, State::Departed { time: 70000 }.numbers(), CHANGE);
+    offer_with(held, [0, 1, 575, 0, 0, 0, 0, 0], CHANGE);
+    offer_with(held, State::Arrived { departed: None, aerodrome: *b"AB1D", time: 642 }.numbers(), CHANGE);
+    offer_with(held, State::Cancelled.numbers(), CHANGE);
+}
+
+fn show_flight(held: &mut Strip) {
+    offer(held, CHANGE, MOST);
+    offer(held, b"(CHG-ABC13-EHAM0930-EDDF-0-8/IS)", MOST);
+    offer(held, b"(DLA-ABC12-EHAM0935-EDDF-0)", 0);
+    offer(held, b"(DLA-ABC12-EHAM0935-EDDF-0)", MOST);
+    offer(held, b"(RQP-ABC12-EHAM0935-EDDF-0)", MOST);
+    offer(held, b"(CHG-ABC12-EHAM0935-EDDF-0-16/ZZZZ0100)", MOST);
+    offer(held, DEPARTURE, MOST);
+    offer(held, b"(CNL-ABC12-EHAM0935-EDDF-0)", MOST);
+    offer(held, b"(ARR-ABC12-EHAM0935-EDDF-EDDK1042)", MOST);
+    offer(held, CHANGE, MOST);
+}
+
+fn run() {
+    let mut out = [0; MOST];
+    let Ok((1, spelling)) = read(PLAN, &mut out) else { return };
+    let mut held = Strip { spelling: spelling.to_vec(), state: State::Filed.numbers() };
+    show_readings();
+    show_parts(&held);
+    show_states(&held);
+    show_flight(&mut held);
+}
+
+#[cfg(not(emulated))]
+fn main() {
+    run();
+}
+
+/// The kit's emulator does not take the start of a Rust program, so there this one starts as a C program does.
+#[cfg(emulated)]
+#[no_mangle]
+extern "C" fn main() -> i32 {
+    run();
+    0
+}

@@ -1,0 +1,223 @@
+//! Questions for the vectors program: single messages, and runs of messages offered to a strip.
+
+use std::collections::VecDeque;
+
+use super::contents::Flight;
+use super::dice::Dice;
+use super::{contents, damaged, long_change, long_plan, offered, runs, valid};
+use crate::escapes::escaped;
+use crate::kind::Kind;
+use crate::message::{read, LONGEST};
+use crate::strip::{update, State, Updated, PLAN_FIELDS};
+
+/// A line for the vectors program.
+pub type Line = Vec<u8>;
+
+/// A mix of all questions without an end: the lines that are still to be asked of the last run.
+#[derive(Default)]
+pub struct Questions {
+    ahead: VecDeque<Line>,
+}
+
+impl Questions {
+    /// The next line.
+    pub fn next(&mut self, dice: &mut Dice) -> Line {
+        if self.ahead.is_empty() {
+            self.ahead.extend(some_questions(dice));
+        }
+        self.ahead.pop_front().unwrap_or_default()
+    }
+}
+
+fn some_questions(dice: &mut Dice) -> Vec<Line> {
+    match dice.below(46) {
+        0..=19 => {
+            let kind = *dice.pick(&Kind::ALL);
+            vec![read_valid(dice, kind)]
+        }
+        20..=34 => vec![read_damaged(dice)],
+        35..=37 => read_in_short_rooms(dice),
+        38..=42 => update_run(dice, 8),
+        _ => in_force_run(dice, 4),
+    }
+}
+
+/// Reading a valid message of this type.
+pub fn read_valid(dice: &mut Dice, kind: Kind) -> Line {
+    ask("R", &valid(dice, kind))
+}
+
+/// Reading a damaged message.
+pub fn read_damaged(dice: &mut Dice) -> Line {
+    let kind = *dice.pick(&Kind::ALL);
+    let flight = Flight::any(dice);
+    ask("R", &damaged(dice, kind, &flight))
+}
+
+/// Reading a message into its spelling's length, one byte less, and some other room.
+pub fn read_in_short_rooms(dice: &mut Dice) -> Vec<Line> {
+    let kind = *dice.pick(&Kind::ALL);
+    let message = valid(dice, kind);
+    let due = read(&message, LONGEST).map_or(0, |accepted| accepted.spelling.len());
+    let rooms = [due, due.saturating_sub(1), dice.below(LONGEST + 1)];
+    rooms.map(|room| ask(&format!("r {room}"), &message)).to_vec()
+}
+
+/// A strip, and about so many messages offered to it.
+pub fn update_run(dice: &mut Dice, length: usize) -> Vec<Line> {
+    let mut held = some_strip(dice);
+    let mut lines = vec![hold(&held)];
+    for _ in 0..dice.from_to(length / 2, length + length / 2) {
+        let message = message_for(dice, &held);
+        let (line, room) = offer(dice, &held, &message);
+        lines.push(line);
+        if let Ok(updated) = update(&held.strip, held.state, &message, room) {
+            held = updated;
+        }
+        if matches!(held.state, State::Arrived { .. } | State::Cancelled) && dice.chance(40) {
+            break;
+        }
+    }
+    lines
+}
+
+/// A strip, and about so many questions for a field in force.
+pub fn in_force_run(dice: &mut Dice, length: usize) -> Vec<Line> {
+    let held = some_strip(dice);
+    let mut lines = vec![hold(&held)];
+    for _ in 0..dice.from_to(length / 2, length + length / 2) {
+        let field = if dice.chance(85) { *dice.pick(&PLAN_FIELDS) } else { dice.below(256) as u32 };
+        let flight = Flight::of_strip(dice, &held.strip);
+        let change = change_asked(dice, &flight);
+        lines.push(ask(&format!("F {field}"), &change));
+    }
+    lines
+}
+
+/// A CHG as its spelling, and now and then another message or spelling.
+fn change_asked(dice: &mut Dice, flight: &Flight) -> Vec<u8> {
+    let kind = if dice.chance(5) { *dice.pick(&Kind::ALL) } else { Kind::Chg };
+    if dice.chance(20) {
+        return offered(dice, kind, flight);
+    }
+    runs::plain(&contents::draft(dice, kind, flight))
+}
+
+/// A strip to begin with: mostly a plan as filed, now and then a later state or one that is no strip.
+fn some_strip(dice: &mut Dice) -> Updated {
+    let strip = match dice.below(25) {
+        0 => no_strip(dice),
+        1..=4 => long_plan(dice),
+        _ => plan(dice),
+    };
+    let state = if dice.chance(85) { State::Filed } else { some_state(dice) };
+    Updated { strip, state }
+}
+
+fn plan(dice: &mut Dice) -> Vec<u8> {
+    let flight = Flight::any(dice);
+    runs::plain(&contents::draft(dice, Kind::Fpl, &flight))
+}
+
+/// A plan that is spelled otherwise or damaged, or another message.
+fn no_strip(dice: &mut Dice) -> Vec<u8> {
+    let kind = *dice.pick(&[Kind::Fpl, Kind::Fpl, Kind::Fpl, Kind::Chg, Kind::Spl]);
+    let flight = Flight::any(dice);
+    offered(dice, kind, &flight)
+}
+
+fn some_state(dice: &mut Dice) -> State {
+    match dice.below(6) {
+        0 | 1 => State::Departed { time: some_minute(dice) },
+        2 => State::Arrived { departed: None, aerodrome: some_aerodrome(dice), time: some_minute(dice) },
+        3 | 4 => {
+            let departed = Some(some_minute(dice));
+            State::Arrived { departed, aerodrome: some_aerodrome(dice), time: some_minute(dice) }
+        }
+        _ => State::Cancelled,
+    }
+}
+
+/// A minute of the day; one time in ten beyond it.
+fn some_minute(dice: &mut Dice) -> u16 {
+    if dice.chance(10) {
+        return *dice.pick(&[1440, 1441, 2400, 9999]);
+    }
+    dice.below(1440) as u16
+}
+
+/// Four letters; one time in ten not.
+fn some_aerodrome(dice: &mut Dice) -> [u8; 4] {
+    let mut aerodrome = [(); 4].map(|_| *dice.pick(b"ABCDEFGHIJKLMNOPQRSTUVWXYZ"));
+    if dice.chance(10) {
+        aerodrome[dice.below(4)] = *dice.pick(b"09a?-/");
+    }
+    aerodrome
+}
+
+/// A message that is mostly for the strip's flight and mostly allowed.
+fn message_for(dice: &mut Dice, held: &Updated) -> Vec<u8> {
+    let flight = Flight::of_strip(dice, &held.strip);
+    let kinds = if dice.chance(3) { &Kind::ALL } else { kinds_for(held.state) };
+    match *dice.pick(kinds) {
+        Kind::Chg if dice.chance(1) => long_change(dice, &flight),
+        Kind::Chg if dice.chance(5) => edge_change(dice, &flight, &held.strip),
+        kind => offered(dice, kind, &flight),
+    }
+}
+
+fn kinds_for(state: State) -> &'static [Kind] {
+    use Kind::*;
+    match state {
+        State::Filed => &[Chg, Chg, Chg, Chg, Chg, Chg, Dla, Dla, Dla, Dep, Dep, Arr, Cnl],
+        State::Departed { .. } => &[Chg, Chg, Chg, Chg, Arr, Arr, Dla, Dep, Cnl],
+        State::Arrived { .. } | State::Cancelled => &[Chg, Cnl, Dla, Dep, Arr],
+    }
+}
+
+/// A CHG of the route that leaves a plan of 1,800 bytes, or some bytes more or less.
+fn edge_change(dice: &mut Dice, flight: &Flight, strip: &[u8]) -> Vec<u8> {
+    let mut draft = contents::draft(dice, Kind::Chg, flight);
+    let route = strip.split(|&b| b == b'-').nth(6).unwrap_or_default();
+    let due = (LONGEST + dice.below(9)).saturating_sub(1 + strip.len() - route.len());
+    let mut longer = b"15/N0440F310".to_vec();
+    while longer.len() + 6 < due {
+        longer.extend(b" DCT");
+    }
+    longer.extend(&b" DCTDC"[..due.saturating_sub(longer.len())]);
+    draft.truncate(5);
+    draft.push(longer);
+    runs::plain(&draft)
+}
+
+/// An offer with room enough, or with the new strip's length or about it.
+fn offer(dice: &mut Dice, held: &Updated, message: &[u8]) -> (Line, usize) {
+    if dice.chance(85) {
+        return (ask("U", message), LONGEST);
+    }
+    let due = update(&held.strip, held.state, message, LONGEST).map_or(0, |updated| updated.strip.len());
+    let rooms = [due, due.saturating_sub(1), dice.below(LONGEST + 1)];
+    let room = *dice.pick(&rooms);
+    (ask(&format!("u {room}"), message), room)
+}
+
+fn hold(held: &Updated) -> Line {
+    ask(&format!("H {}", state_word(held.state)), &held.strip)
+}
+
+/// A state as a question has it.
+fn state_word(state: State) -> String {
+    match state {
+        State::Filed => "F".to_string(),
+        State::Departed { time } => format!("D{time:04}"),
+        State::Arrived { departed, aerodrome, time } => {
+            let departed = departed.map_or("----".to_string(), |time| format!("{time:04}"));
+            format!("A{departed}/{}/{time:04}", String::from_utf8_lossy(&aerodrome))
+        }
+        State::Cancelled => "C".to_string(),
+    }
+}
+
+fn ask(head: &str, bytes: &[u8]) -> Line {
+    [head.as_bytes(), b" ", &escaped(bytes)].concat()
+}
