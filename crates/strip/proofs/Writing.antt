@@ -10,7 +10,8 @@ use lib.Dec.{eqb}
 use lib.ListN.{length, take, drop, getD, set, length-take, length-drop, length-append}
 use lib.Seq.{getD-drop}
 use borrow.Author.Tests.{ne-eqb}
-use Rattle.text.specs.Words.{Word, split, join, upTo, behind}
+use Rattle.text.specs.Words.{Word, split, join, upTo, before, behind}
+use Rattle.text.specs.Places.{Stepped}
 use Rattle.text.specs.Lent.{front}
 use Rattle.text.proofs.Index.{rest}
 use Rattle.text.proofs.Lent.{store, lent}
@@ -22,7 +23,35 @@ use Rattle.forms.specs.Field22.{whichOf}
 use Rattle.message.specs.Reading.{leadOf}
 use Rattle.force.specs.InForce.{entriesOf, lookup, namedBy, fieldAt, inForce, fieldsFrom}
 use Rattle.force.proofs.Walk.{field-at}
-use Rattle.strip.specs.Texts.{contentOf, newText}
+use Rattle.strip.specs.Texts.{contentIn, contentOf, newText}
+
+-- THE WALK OVER THE PLAN: the cursor at its field k
+
+pub record AtField (plan : List ℕ) (k at : ℕ) : Type 0 where
+  pub inside : at ≤ length plan
+  pub ahead : drop at plan ≡ behindHyphen k plan
+
+pub first-field : (plan : List ℕ) → AtField plan 0 0
+unfolding behindHyphen
+first-field plan = record { inside = omega arith; ahead = refl }
+
+next-behind : (k : ℕ) (s : List ℕ) → behindHyphen (suc k) s ≡ behind 45 (behindHyphen k s)
+unfolding behindHyphen
+next-behind zero s = refl
+next-behind (suc k) s = next-behind k (behind 45 s)
+
+pub next-field : (plan : List ℕ) (k at next : ℕ) → AtField plan k at → Stepped 45 plan at next → AtField plan (k + 1) next
+next-field plan k at next h step =
+    record {
+      inside = step .inside;
+      ahead = step .over ∙ ap (behind 45) (h .ahead) ∙ sym (next-behind k plan) ∙ ap (λ (j : ℕ). behindHyphen j plan) (sym (add-one k));
+    }
+
+-- field k of the amended plan, from what stands at the cursor
+pub content-at : (t : MessageType) (plan said : List ℕ) (k at : ℕ) (own w : Word) → AtField plan k at → own ≡ before 45 (drop at plan) → w ≡ contentIn t own said k
+    → w ≡ contentOf t plan said k
+content-at t plan said k at own w h e c =
+    c ∙ ap (λ (v : Word). contentIn t v said k) (e ∙ ap (before 45) (h .ahead) ∙ sym (field-at k plan))
 
 -- HOW LONG A CONTENT IS
 

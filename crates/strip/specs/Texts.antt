@@ -3,6 +3,7 @@ use Prim.Native.Nat.{ℕ}
 use mathlib.Core.Path.{_≡_}
 use mathlib.Core.Bool.{cond}
 use mathlib.Core.List.{List}
+use mathlib.Core.Option.{Option·getD}
 use lib.Dec.{eqb, leb}
 use lib.ListN.{length}
 use Rattle.text.specs.Words.{Word, split}
@@ -12,24 +13,28 @@ use Rattle.kinds.specs.declared.MessageType.{MessageType}
 use Rattle.kinds.specs.declared.MessageType.the-variants.{Fpl, Chg, Cnl, Dla, Dep, Arr, Rqp, Rqs, Spl}
 use Rattle.state.specs.declared.State.{State}
 use Rattle.state.specs.State.{allowedIn, nextOf}
-use Rattle.force.specs.InForce.{fieldAt, inForce, fieldsFrom}
+use Rattle.force.specs.InForce.{fieldAt, namedBy, fieldsFrom}
 use Rattle.strip.specs.declared.Offered.{Offered}
 use Rattle.strip.specs.declared.Offered.the-variants.{Says, Unfit}
 use Rattle.strip.specs.declared.Updated.{Updated}
 use Rattle.strip.specs.declared.Updated.the-variants.{Accepted, Refused}
 use Rattle.strip.specs.Updating.{eventOf, differences, differs, amendedAs}
 
--- field k of the amended plan: a CHG's where it names it, a DLA's field 13, whose aerodrome is the plan's, and otherwise the plan's
+-- field k of the amended plan, from the plan's own: a CHG's where it names it, a DLA's field 13, whose aerodrome is the plan's, and otherwise
+-- the plan's
+abbrev pub contentIn : MessageType → Word → List ℕ → ℕ → Word
+contentIn Chg own said k = Option·getD (namedBy said k) own
+contentIn Dla own said k = cond (eqb k 5) (fieldAt said 2) own
+contentIn Cnl own said k = own
+contentIn Dep own said k = own
+contentIn Arr own said k = own
+contentIn Fpl own said k = own
+contentIn Rqp own said k = own
+contentIn Rqs own said k = own
+contentIn Spl own said k = own
+
 abbrev pub contentOf : MessageType → List ℕ → List ℕ → ℕ → Word
-contentOf Chg plan said k = inForce plan said k
-contentOf Dla plan said k = cond (eqb k 5) (fieldAt said 2) (fieldAt plan k)
-contentOf Cnl plan said k = fieldAt plan k
-contentOf Dep plan said k = fieldAt plan k
-contentOf Arr plan said k = fieldAt plan k
-contentOf Fpl plan said k = fieldAt plan k
-contentOf Rqp plan said k = fieldAt plan k
-contentOf Rqs plan said k = fieldAt plan k
-contentOf Spl plan said k = fieldAt plan k
+contentOf t plan said k = contentIn t (fieldAt plan k) said k
 
 abbrev pub amendedOf : MessageType → List ℕ → List ℕ → List Word
 amendedOf t plan said = fieldsFrom (contentOf t plan said) 0 9

@@ -9,13 +9,15 @@ ghost use Rattle.text.specs.Lent.{front};
 ghost use Rattle.aerodromes.specs.Asked.{clockAt};
 ghost use Rattle.message.specs.Reading.{unexplainedIn};
 ghost use Rattle.strip.specs.Updating.{canonicalPlan, timeOf, arrival, eventOf, comparesTime, differences, differs, updateOf, outAfter};
-ghost use Rattle.strip.specs.Texts.{contentOf, amendedOf, newText, Amends, Offers, notReadAs};
+ghost use Rattle.strip.specs.Texts.{contentIn, amendedOf, newText, Amends, Offers, notReadAs};
+use force::Found;
 use kinds::MessageType;
 use message::Answer;
 use shape::Clock;
 use shape::ClockRead;
 use state::Event;
 use state::Strip;
+use text::Cursor;
 
 // What a message of a type does to the state, or that its type is not fit for an update.
 pub enum Offered {
@@ -188,30 +190,40 @@ impl Differences {
     }
 }
 
+// Field k of a plan after a CHG: the content that names it, otherwise the plan's own.
+fn changed<'a>(own: &'a [u8], said: &'a [u8], k: usize) -> &'a [u8]
+    ensures { λ r. ⌜ now r ≡ contentIn MessageType.Chg (now (own .entry)) (now (said .entry)) k ⌝ }
+{
+    match force::named(said, k) {
+        Found::At { from, to } => &said[from..to],
+        Found::Nowhere => own,
+    }
+}
+
 // Field k of a plan after a DLA, whose field 13 stands in place of the plan's.
-fn delayed<'a>(plan: &'a [u8], said: &'a [u8], k: usize) -> &'a [u8]
-    ensures { λ r. ⌜ now r ≡ contentOf MessageType.Dla (now (plan .entry)) (now (said .entry)) k ⌝ }
+fn delayed<'a>(own: &'a [u8], said: &'a [u8], k: usize) -> &'a [u8]
+    ensures { λ r. ⌜ now r ≡ contentIn MessageType.Dla (now (own .entry)) (now (said .entry)) k ⌝ }
 {
     if k == 5 {
         return field(said, 2);
     }
-    field(plan, k)
+    own
 }
 
-// Field k of the amended plan.
-fn content<'a>(t: MessageType, plan: &'a [u8], said: &'a [u8], k: usize) -> &'a [u8]
-    ensures { λ r. ⌜ now r ≡ contentOf t (now (plan .entry)) (now (said .entry)) k ⌝ }
+// Field k of the amended plan, of which `own` is the plan's.
+fn content<'a>(t: MessageType, own: &'a [u8], said: &'a [u8], k: usize) -> &'a [u8]
+    ensures { λ r. ⌜ now r ≡ contentIn t (now (own .entry)) (now (said .entry)) k ⌝ }
 {
     match t {
-        MessageType::Chg => force::in_force(plan, said, k),
-        MessageType::Dla => delayed(plan, said, k),
-        MessageType::Cnl => field(plan, k),
-        MessageType::Dep => field(plan, k),
-        MessageType::Arr => field(plan, k),
-        MessageType::Fpl => field(plan, k),
-        MessageType::Rqp => field(plan, k),
-        MessageType::Rqs => field(plan, k),
-        MessageType::Spl => field(plan, k),
+        MessageType::Chg => changed(own, said, k),
+        MessageType::Dla => delayed(own, said, k),
+        MessageType::Cnl => own,
+        MessageType::Dep => own,
+        MessageType::Arr => own,
+        MessageType::Fpl => own,
+        MessageType::Rqp => own,
+        MessageType::Rqs => own,
+        MessageType::Spl => own,
     }
 }
 
@@ -220,10 +232,10 @@ fn unexplained_in<'a>(t: MessageType, plan: &'a [u8], said: &'a [u8]) -> u8
     ensures { λ r. ⌜ r ≡ unexplainedIn (amendedOf t (now (plan .entry)) (now (said .entry))) ⌝ }
 {
     plan::unexplained_field(
-        content(t, plan, said, 3),
-        content(t, plan, said, 5),
-        content(t, plan, said, 7),
-        content(t, plan, said, 8),
+        content(t, field(plan, 3), said, 3),
+        content(t, field(plan, 5), said, 5),
+        content(t, field(plan, 7), said, 7),
+        content(t, field(plan, 8), said, 8),
     )
 }
 
@@ -233,9 +245,11 @@ fn new_length<'a>(t: MessageType, plan: &'a [u8], said: &'a [u8]) -> usize
     ensures { λ r. ⌜ r ≡ length (newText t (now (plan .entry)) (now (said .entry))) ⌝ }
 {
     let mut n = 0;
+    let mut c = Cursor { at: 0 };
     let mut k = 0;
     while k < PLAN_FIELDS {
-        n += 1 + content(t, plan, said, k).len();
+        n += 1 + content(t, c.part(plan, b'-'), said, k).len();
+        c = c.next(plan, b'-');
         k += 1;
     }
     n + 1
@@ -257,13 +271,12 @@ fn write_new<'a>(t: MessageType, plan: &'a [u8], said: &'a [u8], out: &mut [u8])
     ensures { λ r. ⌜ (r ≡ length (newText t (now (plan .entry)) (now (said .entry)))) × (now (out .exit) ≡ front (newText t (now (plan .entry)) (now (said .entry))) (now (out .entry))) ⌝ }
 {
     let mut o = 0;
+    let mut c = Cursor { at: 0 };
     let mut k = 0;
     while k < PLAN_FIELDS {
-        o += write_part(
-            message::lead_of(k),
-            content(t, plan, said, k),
-            &mut out[o..],
-        );
+        let part = content(t, c.part(plan, b'-'), said, k);
+        o += write_part(message::lead_of(k), part, &mut out[o..]);
+        c = c.next(plan, b'-');
         k += 1;
     }
     out[o] = b')';

@@ -10,11 +10,8 @@ field-requires c κs = search needs
 returns : tie.Need-returns
 returns c = rw (eq-eqb (c .before .before .before .before .args .k) 5 (c .before .if1 .taken)) (c .field .ensures)
 
-field-requires-2 : tie.Need-field-requires-2
-field-requires-2 c κs = search needs
-
 returns-2 : tie.Need-returns-2
-returns-2 c = rw (ne-eqb (c .before .before .before .before .args .k) 5 (c .before .if1 .left)) (c .field2 .ensures)
+returns-2 c = rw (ne-eqb (c .before .before .before .args .k) 5 (c .if1 .left))
 
 pub delayed-spec : {M : Type 1} → statement M
-delayed-spec = tie.close (tie.spec field-requires returns field-requires-2 returns-2)
+delayed-spec = tie.close (tie.spec field-requires returns returns-2)
