@@ -11,12 +11,13 @@ use lib.ListN.{length, take, drop, getD, set, length-set, length-take, length-dr
 use lib.Seq.{drop-cons, getD-set-same, getD-set-other}
 use borrow.Author.Tests.{eq-eqb, ne-eqb, eqb-true, eqb-false, not-true}
 use Rattle.alphabet.specs.Alphabet.{oneOf}
-use Rattle.text.specs.Words.{Word, split, after, upTo, all}
+use Rattle.text.specs.Words.{Word, split, join, after, upTo, all}
 use Rattle.text.specs.Places.{Stepped}
 use Rattle.text.specs.Lent.{front}
 use Rattle.space.specs.Hyphens.{behindHyphen}
 use Rattle.text.proofs.Tests.{both}
 use Rattle.text.proofs.Index.{split-at, after-here, after-end}
+use Rattle.text.proofs.Joined.{join-split}
 use Rattle.kinds.specs.declared.MessageType.{MessageType}
 use Rattle.kinds.specs.declared.Form.{Form}
 use Rattle.kinds.specs.declared.Form.the-variants.{Field22}
@@ -200,3 +201,21 @@ module _ (t : MessageType) (n : ℕ) (s : List ℕ) (at j e : ℕ) (end : e ≡ 
       → length (spelledFrom (leadOf j) (drop j (formsOf t n)) (split 45 (drop at s)))
       ≡ 1 + k + length (spelledFrom (leadOf (j + 1)) (drop (j + 1) (formsOf t n)) (split 45 (drop (e + 1) s)))
   length-next h = turn ∙ ap (λ (l : List ℕ). 1 + k + length l) (spelled-next t n s at j e end even h)
+
+-- IT IS NEVER LONGER than the text and its parentheses
+
+spelled-none : (lead : ℕ) (fs : List Form) → length (spelledFrom lead fs []) ≡ 1
+spelled-none lead [] = refl
+spelled-none lead (f ∷ fs) = refl
+
+joined-short : (lead : ℕ) (fs : List Form) (cs : List Word) → length (spelledFrom lead fs cs) ≤ length (join 45 cs) + 2
+joined-short lead [] cs = omega arith
+joined-short lead (f ∷ fs) [] = omega arith
+joined-short lead (f ∷ fs) (c ∷ []) =
+    omega (arith, written-short f c, spelled-none 45 fs, length-append (writtenOf f c) (spelledFrom 45 fs []))
+joined-short lead (f ∷ fs) (c ∷ (d ∷ cs)) =
+    let l = length-append (writtenOf f c) (spelledFrom 45 fs (d ∷ cs)) in
+    omega (arith, written-short f c, joined-short 45 fs (d ∷ cs), l, length-append c (45 ∷ join 45 (d ∷ cs)))
+
+pub spelled-short : (fs : List Form) (s : List ℕ) → length (spelledFrom 40 fs (split 45 s)) ≤ length s + 2
+spelled-short fs s = omega (arith, joined-short 40 fs (split 45 s), ap length (join-split 45 s))

@@ -2,6 +2,7 @@
 ghost use mathlib.Core.Path.{_≡_};
 ghost use mathlib.Core.List.{_∷_};
 ghost use Prim.Native.Nat.{_≤_};
+ghost use lib.Dec.{leb};
 ghost use lib.ListN.{length, drop};
 ghost use Rattle.text.specs.Words.{split};
 ghost use Rattle.text.specs.Lent.{front};
@@ -185,14 +186,24 @@ fn place_in_plan(field: u8) -> usize
     if field == 13 { 5 } else { 7 }
 }
 
+// Whether the spelling fits so many bytes. It is never longer than the text with its parentheses, so it is measured only where these do not fit.
+fn has_room(t: MessageType, count: usize, s: &[u8], room: usize) -> bool
+    requires { ⌜ (length (now s) ≤ 1800) × (length (formsOf t count) ≡ length (split 45 (now s))) ⌝ }
+    ensures { λ r. ⌜ r ≡ leb (length (spelledFrom 40 (formsOf t count) (split 45 (now (s .entry))))) room ⌝ }
+{
+    if s.len() + 2 <= room {
+        return true;
+    }
+    spelled_length(t, count, s) <= room
+}
+
 // Number 11, and the acceptance: everything is checked before the first byte is written.
 fn read_room(t: MessageType, count: usize, msg: &[u8], s: &[u8], out: &mut [u8]) -> Answer
     requires { ⌜ Counted t (now msg) count (now s) ⌝ }
     ensures { λ a. ⌜ (a ≡ roomAs t (now (msg .entry)) (length (now (out .entry))))
         × (now (out .exit) ≡ writtenAs (roomAs t (now (msg .entry)) (length (now (out .entry)))) (now (msg .entry)) (now (out .entry))) ⌝ }
 {
-    let due = spelled_length(t, count, s);
-    if out.len() < due {
+    if !has_room(t, count, s, out.len()) {
         return Answer::Refused {
             number: 11,
             field: 0,

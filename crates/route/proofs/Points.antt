@@ -351,7 +351,7 @@ three-letters : (w : Word) → elem w indicators ≡ true → length w ≡ 3
 unfolding indicators
 three-letters w e = elem-length 3 indicators refl w e
 
-no-indicator : (w : Word) → (length w ≡ 3 → ⊥) → elem w indicators ≡ false
+pub no-indicator : (w : Word) → (length w ≡ 3 → ⊥) → elem w indicators ≡ false
 no-indicator w h = go (elem w indicators) refl
   where
     go : (b : Bool) → elem w indicators ≡ b → b ≡ false

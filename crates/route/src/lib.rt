@@ -2,10 +2,10 @@
 ghost use mathlib.Core.Path.{_≡_};
 ghost use Prim.Native.Nat.{ℕ, _+_, _-_, _≤_, _<_};
 ghost use lib.ListN.{length, drop};
-ghost use Rattle.text.specs.Words.{split};
+ghost use Rattle.text.specs.Words.{split, elem};
 ghost use Rattle.shape.specs.Shape.{wides};
 ghost use Rattle.route.specs.Levels.{changes, climbs};
-ghost use Rattle.route.specs.Points.{degreesInRange, within as withinDegrees, minutesInRange, degreesOf, minutesOf, radialFits, nameFits, pointFits};
+ghost use Rattle.route.specs.Points.{degreesInRange, within as withinDegrees, minutesInRange, degreesOf, minutesOf, radialFits, indicators, nameFits, pointFits};
 ghost use Rattle.route.specs.Field15.{pairFits, wordFits, elementFits, routeFits, fits15};
 
 // 99N999W in range: latitude at most 90, longitude at most 180.
@@ -65,6 +65,16 @@ fn with_bearing(w: &[u8]) -> bool
     shape::three(w, k) <= 360
 }
 
+// Whether a word is an indicator. All of them have three bytes, so any other word is told by its length.
+fn is_indicator(w: &[u8]) -> bool
+    ensures { λ r. ⌜ r ≡ elem (now (w .entry)) indicators ⌝ }
+{
+    if w.len() != 3 {
+        return false;
+    }
+    text::in_list(w, b"DCT VFR IFR")
+}
+
 // 2 or more signs, and no indicator.
 fn name(most: usize, w: &[u8]) -> bool
     ensures { λ r. ⌜ r ≡ nameFits most (now (w .entry)) ⌝ }
@@ -78,7 +88,7 @@ fn name(most: usize, w: &[u8]) -> bool
     if !text::all_of(text::Kind::Sign, w) {
         return false;
     }
-    !text::in_list(w, b"DCT VFR IFR")
+    !is_indicator(w)
 }
 
 // A coordinate, a point with bearing and distance, or a name of at most so many signs.
@@ -118,7 +128,7 @@ fn word(last: bool, w: &[u8]) -> bool
     if text::same_bytes(w, b"T") {
         return last;
     }
-    if text::in_list(w, b"DCT VFR IFR") {
+    if is_indicator(w) {
         return true;
     }
     point(7, w)

@@ -1,14 +1,14 @@
 -- The amended plan, field by field: how long it is, and how it is written turn by turn. Assumes nothing.
 use Prim.Native.Nat.{ℕ, zero, suc, _+_, _-_, _*_, _<_, _≤_}
 use mathlib.Core.Path.{_≡_, refl, sym, ap, _∙_}
-use mathlib.Core.Bool.{Bool, true, false, cond}
+use mathlib.Core.Bool.{Bool, true, false, cond, false≢true}
 use mathlib.Core.List.{List, [], _∷_, _++_, append-assoc}
 use mathlib.Core.Option.{none, some, Option·getD}
 use native.Mathlib.Omega.{arith}
 use native.Mathlib.Numerals.{add-one}
 use lib.Dec.{eqb}
-use lib.ListN.{length, take, drop, getD, set, length-take, length-drop, length-append}
-use lib.Seq.{getD-drop}
+use lib.ListN.{length, take, drop, getD, set, length-take, length-drop, length-set, length-append}
+use lib.Seq.{getD-drop, getD-set-same, getD-set-other}
 use borrow.Author.Tests.{ne-eqb}
 use Rattle.text.specs.Words.{Word, split, join, upTo, before, behind}
 use Rattle.text.specs.Places.{Stepped}
@@ -22,8 +22,8 @@ use Rattle.kinds.specs.declared.MessageType.the-variants.{Fpl, Chg, Cnl, Dla, D
 use Rattle.forms.specs.Field22.{whichOf}
 use Rattle.message.specs.Reading.{leadOf}
 use Rattle.force.specs.InForce.{entriesOf, lookup, namedBy, fieldAt, inForce, fieldsFrom}
-use Rattle.force.proofs.Walk.{field-at}
-use Rattle.strip.specs.Texts.{contentIn, contentOf, newText}
+use Rattle.force.proofs.Walk.{field-at, Seeking, seeking-starts, found-nowhere, found-later}
+use Rattle.strip.specs.Texts.{contentIn, contentOf, newText, Marks}
 
 -- THE WALK OVER THE PLAN: the cursor at its field k
 
@@ -52,6 +52,40 @@ pub content-at : (t : MessageType) (plan said : List ℕ) (k at : ℕ) (own w : 
     → w ≡ contentOf t plan said k
 content-at t plan said k at own w h e c =
     c ∙ ap (λ (v : Word). contentIn t v said k) (e ∙ ap (before 45) (h .ahead) ∙ sym (field-at k plan))
+
+-- THE MARKS OF NAMED FIELDS: a field that has no mark yet is not named by an entry before `at`
+
+pub record Marking (said : List ℕ) (marks : List Bool) (at : ℕ) : Type 0 where
+  pub nine : length marks ≡ 9
+  pub inside : at ≤ length said
+  pub unmarked : (k : ℕ) → 0 < k → getD marks k false ≡ false → Seeking said k at
+
+pub marking-starts : (said : List ℕ) (marks : List Bool) (at : ℕ) → length marks ≡ 9 → at ≤ length said → drop at said ≡ behindHyphen 5 said → Marking said marks at
+marking-starts said marks at n l d = record { nine = n; inside = l; unmarked = λ k h q. seeking-starts h l d }
+
+module _ (said : List ℕ) (marks : List Bool) (at e r : ℕ) (m : Marking said marks at) (end : e ≡ at + upTo 45 (drop at said)) (last : e ≤ length said)
+    (is-rank : r ≡ whichOf (take (e - at) (drop at said))) (small : r ≤ 8) where
+  other-rank : (k : ℕ) → getD (set marks r true) k false ≡ false → r ≡ k → ⊥
+  other-rank k q z =
+      let here : getD (set marks r true) r false ≡ true = getD-set-same marks r true false (omega (arith, m .nine, small)) in
+      false≢true (sym q ∙ ap (λ (i : ℕ). getD (set marks r true) i false) (sym z) ∙ here)
+
+  before-mark : (k : ℕ) → getD (set marks r true) k false ≡ false → getD marks k false ≡ false
+  before-mark k q = sym (getD-set-other marks r k true false (λ z. other-rank k q (sym z))) ∙ q
+
+  pub marking-next : (next : ℕ) → e < length said → Stepped 45 said at next → Marking said (set marks r true) next
+  marking-next next h step =
+      record {
+        nine = length-set marks r true ∙ m .nine;
+        inside = step .inside;
+        unmarked = λ k p q. found-later p (m .unmarked k p (before-mark k q)) end last is-rank (other-rank k q) h step;
+      }
+
+  pub marking-done : length said ≤ e → Marks said (set marks r true)
+  unfolding namedBy
+  marking-done h zero q = refl
+  marking-done h (suc k) q =
+      found-nowhere (omega arith) (m .unmarked (suc k) (omega arith) (before-mark (suc k) q)) end last is-rank (other-rank (suc k) q) h .0
 
 -- HOW LONG A CONTENT IS
 

@@ -1,11 +1,11 @@
 -- The update from two texts, which stand between the parentheses: the plan's, and that of the message's spelling. Assumes nothing.
 use Prim.Native.Nat.{ℕ}
 use mathlib.Core.Path.{_≡_}
-use mathlib.Core.Bool.{cond}
+use mathlib.Core.Bool.{Bool, false, cond}
 use mathlib.Core.List.{List}
-use mathlib.Core.Option.{Option·getD}
+use mathlib.Core.Option.{none, Option·getD}
 use lib.Dec.{eqb, leb}
-use lib.ListN.{length}
+use lib.ListN.{length, getD}
 use Rattle.text.specs.Words.{Word, split}
 use Rattle.text.specs.Lent.{front}
 use Rattle.sent.specs.Sent.{messageOf}
@@ -57,6 +57,10 @@ textsAs t plan state said room = offeredAs (eventOf t (split 45 said)) t plan st
 abbrev pub writtenText : Updated → MessageType → List ℕ → List ℕ → List ℕ → List ℕ
 writtenText (Accepted held n) t plan said out = front (newText t plan said) out
 writtenText (Refused number field place) t plan said out = out
+
+-- marks of the fields that a CHG names, by their ranks: a field without a mark is not named
+abbrev pub Marks : List ℕ → List Bool → Type 0
+Marks said marks = (k : ℕ) → getD marks k false ≡ false → namedBy said k ≡ none
 
 -- an answer that is due, and the output that goes with it
 abbrev pub Due : Updated → MessageType → List ℕ → List ℕ → List ℕ → Updated → List ℕ → Type 0

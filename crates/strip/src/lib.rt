@@ -1,6 +1,7 @@
 // The strip: one plan, kept up to date by the messages that are offered to it.
 ghost use mathlib.Core.Path.{_≡_};
-ghost use mathlib.Core.Bool.{_&&_, not};
+ghost use mathlib.Core.Bool.{false, _&&_, not};
+ghost use mathlib.Core.Option.{none};
 ghost use mathlib.Core.List.{[], _∷_};
 ghost use Prim.Native.Nat.{_≤_};
 ghost use lib.ListN.{length, drop, getD};
@@ -9,8 +10,10 @@ ghost use Rattle.text.specs.Lent.{front};
 ghost use Rattle.aerodromes.specs.Asked.{clockAt};
 ghost use Rattle.message.specs.Reading.{unexplainedIn};
 ghost use Rattle.strip.specs.Updating.{canonicalPlan, timeOf, arrival, eventOf, comparesTime, differences, differs, updateOf, outAfter};
-ghost use Rattle.strip.specs.Texts.{contentIn, amendedOf, newText, Amends, Offers, notReadAs};
+ghost use Rattle.force.specs.InForce.{namedBy};
+ghost use Rattle.strip.specs.Texts.{contentIn, Marks, amendedOf, newText, Amends, Offers, notReadAs};
 use force::Found;
+use kinds::Form;
 use kinds::MessageType;
 use message::Answer;
 use shape::Clock;
@@ -190,10 +193,32 @@ impl Differences {
     }
 }
 
-// Field k of a plan after a CHG: the content that names it, otherwise the plan's own.
-fn changed<'a>(own: &'a [u8], said: &'a [u8], k: usize) -> &'a [u8]
+// Marks for the fields that the entries of a text name, if it is a CHG's.
+fn marks_in(said: &[u8]) -> [bool; 9]
+    ensures { λ r. ⌜ (length r ≡ 9) × Marks (now (said .entry)) r ⌝ }
+{
+    let mut marks = [false; 9];
+    let mut c = force::seek(said, 5);
+    loop {
+        let at = c.at;
+        let e = c.end(said, b'-');
+        let k = forms::rank_in(Form::Field22, &said[at..e]);
+        marks[k] = true;
+        if e == said.len() {
+            return marks;
+        }
+        c = c.next(said, b'-');
+    }
+}
+
+// Field k of a plan after a CHG: the content that names it, otherwise the plan's own. Only where there is a mark are the entries looked through.
+fn changed<'a>(own: &'a [u8], said: &'a [u8], marked: bool, k: usize) -> &'a [u8]
+    requires { ⌜ (marked ≡ false → namedBy (now said) k ≡ none) ⌝ }
     ensures { λ r. ⌜ now r ≡ contentIn MessageType.Chg (now (own .entry)) (now (said .entry)) k ⌝ }
 {
+    if !marked {
+        return own;
+    }
     match force::named(said, k) {
         Found::At { from, to } => &said[from..to],
         Found::Nowhere => own,
@@ -211,11 +236,12 @@ fn delayed<'a>(own: &'a [u8], said: &'a [u8], k: usize) -> &'a [u8]
 }
 
 // Field k of the amended plan, of which `own` is the plan's.
-fn content<'a>(t: MessageType, own: &'a [u8], said: &'a [u8], k: usize) -> &'a [u8]
+fn content<'a>(t: MessageType, own: &'a [u8], said: &'a [u8], marked: bool, k: usize) -> &'a [u8]
+    requires { ⌜ (marked ≡ false → namedBy (now said) k ≡ none) ⌝ }
     ensures { λ r. ⌜ now r ≡ contentIn t (now (own .entry)) (now (said .entry)) k ⌝ }
 {
     match t {
-        MessageType::Chg => changed(own, said, k),
+        MessageType::Chg => changed(own, said, marked, k),
         MessageType::Dla => delayed(own, said, k),
         MessageType::Cnl => own,
         MessageType::Dep => own,
@@ -231,11 +257,12 @@ fn content<'a>(t: MessageType, own: &'a [u8], said: &'a [u8], k: usize) -> &'a [
 fn unexplained_in<'a>(t: MessageType, plan: &'a [u8], said: &'a [u8]) -> u8
     ensures { λ r. ⌜ r ≡ unexplainedIn (amendedOf t (now (plan .entry)) (now (said .entry))) ⌝ }
 {
+    let marks = marks_in(said);
     plan::unexplained_field(
-        content(t, field(plan, 3), said, 3),
-        content(t, field(plan, 5), said, 5),
-        content(t, field(plan, 7), said, 7),
-        content(t, field(plan, 8), said, 8),
+        content(t, field(plan, 3), said, marks[3], 3),
+        content(t, field(plan, 5), said, marks[5], 5),
+        content(t, field(plan, 7), said, marks[7], 7),
+        content(t, field(plan, 8), said, marks[8], 8),
     )
 }
 
@@ -244,11 +271,12 @@ fn new_length<'a>(t: MessageType, plan: &'a [u8], said: &'a [u8]) -> usize
     requires { ⌜ (length (now plan) ≤ 1800) × (length (now said) ≤ 1800) ⌝ }
     ensures { λ r. ⌜ r ≡ length (newText t (now (plan .entry)) (now (said .entry))) ⌝ }
 {
+    let marks = marks_in(said);
     let mut n = 0;
     let mut c = Cursor { at: 0 };
     let mut k = 0;
     while k < PLAN_FIELDS {
-        n += 1 + content(t, c.part(plan, b'-'), said, k).len();
+        n += 1 + content(t, c.part(plan, b'-'), said, marks[k], k).len();
         c = c.next(plan, b'-');
         k += 1;
     }
@@ -270,11 +298,12 @@ fn write_new<'a>(t: MessageType, plan: &'a [u8], said: &'a [u8], out: &mut [u8])
     requires { ⌜ length (newText t (now plan) (now said)) ≤ length (now out) ⌝ }
     ensures { λ r. ⌜ (r ≡ length (newText t (now (plan .entry)) (now (said .entry)))) × (now (out .exit) ≡ front (newText t (now (plan .entry)) (now (said .entry))) (now (out .entry))) ⌝ }
 {
+    let marks = marks_in(said);
     let mut o = 0;
     let mut c = Cursor { at: 0 };
     let mut k = 0;
     while k < PLAN_FIELDS {
-        let part = content(t, c.part(plan, b'-'), said, k);
+        let part = content(t, c.part(plan, b'-'), said, marks[k], k);
         o += write_part(message::lead_of(k), part, &mut out[o..]);
         c = c.next(plan, b'-');
         k += 1;

@@ -9,10 +9,13 @@ use Rattle.strip.proofs.new_length.Statement.{statement}
 use Rattle.strip.proofs.new_length.Tie as tie
 
 abbrev Inv-loop : tie.InvT-loop
-Inv-loop t plan said n₀ c₀ k₀ n c k = Counting t plan said n k × AtField plan k (c .at)
+Inv-loop t plan said marks n₀ c₀ k₀ n c k = Counting t plan said n k × AtField plan k (c .at)
 
 abbrev μ-loop : tie.MeasureT-loop
-μ-loop t plan said n₀ c₀ k₀ n c k = 9 - k
+μ-loop t plan said marks n₀ c₀ k₀ n c k = 9 - k
+
+marks-in-requires : tie.Need-marks-in-requires Inv-loop μ-loop
+marks-in-requires c κs = search needs
 
 loop-holds : tie.Need-loop-holds Inv-loop μ-loop
 loop-holds c = (counting-starts _ _ _, first-field _)
@@ -20,19 +23,22 @@ loop-holds c = (counting-starts _ _ _, first-field _)
 part-requires : tie.Need-part-requires Inv-loop μ-loop
 part-requires c κs = c .before .loop .inv .1 .inside
 
+array-read-content : tie.Need-array-read-content Inv-loop μ-loop
+array-read-content c = omega (arith, c .before .loop-test .taken, c .before .before .before .marks-in .ensures .0)
+
 content-requires : tie.Need-content-requires Inv-loop μ-loop
-content-requires c κs = search needs
+content-requires c κs = c .before .before .before .marks-in .ensures .1 (c .before .before .loop .k)
 
 add-n : tie.Need-add-n Inv-loop μ-loop
 add-n c =
-    let p = c .before .before .before .before .before .before in
+    let p = c .before .before .before .before .before .before .before in
     let l = c .before .before .before .loop in
     let w = content-at (p .args .t) (p .args .plan .now) (p .args .said .now) (l .k) (l .c .at) _ _ (l .inv .1) (c .before .part .ensures) (c .content .ensures) in
     omega (arith, ap length w, content-short (p .args .t) (p .args .plan .now) (p .args .said .now) (l .k) 1800 (p .pre .0) (p .pre .1))
 
 add-n-2 : tie.Need-add-n-2 Inv-loop μ-loop
 add-n-2 c =
-    let p = c .before .before .before .before .before .before in
+    let p = c .before .before .before .before .before .before .before in
     let l = c .before .before .before .loop in
     let w = content-at (p .args .t) (p .args .plan .now) (p .args .said .now) (l .k) (l .c .at) _ _ (l .inv .1) (c .before .part .ensures) (c .content .ensures) in
     omega (arith, ap length w, content-short (p .args .t) (p .args .plan .now) (p .args .said .now) (l .k) 1800 (p .pre .0) (p .pre .1), l .inv .0 .few, l .inv .0 .nine)
@@ -48,7 +54,7 @@ loop-less c = search needs
 
 loop-again : tie.Need-loop-again Inv-loop μ-loop
 loop-again c =
-    let p = c .before .before .before .before .before .before .before in
+    let p = c .before .before .before .before .before .before .before .before in
     let l = c .before .before .before .before .loop in
     let w = content-at (p .args .t) (p .args .plan .now) (p .args .said .now) (l .k) (l .c .at) _ _ (l .inv .1) (c .before .before .part .ensures) (c .before .content .ensures) in
     (counting-next (p .args .t) (p .args .plan .now) (p .args .said .now) (l .n) (l .k) _ (l .inv .0) (c .before .before .before .loop-test .taken) w (p .pre .0) (p .pre .1), next-field (p .args .plan .now) (l .k) (l .c .at) _ (l .inv .1) (c .next .ensures))
@@ -57,7 +63,7 @@ add-result : tie.Need-add-result Inv-loop μ-loop
 add-result c = omega (arith, c .before .loop .inv .0 .few, c .before .loop .inv .0 .nine)
 
 returns : tie.Need-returns Inv-loop μ-loop
-returns c = let p = c .before .before .before .before in let l = c .before .loop in counting-done (p .args .t) (p .args .plan .now) (p .args .said .now) (l .n) (l .k) (l .inv .0) (c .loop-test .left)
+returns c = let p = c .before .before .before .before .before in let l = c .before .loop in counting-done (p .args .t) (p .args .plan .now) (p .args .said .now) (l .n) (l .k) (l .inv .0) (c .loop-test .left)
 
 pub new-length-spec : {M : Type 1} → statement M
 new-length-spec =
@@ -65,8 +71,10 @@ new-length-spec =
     (tie.spec
     Inv-loop
     μ-loop
+    marks-in-requires
     loop-holds
     part-requires
+    array-read-content
     content-requires
     add-n
     add-n-2

@@ -8,19 +8,25 @@ use Rattle.strip.proofs.write_new.Statement.{statement}
 use Rattle.strip.proofs.write_new.Tie as tie
 
 abbrev Inv-loop : tie.InvT-loop
-Inv-loop t plan said out₀ o₀ c₀ k₀ out o c k = Amending t plan said out₀ out o k × AtField plan k (c .at)
+Inv-loop t plan said out₀ marks o₀ c₀ k₀ out o c k = Amending t plan said out₀ out o k × AtField plan k (c .at)
 
 abbrev μ-loop : tie.MeasureT-loop
-μ-loop t plan said out₀ o₀ c₀ k₀ out o c k = 9 - k
+μ-loop t plan said out₀ marks o₀ c₀ k₀ out o c k = 9 - k
+
+marks-in-requires : tie.Need-marks-in-requires Inv-loop μ-loop
+marks-in-requires c κs = search needs
 
 loop-holds : tie.Need-loop-holds Inv-loop μ-loop
-loop-holds c = let a = c .before .before .before in (amending-starts (a .args .t) (a .args .plan .now) (a .args .said .now) (a .args .out .now) (a .pre), first-field _)
+loop-holds c = let a = c .before .before .before .before in (amending-starts (a .args .t) (a .args .plan .now) (a .args .said .now) (a .args .out .now) (a .pre), first-field _)
 
 part-requires : tie.Need-part-requires Inv-loop μ-loop
 part-requires c κs = c .before .loop .inv .1 .inside
 
+array-read-content : tie.Need-array-read-content Inv-loop μ-loop
+array-read-content c = omega (arith, c .before .loop-test .taken, c .before .before .before .marks-in .ensures .0)
+
 content-requires : tie.Need-content-requires Inv-loop μ-loop
-content-requires c κs = search needs
+content-requires c κs = c .before .before .before .marks-in .ensures .1 (c .before .before .loop .k)
 
 lead-of-requires : tie.Need-lead-of-requires Inv-loop μ-loop
 lead-of-requires c κs = search needs
@@ -36,17 +42,17 @@ part-write-part-end c = search needs
 
 write-part-requires : tie.Need-write-part-requires Inv-loop μ-loop
 write-part-requires c κs =
-    let a = c .before .before .before .before .before .before .before .before .before .args in
+    let a = c .before .before .before .before .before .before .before .before .before .before .args in
     let l = c .before .before .before .before .before .loop in
     let w = content-at (a .t) (a .plan .now) (a .said .now) (l .k) (l .c .at) _ _ (l .inv .1) (c .before .before .before .part .ensures) (c .before .before .content .ensures) in
     turn-fits (a .t) (a .plan .now) (a .said .now) (a .out .now) (l .out) (l .o) (l .k) (l .inv .0) (c .before .before .before .before .loop-test .taken) _ _ (c .before .lead-of .ensures) w
 
 add-o : tie.Need-add-o Inv-loop μ-loop
 add-o c =
-    let a = c .before .before .before .before .before .before .before .before .before .before .before .before .args in
+    let a = c .before .before .before .before .before .before .before .before .before .before .before .before .before .args in
     let l = c .before .before .before .before .before .before .before .before .loop in
     let w = content-at (a .t) (a .plan .now) (a .said .now) (l .k) (l .c .at) _ _ (l .inv .1) (c .before .before .before .before .before .before .part .ensures) (c .before .before .before .before .before .content .ensures) in
-    omega (arith, turn-room (a .t) (a .plan .now) (a .said .now) (a .out .now) (l .out) (l .o) (l .k) (l .inv .0) (c .before .before .before .before .before .before .before .loop-test .taken) _ _ (c .before .before .before .before .lead-of .ensures) w, c .before .before .write-part .ensures .0, l .inv .0 .enough, c .before .before .before .before .before .before .before .before .before .before .before .before .good)
+    omega (arith, turn-room (a .t) (a .plan .now) (a .said .now) (a .out .now) (l .out) (l .o) (l .k) (l .inv .0) (c .before .before .before .before .before .before .before .loop-test .taken) _ _ (c .before .before .before .before .lead-of .ensures) w, c .before .before .write-part .ensures .0, l .inv .0 .enough, c .before .before .before .before .before .before .before .before .before .before .before .before .before .good)
 
 next-requires : tie.Need-next-requires Inv-loop μ-loop
 next-requires c κs = c .before .before .before .before .before .before .before .before .loop .inv .1 .inside
@@ -59,23 +65,23 @@ loop-less c = search needs
 
 loop-again : tie.Need-loop-again Inv-loop μ-loop
 loop-again c =
-    let a = c .before .before .before .before .before .before .before .before .before .before .before .before .before .args in
+    let a = c .before .before .before .before .before .before .before .before .before .before .before .before .before .before .args in
     let l = c .before .before .before .before .before .before .before .before .before .loop in
     let p = c .before .before .before .write-part in
     let w = content-at (a .t) (a .plan .now) (a .said .now) (l .k) (l .c .at) _ _ (l .inv .1) (c .before .before .before .before .before .before .before .part .ensures) (c .before .before .before .before .before .before .content .ensures) in
     (rw (p .ensures .0) (turn-next (a .t) (a .plan .now) (a .said .now) (a .out .now) (l .out) (l .o) (l .k) (l .inv .0) (c .before .before .before .before .before .before .before .before .loop-test .taken) _ _ (c .before .before .before .before .before .lead-of .ensures) w _ (p .ensures .1) (c .before .before .out .given .1)), next-field (a .plan .now) (l .k) (l .c .at) _ (l .inv .1) (c .next .ensures))
 
 slice-write-out : tie.Need-slice-write-out Inv-loop μ-loop
-slice-write-out c = let a = c .before .before .before .before .before .args in let l = c .before .loop in last-room (a .t) (a .plan .now) (a .said .now) (a .out .now) (l .out) (l .o) (l .k) (l .inv .0) (c .loop-test .left)
+slice-write-out c = let a = c .before .before .before .before .before .before .args in let l = c .before .loop in last-room (a .t) (a .plan .now) (a .said .now) (a .out .now) (l .out) (l .o) (l .k) (l .inv .0) (c .loop-test .left)
 
 add-result : tie.Need-add-result Inv-loop μ-loop
-add-result c = let a = c .before .before .before .before .before .args in let l = c .before .loop in omega (arith, last-long (a .t) (a .plan .now) (a .said .now) (a .out .now) (l .out) (l .o) (l .k) (l .inv .0) (c .loop-test .left), l .inv .0 .enough, c .before .before .before .before .before .good)
+add-result c = let a = c .before .before .before .before .before .before .args in let l = c .before .loop in omega (arith, last-long (a .t) (a .plan .now) (a .said .now) (a .out .now) (l .out) (l .o) (l .k) (l .inv .0) (c .loop-test .left), l .inv .0 .enough, c .before .before .before .before .before .before .good)
 
 same-length : tie.Need-same-length Inv-loop μ-loop
 same-length c = simp length-set (c .before .loop .inv .0 .long)
 
 returns : tie.Need-returns Inv-loop μ-loop
-returns c = let a = c .before .before .before .before .before .args in let l = c .before .loop in (last-long (a .t) (a .plan .now) (a .said .now) (a .out .now) (l .out) (l .o) (l .k) (l .inv .0) (c .loop-test .left), last-written (a .t) (a .plan .now) (a .said .now) (a .out .now) (l .out) (l .o) (l .k) (l .inv .0) (c .loop-test .left))
+returns c = let a = c .before .before .before .before .before .before .args in let l = c .before .loop in (last-long (a .t) (a .plan .now) (a .said .now) (a .out .now) (l .out) (l .o) (l .k) (l .inv .0) (c .loop-test .left), last-written (a .t) (a .plan .now) (a .said .now) (a .out .now) (l .out) (l .o) (l .k) (l .inv .0) (c .loop-test .left))
 
 pub write-new-spec : {M : Type 1} → statement M
 write-new-spec =
@@ -83,8 +89,10 @@ write-new-spec =
     (tie.spec
     Inv-loop
     μ-loop
+    marks-in-requires
     loop-holds
     part-requires
+    array-read-content
     content-requires
     lead-of-requires
     sub-write-part
