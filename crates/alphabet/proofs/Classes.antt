@@ -76,13 +76,6 @@ rule b k h e =
     let p : getD classes b 0 ≡ k = r .class ∙ sym e in
     rw p at r
 
--- a test of the lower end of a range, and then of the upper
-pub below : (low high k : ℕ) → k < low → false ≡ within low high k
-below low high k h = rw (lt-leb low k h)
-
-pub from : (low high k : ℕ) → low ≤ k → leb k high ≡ within low high k
-from low high k h = rw (le-leb low k h)
-
 -- a range of bytes, tested at its lower end and then at its upper
 pub under : (low high b : ℕ) → b < low → false ≡ (leb low b && leb b high)
 under low high b h = rw (lt-leb low b h)

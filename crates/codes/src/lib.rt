@@ -37,21 +37,29 @@ fn comes(w: &[u8], s: &[u8], from: usize) -> bool
     false
 }
 
-// Whether each code is in the list, whose codes have one space between them, and none comes twice.
+// Whether each code is in the list, whose codes have one space between them, and none comes twice. `seen` marks the ranks of the
+// codes before; a code of a higher rank is looked for among those behind it.
 pub fn codes_fit(list: &[u8], s: &[u8]) -> bool
     ensures { λ r. ⌜ r ≡ codesFit (split 32 (now (list .entry))) (codes (now (s .entry))) ⌝ }
 {
+    let mut seen = [false; 64];
     let mut at = 0;
     while at < s.len() {
         let e = code_end(s, at);
         let w = &s[at..e];
-        if !text::in_list(w, list) {
-            return false;
-        }
-        if comes(w, s, e) {
-            return false;
-        }
         at = e;
+        let rank = text::rank_of(w, list);
+        if rank == 0 {
+            return false;
+        }
+        if rank < 64 {
+            if seen[rank] {
+                return false;
+            }
+            seen[rank] = true;
+        } else if comes(w, s, e) {
+            return false;
+        }
     }
     true
 }

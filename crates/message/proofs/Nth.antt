@@ -1,5 +1,5 @@
 -- The content of field j, found hyphen by hyphen. Assumes nothing.
-use Prim.Native.Nat.{ℕ, zero, suc, _<_}
+use Prim.Native.Nat.{ℕ, zero, suc, _+_, _<_}
 use mathlib.Core.Path.{_≡_, refl, sym, ap, _∙_}
 use mathlib.Core.Bool.{Bool, true, false}
 use mathlib.Core.List.{List, [], _∷_}
@@ -31,3 +31,12 @@ nth (suc j) s h = go (nth j (behind 45 s)) (ltb (upTo 45 s) (length s)) refl
 -- as a cursor's part: the cursor at field j
 pub nth-part : (j at : ℕ) (s w : List ℕ) → j < length (split 45 s) → drop at s ≡ behindHyphen j s → w ≡ before 45 (drop at s) → w ≡ getD (split 45 s) j []
 nth-part j at s w h d e = e ∙ ap (before 45) d ∙ nth j s h
+
+-- n fields behind field j begins field j + n
+behind-both : (j n : ℕ) (s : List ℕ) → behindHyphen n (behindHyphen j s) ≡ behindHyphen (j + n) s
+unfolding behindHyphen
+behind-both zero n s = let z : n ≡ 0 + n = omega arith in ap (λ (k : ℕ). behindHyphen k s) z
+behind-both (suc j) n s = let z : suc (j + n) ≡ suc j + n = omega arith in behind-both j n (behind 45 s) ∙ ap (λ (k : ℕ). behindHyphen k s) z
+
+pub further : (j n : ℕ) (s : List ℕ) (at next : ℕ) → drop at s ≡ behindHyphen j s → drop next s ≡ behindHyphen n (drop at s) → drop next s ≡ behindHyphen (j + n) s
+further j n s at next d e = e ∙ ap (behindHyphen n) d ∙ behind-both j n s

@@ -130,12 +130,13 @@ fn write_fields(t: MessageType, count: usize, s: &[u8], out: &mut [u8]) -> usize
     }
 }
 
-// The cursor at field j of a text.
-fn seek(s: &[u8], j: usize) -> Cursor
-    ensures { λ r. ⌜ (r .at ≤ length (now (s .entry))) × (drop (r .at) (now (s .entry)) ≡ behindHyphen j (now (s .entry))) ⌝ }
+// The cursor n fields on.
+fn onward(s: &[u8], from: Cursor, n: usize) -> Cursor
+    requires { ⌜ from .at ≤ length (now s) ⌝ }
+    ensures { λ r. ⌜ (r .at ≤ length (now (s .entry))) × (drop (r .at) (now (s .entry)) ≡ behindHyphen n (drop (from .at) (now (s .entry)))) ⌝ }
 {
-    let mut c = Cursor { at: 0 };
-    let mut left = j;
+    let mut c = from;
+    let mut left = n;
     while left > 0 {
         c = c.next(s, b'-');
         left -= 1;
@@ -148,10 +149,10 @@ fn unexplained_in(s: &[u8]) -> u8
     requires { ⌜ length (split 45 (now s)) ≡ 9 ⌝ }
     ensures { λ r. ⌜ r ≡ unexplainedIn (split 45 (now (s .entry))) ⌝ }
 {
-    let nine = seek(s, 3);
-    let thirteen = seek(s, 5);
-    let sixteen = seek(s, 7);
-    let eighteen = seek(s, 8);
+    let nine = onward(s, Cursor { at: 0 }, 3);
+    let thirteen = onward(s, nine, 2);
+    let sixteen = onward(s, thirteen, 2);
+    let eighteen = onward(s, sixteen, 1);
     plan::unexplained_field(
         nine.part(s, b'-'),
         thirteen.part(s, b'-'),

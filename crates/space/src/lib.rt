@@ -43,24 +43,25 @@ fn stands_for_run(msg: &[u8], at: usize, after: bool) -> bool
     }
 }
 
-// Writes `msg` reduced at the front of `buf`, and returns how many bytes that is; the bytes behind it stay.
+// Writes `msg` reduced at the front of `buf`, and returns how many bytes that is; the bytes behind it stay. `last` is the last byte that is no
+// white space.
 pub fn reduce(msg: &[u8], buf: &mut [u8]) -> usize
     requires { ⌜ length (now msg) ≤ length (now buf) ⌝ }
     ensures { λ r. ⌜ (r ≡ length (reduced (now (msg .entry)))) × (now (buf .exit) ≡ front (reduced (now (msg .entry))) (now (buf .entry))) ⌝ }
 {
     let mut n = 0;
     let mut i = 0;
-    let mut after = false;
+    let mut last = 0;
     while i < msg.len() {
         let b = msg[i];
         i += 1;
         if alphabet::is_white(b) {
-            if stands_for_run(msg, i, after) {
+            if stands_for_run(msg, i, is_opening(last)) {
                 buf[n] = b' ';
                 n += 1;
             }
         } else {
-            after = is_opening(b);
+            last = b;
             buf[n] = b;
             n += 1;
         }

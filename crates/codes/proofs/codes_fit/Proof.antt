@@ -1,23 +1,24 @@
 -- `codes::codes_fit` meets its contract. Assumes nothing.
 use Prim.Native.Nat.{_-_, _≤_}
 use mathlib.Core.Path.{_≡_, refl, sym, _∙_}
-use lib.ListN.{length, drop}
-use borrow.Author.Tests.{not-true, not-false}
+use native.Mathlib.Omega.{arith}
+use lib.ListN.{length, drop, length-set}
 use Rattle.text.specs.Words.{split}
 use Rattle.text.proofs.Index.{drop-end}
 use Rattle.codes.specs.Codes.{codes, codesFit}
+use Rattle.codes.proofs.Marks.{rest, rest-starts, not-listed, seen-before, marked, comes-again, comes-once}
 use borrow.Author.Needs.{needs}
 use Rattle.codes.proofs.codes_fit.Statement.{statement}
 use Rattle.codes.proofs.codes_fit.Tie as tie
 
 abbrev Inv-loop : tie.InvT-loop
-Inv-loop list s at₀ at = (at ≤ length s) × (codesFit (split 32 list) (codes s) ≡ codesFit (split 32 list) (codes (drop at s)))
+Inv-loop list s seen₀ at₀ seen at = (at ≤ length s) × (length seen ≡ 64) × (codesFit (split 32 list) (codes s) ≡ rest seen (split 32 list) (codes (drop at s)))
 
 abbrev μ-loop : tie.MeasureT-loop
-μ-loop list s at₀ at = length s - at
+μ-loop list s seen₀ at₀ seen at = length s - at
 
 loop-holds : tie.Need-loop-holds Inv-loop μ-loop
-loop-holds c = (search needs, refl)
+loop-holds c = (search needs, refl, rest-starts _ refl _ _)
 
 code-end-requires : tie.Need-code-end-requires Inv-loop μ-loop
 code-end-requires c κs = search needs
@@ -31,26 +32,59 @@ part-w-start c = search needs
 part-w-end : tie.Need-part-w-end Inv-loop μ-loop
 part-w-end c = search needs
 
-in-list-requires : tie.Need-in-list-requires Inv-loop μ-loop
-in-list-requires c κs = search needs
+rank-of-requires : tie.Need-rank-of-requires Inv-loop μ-loop
+rank-of-requires c κs = search needs
 
 returns : tie.Need-returns Inv-loop μ-loop
-returns c = sym (c .before .before .before .before .before .loop .inv .1 ∙ rw (c .before .before .before .code-end .ensures .0, sym (c .before .in-list .ensures) ∙ not-true _ (c .if1 .taken)))
+returns c =
+    let l = c .before .before .before .before .before .loop in
+    not-listed _ (l .seen) _ _ _ _ (c .before .rank-of .result) (l .inv .2) (c .before .before .before .code-end .ensures .0) (c .before .rank-of .ensures) (c .if1 .taken)
 
-comes-requires : tie.Need-comes-requires Inv-loop μ-loop
-comes-requires c κs = search needs
+array-read-if3 : tie.Need-array-read-if3 Inv-loop μ-loop
+array-read-if3 c = search needs
 
 returns-2 : tie.Need-returns-2 Inv-loop μ-loop
-returns-2 c = sym (c .before .before .before .before .before .before .before .loop .inv .1 ∙ rw (c .before .before .before .before .before .code-end .ensures .0, sym (c .before .before .before .in-list .ensures) ∙ not-false _ (c .before .before .if1 .left), sym (c .before .comes .ensures) ∙ c .if2 .taken))
+returns-2 c =
+    let l = c .before .before .before .before .before .before .before .loop in
+    seen-before _ (l .seen) _ _ _ _ (c .before .before .before .rank-of .result) (l .inv .2) (c .before .before .before .before .before .code-end .ensures .0) (c .before .before .before .rank-of .ensures) (c .if3 .taken)
+
+array-write-seen : tie.Need-array-write-seen Inv-loop μ-loop
+array-write-seen c = search needs
 
 loop-less : tie.Need-loop-less Inv-loop μ-loop
 loop-less c = search needs
 
 loop-again : tie.Need-loop-again Inv-loop μ-loop
-loop-again c = (search needs, c .before .before .before .before .before .before .before .loop .inv .1 ∙ rw (c .before .before .before .before .before .code-end .ensures .0, sym (c .before .before .before .in-list .ensures) ∙ not-false _ (c .before .before .if1 .left), sym (c .before .comes .ensures) ∙ c .if2 .left))
+loop-again c =
+    let l = c .before .before .before .before .before .before .before .loop in
+    let r = c .before .before .before .rank-of .result in (
+      search needs,
+      length-set (l .seen) r _ ∙ l .inv .1,
+      marked _ (l .seen) _ _ _ _ r (l .inv .2) (c .before .before .before .before .before .code-end .ensures .0) (c .before .before .before .rank-of .ensures) (c .before .before .if1 .left) (omega arith) (c .if3 .left),
+    )
+
+comes-requires : tie.Need-comes-requires Inv-loop μ-loop
+comes-requires c κs = search needs
 
 returns-3 : tie.Need-returns-3 Inv-loop μ-loop
-returns-3 c = sym (c .before .loop .inv .1 ∙ rw (drop-end _ (c .before .loop .at) (c .loop-test .left)))
+returns-3 c =
+    let l = c .before .before .before .before .before .before .before .before .loop in
+    comes-again _ (l .seen) _ _ _ _ (c .before .before .before .before .rank-of .result) (l .inv .2) (c .before .before .before .before .before .before .code-end .ensures .0) (c .before .before .before .before .rank-of .ensures) (c .before .before .before .if1 .left) (sym (c .before .comes .ensures) ∙ c .if4 .taken)
+
+loop-less-2 : tie.Need-loop-less-2 Inv-loop μ-loop
+loop-less-2 c = search needs
+
+loop-again-2 : tie.Need-loop-again-2 Inv-loop μ-loop
+loop-again-2 c =
+    let l = c .before .before .before .before .before .before .before .before .loop in (
+      search needs,
+      l .inv .1,
+      comes-once _ (l .seen) _ _ _ _ (c .before .before .before .before .rank-of .result) (l .inv .2) (c .before .before .before .before .before .before .code-end .ensures .0) (c .before .before .before .before .rank-of .ensures) (c .before .before .before .if1 .left) (omega arith) (sym (c .before .comes .ensures) ∙ c .if4 .left),
+    )
+
+returns-4 : tie.Need-returns-4 Inv-loop μ-loop
+unfolding rest
+returns-4 c = sym (c .before .loop .inv .2 ∙ rw (drop-end _ (c .before .loop .at) (c .loop-test .left)))
 
 pub codes-fit-spec : {M : Type 1} → statement M
 codes-fit-spec =
@@ -63,10 +97,15 @@ codes-fit-spec =
     sub-w
     part-w-start
     part-w-end
-    in-list-requires
+    rank-of-requires
     returns
-    comes-requires
+    array-read-if3
     returns-2
+    array-write-seen
     loop-less
     loop-again
-    returns-3)
+    comes-requires
+    returns-3
+    loop-less-2
+    loop-again-2
+    returns-4)

@@ -9,7 +9,6 @@ use Rattle.text.specs.Words.{split}
 use Rattle.kinds.specs.Kinds.{formsOf}
 use Rattle.message.specs.Reading.{spelledFrom}
 use Rattle.message.proofs.Walk.{spelled-short}
-use borrow.Author.Needs.{needs}
 use Rattle.message.proofs.has_room.Statement.{statement}
 use Rattle.message.proofs.has_room.Tie as tie
 

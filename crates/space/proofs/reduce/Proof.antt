@@ -1,6 +1,9 @@
 -- `space::reduce` meets its contract. Assumes nothing.
-use lib.ListN.{length}
-use Prim.Native.Nat.{_-_}
+use Prim.Native.Nat.{_+_, _-_}
+use mathlib.Core.Path.{refl, sym, ap, _∙_}
+use mathlib.Core.Bool.{Bool}
+use lib.ListN.{length, drop, getD}
+use Rattle.space.specs.Reduced.{opens, standsForRun}
 use Rattle.space.proofs.Index.{Reducing, turn-byte, turn-space, turn-out, reducing-starts, reducing-ends}
 use borrow.Author.Needs.{needs}
 use native.Mathlib.Omega.{arith}
@@ -8,12 +11,13 @@ use Rattle.space.proofs.reduce.Statement.{statement}
 use Rattle.space.proofs.reduce.Tie as tie
 
 abbrev Inv-loop : tie.InvT-loop
-Inv-loop msg buf₀ n₀ i₀ after₀ buf n i after = Reducing msg buf₀ buf n i after
+Inv-loop msg buf₀ n₀ i₀ last₀ buf n i last = Reducing msg buf₀ buf n i (opens last)
 
 abbrev μ-loop : tie.MeasureT-loop
-μ-loop msg buf₀ n₀ i₀ after₀ buf n i after = length msg - i
+μ-loop msg buf₀ n₀ i₀ last₀ buf n i last = length msg - i
 
 loop-holds : tie.Need-loop-holds Inv-loop μ-loop
+unfolding opens
 loop-holds c = reducing-starts _ _
 
 shared-slice-read-b : tie.Need-shared-slice-read-b Inv-loop μ-loop
@@ -24,6 +28,9 @@ add-i c = search needs
 
 is-white-requires : tie.Need-is-white-requires Inv-loop μ-loop
 is-white-requires c κs = search needs
+
+is-opening-requires : tie.Need-is-opening-requires Inv-loop μ-loop
+is-opening-requires c κs = search needs
 
 stands-for-run-requires : tie.Need-stands-for-run-requires Inv-loop μ-loop
 stands-for-run-requires c κs = search needs
@@ -39,23 +46,20 @@ loop-less c = search needs
 
 loop-again : tie.Need-loop-again Inv-loop μ-loop
 loop-again c =
-    let p = c .before .before .before .before .before .before in
-    let l = p .loop in
-    let m = p .before .before .before .args .msg .now in
-    turn-space m _ (l .buf) (l .n) (l .i) (l .after) (l .inv) (omega arith) (omega arith) (cc) (cc)
+    let l = c .before .before .before .before .before .before .before .loop in
+    let m = c .before .before .before .before .before .before .before .before .before .before .args .msg .now in
+    let run = ap (λ (a : Bool). standsForRun a (drop (l .i + 1) m)) (sym (c .before .before .is-opening .ensures)) ∙ sym (c .before .stands-for-run .ensures) ∙ c .if2 .taken in
+    turn-space m _ (l .buf) (l .n) (l .i) (opens (l .last)) (l .inv) (omega arith) (omega arith) (cc) run
 
 loop-less-2 : tie.Need-loop-less-2 Inv-loop μ-loop
 loop-less-2 c = search needs
 
 loop-again-2 : tie.Need-loop-again-2 Inv-loop μ-loop
 loop-again-2 c =
-    let p = c .before .before .before .before .before .before in
-    let l = p .loop in
-    let m = p .before .before .before .args .msg .now in
-    turn-out m _ (l .buf) (l .n) (l .i) (l .after) (l .inv) (omega arith) (cc) (cc)
-
-is-opening-requires : tie.Need-is-opening-requires Inv-loop μ-loop
-is-opening-requires c κs = search needs
+    let l = c .before .before .before .before .before .before .before .loop in
+    let m = c .before .before .before .before .before .before .before .before .before .before .args .msg .now in
+    let run = ap (λ (a : Bool). standsForRun a (drop (l .i + 1) m)) (sym (c .before .before .is-opening .ensures)) ∙ sym (c .before .stands-for-run .ensures) ∙ c .if2 .left in
+    turn-out m _ (l .buf) (l .n) (l .i) (opens (l .last)) (l .inv) (omega arith) (cc) run
 
 slice-write-buf-2 : tie.Need-slice-write-buf-2 Inv-loop μ-loop
 slice-write-buf-2 c = search needs
@@ -68,10 +72,9 @@ loop-less-3 c = search needs
 
 loop-again-3 : tie.Need-loop-again-3 Inv-loop μ-loop
 loop-again-3 c =
-    let p = c .before .before .before .before .before in
-    let l = p .loop in
-    let m = p .before .before .before .args .msg .now in
-    turn-byte m _ (l .buf) (l .n) (l .i) (l .after) (l .inv) (omega arith) (omega arith) (cc) (c .is-opening .result) (cc)
+    let l = c .before .before .before .before .loop in
+    let m = c .before .before .before .before .before .before .before .args .msg .now in
+    turn-byte m _ (l .buf) (l .n) (l .i) (opens (l .last)) (l .inv) (omega arith) (omega arith) (cc) (opens (getD m (l .i) 0)) refl
 
 same-length : tie.Need-same-length Inv-loop μ-loop
 same-length c = search needs
@@ -89,6 +92,7 @@ reduce-spec =
     shared-slice-read-b
     add-i
     is-white-requires
+    is-opening-requires
     stands-for-run-requires
     slice-write-buf
     add-n
@@ -96,7 +100,6 @@ reduce-spec =
     loop-again
     loop-less-2
     loop-again-2
-    is-opening-requires
     slice-write-buf-2
     add-n-2
     loop-less-3
