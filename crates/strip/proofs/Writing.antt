@@ -8,12 +8,12 @@ use native.Mathlib.Omega.{arith}
 use native.Mathlib.Numerals.{add-one}
 use lib.Dec.{eqb}
 use lib.ListN.{length, take, drop, getD, set, length-take, length-drop, length-set, length-append}
-use lib.Seq.{getD-drop, getD-set-same, getD-set-other}
+use lib.Seq.{getD-drop, drop-drop, getD-set-same, getD-set-other}
 use borrow.Author.Tests.{ne-eqb}
 use Rattle.text.specs.Words.{Word, split, join, upTo, before, behind}
 use Rattle.text.specs.Places.{Stepped}
 use Rattle.text.specs.Lent.{front}
-use Rattle.text.proofs.Index.{rest}
+use Rattle.text.proofs.Index.{rest, piece}
 use Rattle.text.proofs.Lent.{store, lent}
 use Rattle.space.specs.Hyphens.{behindHyphen}
 use Rattle.supplement.proofs.Turns.{Writing, begin, due, room, onward, all-written}
@@ -46,6 +46,21 @@ next-field plan k at next h step =
       inside = step .inside;
       ahead = step .over ∙ ap (behind 45) (h .ahead) ∙ sym (next-behind k plan) ∙ ap (λ (j : ℕ). behindHyphen j plan) (sym (add-one k));
     }
+
+-- the same, by the field's end
+pub behind-field : (plan : List ℕ) (k at e next : ℕ) → AtField plan k at → e ≡ at + upTo 45 (drop at plan) → next ≤ length plan → drop next plan ≡ drop (suc e) plan
+    → AtField plan (k + 1) next
+behind-field plan k at e next h end l d =
+    let z : suc e ≡ at + suc (upTo 45 (drop at plan)) = omega arith in
+    record {
+      inside = l;
+      ahead =
+          d ∙ ap (λ (i : ℕ). drop i plan) z ∙ sym (drop-drop (suc (upTo 45 (drop at plan))) at plan) ∙ ap (behind 45) (h .ahead) ∙ sym (next-behind k plan)
+          ∙ ap (λ (j : ℕ). behindHyphen j plan) (sym (add-one k));
+    }
+
+pub own-field : (plan : List ℕ) (at e : ℕ) → e ≡ at + upTo 45 (drop at plan) → take (e - at) (drop at plan) ≡ before 45 (drop at plan)
+own-field plan at e end = piece 45 plan at e end
 
 -- field k of the amended plan, from what stands at the cursor
 pub content-at : (t : MessageType) (plan said : List ℕ) (k at : ℕ) (own w : Word) → AtField plan k at → own ≡ before 45 (drop at plan) → w ≡ contentIn t own said k

@@ -3,7 +3,7 @@ ghost use mathlib.Core.Path.{_≡_};
 ghost use mathlib.Core.Bool.{false, _&&_, not};
 ghost use mathlib.Core.Option.{none};
 ghost use mathlib.Core.List.{[], _∷_};
-ghost use Prim.Native.Nat.{_≤_};
+ghost use Prim.Native.Nat.{suc, _≤_};
 ghost use lib.ListN.{length, drop, getD};
 ghost use Rattle.text.specs.Words.{split, same};
 ghost use Rattle.text.specs.Lent.{front};
@@ -258,12 +258,27 @@ fn unexplained_in<'a>(t: MessageType, plan: &'a [u8], said: &'a [u8]) -> u8
     ensures { λ r. ⌜ r ≡ unexplainedIn (amendedOf t (now (plan .entry)) (now (said .entry))) ⌝ }
 {
     let marks = marks_in(said);
+    let nine = force::seek(plan, 3);
+    let thirteen = nine.next(plan, b'-').next(plan, b'-');
+    let sixteen = thirteen.next(plan, b'-').next(plan, b'-');
+    let eighteen = sixteen.next(plan, b'-');
     plan::unexplained_field(
-        content(t, field(plan, 3), said, marks[3], 3),
-        content(t, field(plan, 5), said, marks[5], 5),
-        content(t, field(plan, 7), said, marks[7], 7),
-        content(t, field(plan, 8), said, marks[8], 8),
+        content(t, nine.part(plan, b'-'), said, marks[3], 3),
+        content(t, thirteen.part(plan, b'-'), said, marks[5], 5),
+        content(t, sixteen.part(plan, b'-'), said, marks[7], 7),
+        content(t, eighteen.part(plan, b'-'), said, marks[8], 8),
     )
+}
+
+// The cursor behind a field that ends at e.
+fn behind(plan: &[u8], e: usize) -> Cursor
+    requires { ⌜ e ≤ length (now plan) ⌝ }
+    ensures { λ r. ⌜ (r .at ≤ length (now (plan .entry))) × (drop (r .at) (now (plan .entry)) ≡ drop (suc e) (now (plan .entry))) ⌝ }
+{
+    if e < plan.len() {
+        return Cursor { at: e + 1 };
+    }
+    Cursor { at: e }
 }
 
 // How many bytes the amended plan takes, with the parentheses.
@@ -276,8 +291,10 @@ fn new_length<'a>(t: MessageType, plan: &'a [u8], said: &'a [u8]) -> usize
     let mut c = Cursor { at: 0 };
     let mut k = 0;
     while k < PLAN_FIELDS {
-        n += 1 + content(t, c.part(plan, b'-'), said, marks[k], k).len();
-        c = c.next(plan, b'-');
+        let at = c.at;
+        let e = c.end(plan, b'-');
+        n += 1 + content(t, &plan[at..e], said, marks[k], k).len();
+        c = behind(plan, e);
         k += 1;
     }
     n + 1
@@ -303,9 +320,11 @@ fn write_new<'a>(t: MessageType, plan: &'a [u8], said: &'a [u8], out: &mut [u8])
     let mut c = Cursor { at: 0 };
     let mut k = 0;
     while k < PLAN_FIELDS {
-        let part = content(t, c.part(plan, b'-'), said, marks[k], k);
+        let at = c.at;
+        let e = c.end(plan, b'-');
+        let part = content(t, &plan[at..e], said, marks[k], k);
         o += write_part(message::lead_of(k), part, &mut out[o..]);
-        c = c.next(plan, b'-');
+        c = behind(plan, e);
         k += 1;
     }
     out[o] = b')';
