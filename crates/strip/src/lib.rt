@@ -254,10 +254,10 @@ fn content<'a>(t: MessageType, own: &'a [u8], said: &'a [u8], marked: bool, k: u
 }
 
 // The field that the amended plan leaves unexplained; 0 for none.
-fn unexplained_in<'a>(t: MessageType, plan: &'a [u8], said: &'a [u8]) -> u8
+fn unexplained_in<'a>(t: MessageType, plan: &'a [u8], said: &'a [u8], marks: [bool; 9]) -> u8
+    requires { ⌜ (length marks ≡ 9) × Marks (now said) marks ⌝ }
     ensures { λ r. ⌜ r ≡ unexplainedIn (amendedOf t (now (plan .entry)) (now (said .entry))) ⌝ }
 {
-    let marks = marks_in(said);
     let nine = force::seek(plan, 3);
     let thirteen = nine.next(plan, b'-').next(plan, b'-');
     let sixteen = thirteen.next(plan, b'-').next(plan, b'-');
@@ -282,11 +282,10 @@ fn behind(plan: &[u8], e: usize) -> Cursor
 }
 
 // How many bytes the amended plan takes, with the parentheses.
-fn new_length<'a>(t: MessageType, plan: &'a [u8], said: &'a [u8]) -> usize
-    requires { ⌜ (length (now plan) ≤ 1800) × (length (now said) ≤ 1800) ⌝ }
+fn new_length<'a>(t: MessageType, plan: &'a [u8], said: &'a [u8], marks: [bool; 9]) -> usize
+    requires { ⌜ (length (now plan) ≤ 1800) × (length (now said) ≤ 1800) × (length marks ≡ 9) × Marks (now said) marks ⌝ }
     ensures { λ r. ⌜ r ≡ length (newText t (now (plan .entry)) (now (said .entry))) ⌝ }
 {
-    let marks = marks_in(said);
     let mut n = 0;
     let mut c = Cursor { at: 0 };
     let mut k = 0;
@@ -311,11 +310,16 @@ fn write_part(lead: u8, part: &[u8], out: &mut [u8]) -> usize
 }
 
 // Writes the amended plan at the front of `out`.
-fn write_new<'a>(t: MessageType, plan: &'a [u8], said: &'a [u8], out: &mut [u8]) -> usize
-    requires { ⌜ length (newText t (now plan) (now said)) ≤ length (now out) ⌝ }
+fn write_new<'a>(
+    t: MessageType,
+    plan: &'a [u8],
+    said: &'a [u8],
+    marks: [bool; 9],
+    out: &mut [u8],
+) -> usize
+    requires { ⌜ (length (newText t (now plan) (now said)) ≤ length (now out)) × (length marks ≡ 9) × Marks (now said) marks ⌝ }
     ensures { λ r. ⌜ (r ≡ length (newText t (now (plan .entry)) (now (said .entry)))) × (now (out .exit) ≡ front (newText t (now (plan .entry)) (now (said .entry))) (now (out .entry))) ⌝ }
 {
-    let marks = marks_in(said);
     let mut o = 0;
     let mut c = Cursor { at: 0 };
     let mut k = 0;
@@ -336,7 +340,8 @@ fn amend<'a>(t: MessageType, next: Strip, plan: &'a [u8], said: &'a [u8], out: &
     requires { ⌜ (length (now plan) ≤ 1800) × (length (now said) ≤ 1800) ⌝ }
     ensures { λ r. ⌜ Amends t (next .state) (now (plan .entry)) (now (said .entry)) (now (out .entry)) r (now (out .exit)) ⌝ }
 {
-    let field = unexplained_in(t, plan, said);
+    let marks = marks_in(said);
+    let field = unexplained_in(t, plan, said, marks);
     if field != 0 {
         return Updated::Refused {
             number: 10,
@@ -344,7 +349,7 @@ fn amend<'a>(t: MessageType, next: Strip, plan: &'a [u8], said: &'a [u8], out: &
             place: 0,
         };
     }
-    let due = new_length(t, plan, said);
+    let due = new_length(t, plan, said, marks);
     if MOST_BYTES < due {
         return Updated::Refused {
             number: 16,
@@ -359,7 +364,7 @@ fn amend<'a>(t: MessageType, next: Strip, plan: &'a [u8], said: &'a [u8], out: &
             place: 0,
         };
     }
-    let n = write_new(t, plan, said, out);
+    let n = write_new(t, plan, said, marks, out);
     Updated::Accepted(next, n)
 }
 

@@ -14,9 +14,6 @@ Inv-loop t plan said marks n₀ c₀ k₀ n c k = Counting t plan said n k × At
 abbrev μ-loop : tie.MeasureT-loop
 μ-loop t plan said marks n₀ c₀ k₀ n c k = 9 - k
 
-marks-in-requires : tie.Need-marks-in-requires Inv-loop μ-loop
-marks-in-requires c κs = search needs
-
 loop-holds : tie.Need-loop-holds Inv-loop μ-loop
 loop-holds c = (counting-starts _ _ _, first-field _)
 
@@ -33,21 +30,21 @@ part-content-end : tie.Need-part-content-end Inv-loop μ-loop
 part-content-end c = search needs
 
 array-read-content : tie.Need-array-read-content Inv-loop μ-loop
-array-read-content c = omega (arith, c .before .before .loop-test .taken, c .before .before .before .before .marks-in .ensures .0)
+array-read-content c = omega (arith, c .before .before .loop-test .taken, c .before .before .before .before .before .before .pre .2)
 
 content-requires : tie.Need-content-requires Inv-loop μ-loop
-content-requires c κs = c .before .before .before .before .marks-in .ensures .1 (c .before .before .before .loop .k)
+content-requires c κs = c .before .before .before .before .before .before .pre .3 (c .before .before .before .loop .k)
 
 add-n : tie.Need-add-n Inv-loop μ-loop
 add-n c =
-    let p = c .before .before .before .before .before .before .before .before in
+    let p = c .before .before .before .before .before .before .before in
     let l = c .before .before .before .before .loop in
     let w = content-at (p .args .t) (p .args .plan .now) (p .args .said .now) (l .k) (l .c .at) _ _ (l .inv .1) (own-field (p .args .plan .now) (l .c .at) (c .before .before .end .result) (c .before .before .end .ensures .0)) (c .content .ensures) in
     omega (arith, ap length w, content-short (p .args .t) (p .args .plan .now) (p .args .said .now) (l .k) 1800 (p .pre .0) (p .pre .1))
 
 add-n-2 : tie.Need-add-n-2 Inv-loop μ-loop
 add-n-2 c =
-    let p = c .before .before .before .before .before .before .before .before in
+    let p = c .before .before .before .before .before .before .before in
     let l = c .before .before .before .before .loop in
     let w = content-at (p .args .t) (p .args .plan .now) (p .args .said .now) (l .k) (l .c .at) _ _ (l .inv .1) (own-field (p .args .plan .now) (l .c .at) (c .before .before .end .result) (c .before .before .end .ensures .0)) (c .content .ensures) in
     omega (arith, ap length w, content-short (p .args .t) (p .args .plan .now) (p .args .said .now) (l .k) 1800 (p .pre .0) (p .pre .1), l .inv .0 .few, l .inv .0 .nine)
@@ -63,7 +60,7 @@ loop-less c = search needs
 
 loop-again : tie.Need-loop-again Inv-loop μ-loop
 loop-again c =
-    let p = c .before .before .before .before .before .before .before .before .before in
+    let p = c .before .before .before .before .before .before .before .before in
     let l = c .before .before .before .before .before .loop in
     let f = c .before .before .before .end in
     let w = content-at (p .args .t) (p .args .plan .now) (p .args .said .now) (l .k) (l .c .at) _ _ (l .inv .1) (own-field (p .args .plan .now) (l .c .at) (f .result) (f .ensures .0)) (c .before .content .ensures) in
@@ -73,7 +70,7 @@ add-result : tie.Need-add-result Inv-loop μ-loop
 add-result c = omega (arith, c .before .loop .inv .0 .few, c .before .loop .inv .0 .nine)
 
 returns : tie.Need-returns Inv-loop μ-loop
-returns c = let p = c .before .before .before .before .before in let l = c .before .loop in counting-done (p .args .t) (p .args .plan .now) (p .args .said .now) (l .n) (l .k) (l .inv .0) (c .loop-test .left)
+returns c = let p = c .before .before .before .before in let l = c .before .loop in counting-done (p .args .t) (p .args .plan .now) (p .args .said .now) (l .n) (l .k) (l .inv .0) (c .loop-test .left)
 
 pub new-length-spec : {M : Type 1} → statement M
 new-length-spec =
@@ -81,7 +78,6 @@ new-length-spec =
     (tie.spec
     Inv-loop
     μ-loop
-    marks-in-requires
     loop-holds
     end-requires
     sub-content

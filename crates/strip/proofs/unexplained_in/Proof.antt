@@ -2,12 +2,10 @@
 use mathlib.Core.Path.{_∙_}
 use Rattle.strip.proofs.Steps.{unexplained-are}
 use Rattle.strip.proofs.Writing.{AtField, next-field, content-at}
+use native.Mathlib.Omega.{arith}
 use borrow.Author.Needs.{needs}
 use Rattle.strip.proofs.unexplained_in.Statement.{statement}
 use Rattle.strip.proofs.unexplained_in.Tie as tie
-
-marks-in-requires : tie.Need-marks-in-requires
-marks-in-requires c κs = search needs
 
 seek-requires : tie.Need-seek-requires
 seek-requires c κs = search needs
@@ -31,44 +29,44 @@ part-requires : tie.Need-part-requires
 part-requires c κs = search needs
 
 array-read-content : tie.Need-array-read-content
-array-read-content c = search needs
+array-read-content c = omega (arith, c .before .before .before .before .before .before .before .before .before .pre .0)
 
 content-requires : tie.Need-content-requires
-content-requires c κs = c .before .before .before .before .before .before .before .marks-in .ensures .1 3
+content-requires c κs = c .before .before .before .before .before .before .before .before .before .pre .1 3
 
 part-requires-2 : tie.Need-part-requires-2
 part-requires-2 c κs = search needs
 
 array-read-content-2 : tie.Need-array-read-content-2
-array-read-content-2 c = search needs
+array-read-content-2 c = omega (arith, c .before .before .before .before .before .before .before .before .before .before .before .pre .0)
 
 content-requires-2 : tie.Need-content-requires-2
-content-requires-2 c κs = c .before .before .before .before .before .before .before .before .before .marks-in .ensures .1 5
+content-requires-2 c κs = c .before .before .before .before .before .before .before .before .before .before .before .pre .1 5
 
 part-requires-3 : tie.Need-part-requires-3
 part-requires-3 c κs = search needs
 
 array-read-content-3 : tie.Need-array-read-content-3
-array-read-content-3 c = search needs
+array-read-content-3 c = omega (arith, c .before .before .before .before .before .before .before .before .before .before .before .before .before .pre .0)
 
 content-requires-3 : tie.Need-content-requires-3
-content-requires-3 c κs = c .before .before .before .before .before .before .before .before .before .before .before .marks-in .ensures .1 7
+content-requires-3 c κs = c .before .before .before .before .before .before .before .before .before .before .before .before .before .pre .1 7
 
 part-requires-4 : tie.Need-part-requires-4
 part-requires-4 c κs = search needs
 
 array-read-content-4 : tie.Need-array-read-content-4
-array-read-content-4 c = search needs
+array-read-content-4 c = omega (arith, c .before .before .before .before .before .before .before .before .before .before .before .before .before .before .before .pre .0)
 
 content-requires-4 : tie.Need-content-requires-4
-content-requires-4 c κs = c .before .before .before .before .before .before .before .before .before .before .before .before .before .marks-in .ensures .1 8
+content-requires-4 c κs = c .before .before .before .before .before .before .before .before .before .before .before .before .before .before .before .pre .1 8
 
 unexplained-field-requires : tie.Need-unexplained-field-requires
 unexplained-field-requires c κs = search needs
 
 returns : tie.Need-returns
 returns c =
-    let a = c .before .before .before .before .before .before .before .before .before .before .before .before .before .before .before .before .before .before .args in
+    let a = c .before .before .before .before .before .before .before .before .before .before .before .before .before .before .before .before .before .args in
     let p = a .plan .now in
     let s = c .before .before .before .before .before .before .before .before .before .before .before .before .before .before .seek in
     let at3 : AtField p 3 (s .result .at) = record { inside = s .ensures .0; ahead = s .ensures .1 } in
@@ -88,7 +86,6 @@ pub unexplained-in-spec : {M : Type 1} → statement M
 unexplained-in-spec =
     tie.close
     (tie.spec
-    marks-in-requires
     seek-requires
     next-requires
     next-requires-2

@@ -13,11 +13,8 @@ Inv-loop t plan said out₀ marks o₀ c₀ k₀ out o c k = Amending t plan sai
 abbrev μ-loop : tie.MeasureT-loop
 μ-loop t plan said out₀ marks o₀ c₀ k₀ out o c k = 9 - k
 
-marks-in-requires : tie.Need-marks-in-requires Inv-loop μ-loop
-marks-in-requires c κs = search needs
-
 loop-holds : tie.Need-loop-holds Inv-loop μ-loop
-loop-holds c = let a = c .before .before .before .before in (amending-starts (a .args .t) (a .args .plan .now) (a .args .said .now) (a .args .out .now) (a .pre), first-field _)
+loop-holds c = let a = c .before .before .before in (amending-starts (a .args .t) (a .args .plan .now) (a .args .said .now) (a .args .out .now) (a .pre .0), first-field _)
 
 end-requires : tie.Need-end-requires Inv-loop μ-loop
 end-requires c κs = c .before .loop .inv .1 .inside
@@ -32,10 +29,10 @@ part-content-end : tie.Need-part-content-end Inv-loop μ-loop
 part-content-end c = search needs
 
 array-read-content : tie.Need-array-read-content Inv-loop μ-loop
-array-read-content c = omega (arith, c .before .before .loop-test .taken, c .before .before .before .before .marks-in .ensures .0)
+array-read-content c = omega (arith, c .before .before .loop-test .taken, c .before .before .before .before .before .before .before .pre .1)
 
 content-requires : tie.Need-content-requires Inv-loop μ-loop
-content-requires c κs = c .before .before .before .before .marks-in .ensures .1 (c .before .before .before .loop .k)
+content-requires c κs = c .before .before .before .before .before .before .before .pre .2 (c .before .before .before .loop .k)
 
 lead-of-requires : tie.Need-lead-of-requires Inv-loop μ-loop
 lead-of-requires c κs = search needs
@@ -51,7 +48,7 @@ part-write-part-end c = search needs
 
 write-part-requires : tie.Need-write-part-requires Inv-loop μ-loop
 write-part-requires c κs =
-    let a = c .before .before .before .before .before .before .before .before .before .before .before .args in
+    let a = c .before .before .before .before .before .before .before .before .before .before .args in
     let l = c .before .before .before .before .before .before .loop in
     let f = c .before .before .before .before .end in
     let w = content-at (a .t) (a .plan .now) (a .said .now) (l .k) (l .c .at) _ _ (l .inv .1) (own-field (a .plan .now) (l .c .at) (f .result) (f .ensures .0)) (c .before .before .content .ensures) in
@@ -59,11 +56,11 @@ write-part-requires c κs =
 
 add-o : tie.Need-add-o Inv-loop μ-loop
 add-o c =
-    let a = c .before .before .before .before .before .before .before .before .before .before .before .before .before .before .args in
+    let a = c .before .before .before .before .before .before .before .before .before .before .before .before .before .args in
     let l = c .before .before .before .before .before .before .before .before .before .loop in
     let f = c .before .before .before .before .before .before .before .end in
     let w = content-at (a .t) (a .plan .now) (a .said .now) (l .k) (l .c .at) _ _ (l .inv .1) (own-field (a .plan .now) (l .c .at) (f .result) (f .ensures .0)) (c .before .before .before .before .before .content .ensures) in
-    omega (arith, turn-room (a .t) (a .plan .now) (a .said .now) (a .out .now) (l .out) (l .o) (l .k) (l .inv .0) (c .before .before .before .before .before .before .before .before .loop-test .taken) _ _ (c .before .before .before .before .lead-of .ensures) w, c .before .before .write-part .ensures .0, l .inv .0 .enough, c .before .before .before .before .before .before .before .before .before .before .before .before .before .before .good)
+    omega (arith, turn-room (a .t) (a .plan .now) (a .said .now) (a .out .now) (l .out) (l .o) (l .k) (l .inv .0) (c .before .before .before .before .before .before .before .before .loop-test .taken) _ _ (c .before .before .before .before .lead-of .ensures) w, c .before .before .write-part .ensures .0, l .inv .0 .enough, c .before .before .before .before .before .before .before .before .before .before .before .before .before .good)
 
 behind-requires : tie.Need-behind-requires Inv-loop μ-loop
 behind-requires c κs = c .before .before .before .before .before .before .before .end .ensures .1 .1
@@ -76,7 +73,7 @@ loop-less c = search needs
 
 loop-again : tie.Need-loop-again Inv-loop μ-loop
 loop-again c =
-    let a = c .before .before .before .before .before .before .before .before .before .before .before .before .before .before .before .args in
+    let a = c .before .before .before .before .before .before .before .before .before .before .before .before .before .before .args in
     let l = c .before .before .before .before .before .before .before .before .before .before .loop in
     let f = c .before .before .before .before .before .before .before .before .end in
     let p = c .before .before .before .write-part in
@@ -84,16 +81,16 @@ loop-again c =
     (rw (p .ensures .0) (turn-next (a .t) (a .plan .now) (a .said .now) (a .out .now) (l .out) (l .o) (l .k) (l .inv .0) (c .before .before .before .before .before .before .before .before .before .loop-test .taken) _ _ (c .before .before .before .before .before .lead-of .ensures) w _ (p .ensures .1) (c .before .before .out .given .1)), behind-field (a .plan .now) (l .k) (l .c .at) (f .result) _ (l .inv .1) (f .ensures .0) (c .behind .ensures .0) (c .behind .ensures .1))
 
 slice-write-out : tie.Need-slice-write-out Inv-loop μ-loop
-slice-write-out c = let a = c .before .before .before .before .before .before .args in let l = c .before .loop in last-room (a .t) (a .plan .now) (a .said .now) (a .out .now) (l .out) (l .o) (l .k) (l .inv .0) (c .loop-test .left)
+slice-write-out c = let a = c .before .before .before .before .before .args in let l = c .before .loop in last-room (a .t) (a .plan .now) (a .said .now) (a .out .now) (l .out) (l .o) (l .k) (l .inv .0) (c .loop-test .left)
 
 add-result : tie.Need-add-result Inv-loop μ-loop
-add-result c = let a = c .before .before .before .before .before .before .args in let l = c .before .loop in omega (arith, last-long (a .t) (a .plan .now) (a .said .now) (a .out .now) (l .out) (l .o) (l .k) (l .inv .0) (c .loop-test .left), l .inv .0 .enough, c .before .before .before .before .before .before .good)
+add-result c = let a = c .before .before .before .before .before .args in let l = c .before .loop in omega (arith, last-long (a .t) (a .plan .now) (a .said .now) (a .out .now) (l .out) (l .o) (l .k) (l .inv .0) (c .loop-test .left), l .inv .0 .enough, c .before .before .before .before .before .good)
 
 same-length : tie.Need-same-length Inv-loop μ-loop
 same-length c = simp length-set (c .before .loop .inv .0 .long)
 
 returns : tie.Need-returns Inv-loop μ-loop
-returns c = let a = c .before .before .before .before .before .before .args in let l = c .before .loop in (last-long (a .t) (a .plan .now) (a .said .now) (a .out .now) (l .out) (l .o) (l .k) (l .inv .0) (c .loop-test .left), last-written (a .t) (a .plan .now) (a .said .now) (a .out .now) (l .out) (l .o) (l .k) (l .inv .0) (c .loop-test .left))
+returns c = let a = c .before .before .before .before .before .args in let l = c .before .loop in (last-long (a .t) (a .plan .now) (a .said .now) (a .out .now) (l .out) (l .o) (l .k) (l .inv .0) (c .loop-test .left), last-written (a .t) (a .plan .now) (a .said .now) (a .out .now) (l .out) (l .o) (l .k) (l .inv .0) (c .loop-test .left))
 
 pub write-new-spec : {M : Type 1} → statement M
 write-new-spec =
@@ -101,7 +98,6 @@ write-new-spec =
     (tie.spec
     Inv-loop
     μ-loop
-    marks-in-requires
     loop-holds
     end-requires
     sub-content
