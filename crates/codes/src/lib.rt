@@ -3,7 +3,7 @@ ghost use mathlib.Core.Path.{_≡_};
 ghost use Prim.Native.Nat.{ℕ, _-_, _≤_, _<_};
 ghost use mathlib.Core.List.{_∷_};
 ghost use lib.ListN.{length, take, drop};
-ghost use Rattle.text.specs.Words.{split, elem};
+ghost use Rattle.text.specs.Words.{elem, cells};
 ghost use Rattle.codes.specs.Codes.{codes, codesFit};
 
 // Where the code that begins at `at` ends: behind the digit that follows it, if there is one.
@@ -37,10 +37,10 @@ fn comes(w: &[u8], s: &[u8], from: usize) -> bool
     false
 }
 
-// Whether each code is in the list, whose codes have one space between them, and none comes twice. `seen` marks the ranks of the
+// Whether each code is in the list, in cells of two bytes, and none comes twice. `seen` marks the ranks of the
 // codes before; a code of a higher rank is looked for among those behind it.
 pub fn codes_fit(list: &[u8], s: &[u8]) -> bool
-    ensures { λ r. ⌜ r ≡ codesFit (split 32 (now (list .entry))) (codes (now (s .entry))) ⌝ }
+    ensures { λ r. ⌜ r ≡ codesFit (cells 2 (now (list .entry))) (codes (now (s .entry))) ⌝ }
 {
     let mut seen = [false; 64];
     let mut at = 0;
@@ -48,7 +48,7 @@ pub fn codes_fit(list: &[u8], s: &[u8]) -> bool
         let e = code_end(s, at);
         let w = &s[at..e];
         at = e;
-        let rank = text::rank_of(w, list);
+        let rank = text::rank_in_cells(w, 2, list);
         if rank == 0 {
             return false;
         }

@@ -8,7 +8,7 @@ use lib.Dec.{leb}
 use lib.ListN.{length, length-append}
 use Rattle.alphabet.specs.Text.{bytes}
 use Rattle.alphabet.specs.Alphabet.{sign}
-use Rattle.text.specs.Words.{Word, split, holds, all, null, same, tidyByte, tidy}
+use Rattle.text.specs.Words.{Word, holds, all, null, same, tidyByte, tidy}
 use Rattle.text.proofs.Tests.{both, and-both, all-imp, all-append, same-eq}
 use Rattle.text.proofs.Joined.{seam, holds-seam, before-seam, behind-seam}
 use Rattle.text.proofs.Tidy.{sign-tidy, tidy-word, tidy-one, oblique-tidy}
@@ -46,9 +46,9 @@ module _ (e : Edition) (a : sound e ≡ true) where
   good : (r : Field10) → valid10 e r ≡ true → Good (r .left) × Good (r .right)
   unfolding sound valid10
   good r v =
-      let k = both (soundList (split 32 (e .left))) (soundList (split 32 (e .right))) a in
-      let h = both (sideFits (split 32 (e .left)) (e .most-left) (r .left)) (sideFits (split 32 (e .right)) (e .most-right) (r .right)) v in
-      (good-side (split 32 (e .left)) (e .most-left) (k .0) (r .left) (h .0), good-side (split 32 (e .right)) (e .most-right) (k .1) (r .right) (h .1))
+      let k = both (soundList (e .left)) (soundList (e .right)) a in
+      let h = both (sideFits (e .left) (e .most-left) (r .left)) (sideFits (e .right) (e .most-right) (r .right)) v in
+      (good-side (e .left) (e .most-left) (k .0) (r .left) (h .0), good-side (e .right) (e .most-right) (k .1) (r .right) (h .1))
 
   -- THE FACTS
 

@@ -11,7 +11,7 @@ use lib.Arith.{lt-of-le-ne}
 use borrow.Author.Tests.{lt-ltb, le-ltb}
 use Rattle.alphabet.specs.Text.{bytes}
 use Rattle.alphabet.specs.Alphabet.{digit}
-use Rattle.text.specs.Words.{Word, split, upTo, same}
+use Rattle.text.specs.Words.{Word, upTo, same}
 use Rattle.codes.specs.Codes.{codes, codesFit}
 use Rattle.codes.proofs.Laws.{concat-codes, null-codes, some-codes}
 use Rattle.equipment.specs.Field10.{Edition, onlyN, sideFits, valid10, fits10}
@@ -50,7 +50,7 @@ module _ (e : Edition) (s : List ℕ) (o : ℕ) (found : o ≡ 0 + upTo 47 s) wh
 
   pub at-oblique : (o ≡ length s → ⊥) → o ≤ length s
       → fits10 e s
-      ≡ (sideFits (split 32 (e .left)) (e .most-left) (codes (take o s))
-      && sideFits (split 32 (e .right)) (e .most-right) (codes (drop (o + 1) s)))
+      ≡ (sideFits (e .left) (e .most-left) (codes (take o s))
+      && sideFits (e .right) (e .most-right) (codes (drop (o + 1) s)))
   unfolding fits10 valid10
   at-oblique ne le = rw (← at-o, lt-ltb o (length s) (lt-of-le-ne le ne), add-one o)

@@ -7,7 +7,7 @@ use native.Mathlib.Omega.{arith}
 use lib.Dec.{leb}
 use lib.ListN.{length, length-append}
 use borrow.Author.Tests.{le-leb, not-true}
-use Rattle.text.specs.Words.{Word, split, null, same, elem}
+use Rattle.text.specs.Words.{Word, null, same, elem}
 use Rattle.text.proofs.Tests.{both, same-eq, same-self, and-false}
 use Rattle.codes.specs.Codes.{concat, codesFit}
 use Rattle.equipment.specs.Field10.{present, onlyN, sideFits}
@@ -83,10 +83,10 @@ no-limit list most l ws = go (codesFit list ws) refl
 
 -- THE PRESENT EDITION, left of the oblique
 
-all-left : length (concat (split 32 (present .left))) ≡ present .most-left
+all-left : length (concat (present .left)) ≡ present .most-left
 unfolding present
 all-left = refl
 
 pub left-unlimited : (ws : List Word)
-    → sideFits (split 32 (present .left)) (present .most-left) ws ≡ (onlyN ws || (not (null ws) && codesFit (split 32 (present .left)) ws))
-left-unlimited ws = no-limit (split 32 (present .left)) (present .most-left) (omega (arith, all-left)) ws
+    → sideFits (present .left) (present .most-left) ws ≡ (onlyN ws || (not (null ws) && codesFit (present .left) ws))
+left-unlimited ws = no-limit (present .left) (present .most-left) (omega (arith, all-left)) ws

@@ -12,29 +12,29 @@ use Rattle.text.specs.Words.{Word, split, holds, before, behind, all, null, sam
 use Rattle.codes.specs.Codes.{codes, concat, codesFit, shaped}
 use Rattle.shape.specs.Field.{Field}
 
--- AN EDITION: the codes of each side, with one space between them, and how many bytes a side may have
+-- AN EDITION: the codes of each side, and how many bytes a side may have
 
 pub record Edition : Type 0 where
-  pub left : List ℕ
+  pub left : List Word
   pub most-left : ℕ
-  pub right : List ℕ
+  pub right : List Word
   pub most-right : ℕ
 
-abbrev pub edition : List ℕ → ℕ → List ℕ → ℕ → Edition
+abbrev pub edition : List Word → ℕ → List Word → ℕ → Edition
 edition l m r n = record { left = l; most-left = m; right = r; most-right = n }
 
 unfoldable pub present : Edition
 present =
     edition
-    (bytes "A B C D E1 E2 E3 F G H I J1 J2 J3 J4 J5 J6 J7 K L M1 M2 M3 O P1 P2 P3 P4 P5 P6 P7 P8 P9 R S T U V W X Y Z") 64
-    (bytes "A C E H I L P S X B1 B2 U1 U2 V1 V2 D1 G1") 20
+    (split 32 (bytes "A B C D E1 E2 E3 F G H I J1 J2 J3 J4 J5 J6 J7 K L M1 M2 M3 O P1 P2 P3 P4 P5 P6 P7 P8 P9 R S T U V W X Y Z")) 64
+    (split 32 (bytes "A C E H I L P S X B1 B2 U1 U2 V1 V2 D1 G1")) 20
 
 -- a list is sound where each code is of signs and can be cut out again
 abbrev pub soundList : List Word → Bool
 soundList list = all shaped list && all (all sign) list
 
 unfoldable pub sound : Edition → Bool
-sound e = soundList (split 32 (e .left)) && soundList (split 32 (e .right))
+sound e = soundList (e .left) && soundList (e .right)
 
 -- THE RECORD: the codes of each side, in the order sent; N alone is the one code N
 
@@ -52,8 +52,8 @@ sideFits list most ws = onlyN ws || (not (null ws) && (leb (length (concat ws)) 
 
 unfoldable pub valid10 : Edition → Field10 → Bool
 valid10 e r =
-    sideFits (split 32 (e .left)) (e .most-left) (r .left)
-    && sideFits (split 32 (e .right)) (e .most-right) (r .right)
+    sideFits (e .left) (e .most-left) (r .left)
+    && sideFits (e .right) (e .most-right) (r .right)
 
 abbrev pub spell10 : Field10 → List ℕ
 spell10 r = concat (r .left) ++ (47 ∷ concat (r .right))

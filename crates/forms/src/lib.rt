@@ -14,7 +14,7 @@ fn rank_of_entry(s: &[u8]) -> usize
     ensures { λ r. ⌜ (r ≡ whichOf (now (s .entry))) × (r ≤ 8) ⌝ }
 {
     let o = text::find(s, 0, b'/');
-    text::rank_of(&s[..o], b"7 8 9 10 13 15 16 18")
+    text::rank_in_cells(&s[..o], 2, b"7 8 9 1013151618")
 }
 
 // Whether a content fits the form of the number of rank k.

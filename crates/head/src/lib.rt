@@ -92,9 +92,10 @@ pub fn fits_field3(s: &[u8]) -> bool
     if s.len() < 3 {
         return false;
     }
-    if !text::in_list(
+    if !text::in_cells(
         &s[..3],
-        b"FPL CHG CNL DLA DEP ARR RQP RQS SPL ALR RCF CPL EST CDN ACP LAM",
+        4,
+        b"FPL CHG CNL DLA DEP ARR RQP RQS SPL ALR RCF CPL EST CDN ACP LAM ",
     ) {
         return false;
     }

@@ -239,9 +239,10 @@ fn type_ranked(k: usize) -> Named
 pub fn type_named(three: &[u8]) -> Named
     ensures { λ r. ⌜ r ≡ typeNamed (now (three .entry)) ⌝ }
 {
-    let k = text::rank_of(
+    let k = text::rank_in_cells(
         three,
-        b"FPL CHG CNL DLA DEP ARR RQP RQS SPL ALR RCF CPL EST CDN ACP LAM",
+        4,
+        b"FPL CHG CNL DLA DEP ARR RQP RQS SPL ALR RCF CPL EST CDN ACP LAM ",
     );
     type_ranked(k)
 }

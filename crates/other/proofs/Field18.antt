@@ -74,12 +74,12 @@ some-grouped (w ∷ ws) h e = go (holds 47 w) refl e
 
 -- IN AN EDITION whose keys are signs
 
-module _ (ed : Edition) (named : all (all sign) (split 32 (ed .keys)) ≡ true) where
+module _ (ed : Edition) (named : all (all sign) (ed .keys) ≡ true) where
   key-signs : (last : ℕ) (key : Word) → ltb last (rankIn ed key) ≡ true → all sign key ≡ true
   key-signs last key e =
       let h : last < rankIn ed key = ltb-true last (rankIn ed key) e in
-      of-elem (all sign) (split 32 (ed .keys)) named key
-      (sym (rank-elem 1 key (split 32 (ed .keys)) (omega arith)) ∙ ap not (ne-eqb (rankIn ed key) 0 (λ q. omega arith)))
+      of-elem (all sign) (ed .keys) named key
+      (sym (rank-elem 1 key (ed .keys) (omega arith)) ∙ ap not (ne-eqb (rankIn ed key) 0 (λ q. omega arith)))
 
   record Fit (last : ℕ) (i : Item) (is : List Item) : Type 0 where
     behind-last : last < rankIn ed (i .key)
@@ -193,7 +193,7 @@ module _ (ed : Edition) (named : all (all sign) (split 32 (ed .keys)) ≡ true) 
 
 -- IN THE EDITION OF DOCUMENT 01
 
-pub base-named : all (all sign) (split 32 (base .keys)) ≡ true
+pub base-named : all (all sign) (base .keys) ≡ true
 unfolding base
 base-named = refl
 

@@ -92,13 +92,13 @@ single Free = false
 abbrev pub moreFits : Rule → Word → Bool
 moreFits r w = not (single r) && wordFits r w
 
--- AN EDITION: its keys in their order, one space between them, and a letter for each key's rule
+-- AN EDITION: its keys in their order, and a letter for each key's rule
 
 pub record Edition : Type 0 where
-  pub keys : List ℕ
+  pub keys : List Word
   pub rules : List ℕ
 
-abbrev pub edition : List ℕ → List ℕ → Edition
+abbrev pub edition : List Word → List ℕ → Edition
 edition ks rs = record { keys = ks; rules = rs }
 
 -- the rule that a letter stands for
@@ -114,7 +114,7 @@ ruleOf b =
 
 -- the place of a key, counted from 1; 0 where the edition has no such key
 abbrev pub rankIn : Edition → Word → ℕ
-rankIn ed key = rank key (split 32 (ed .keys))
+rankIn ed key = rank key (ed .keys)
 
 -- the rule of the key at that place
 abbrev pub ruleIn : Edition → ℕ → Rule
@@ -124,7 +124,7 @@ ruleIn ed k = ruleOf (getD (ed .rules) (k - 1) 0)
 unfoldable pub base : Edition
 base =
     edition
-    (bytes "STS PBN NAV COM DAT SUR DEP DEST DOF REG EET SEL TYP CODE DLE OPR ORGN PER ALTN RALT TALT RIF RMK")
+    (split 32 (bytes "STS PBN NAV COM DAT SUR DEP DEST DOF REG EET SEL TYP CODE DLE OPR ORGN PER ALTN RALT TALT RIF RMK"))
     (bytes "SP......D.EL.HE........")
 
 -- EXAMPLES, computed
@@ -137,7 +137,7 @@ ruled-keys : (ruled (bytes "STS") ≡ Status) × (ruled (bytes "PBN") ≡ Approv
 unfolding base
 ruled-keys = (refl, refl, refl, refl, refl, refl, refl, refl)
 
-as-many : length (base .rules) ≡ length (split 32 (base .keys))
+as-many : length (base .rules) ≡ length (base .keys)
 unfolding base
 as-many = refl
 

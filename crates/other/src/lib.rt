@@ -3,7 +3,7 @@ ghost use mathlib.Core.Path.{_≡_};
 ghost use Prim.Native.Nat.{ℕ, _+_, _-_, _≤_, _<_};
 ghost use lib.ListN.{length, take, drop, getD};
 ghost use Rattle.alphabet.specs.Alphabet.{oneOf};
-ghost use Rattle.text.specs.Words.{split, after, all, elem};
+ghost use Rattle.text.specs.Words.{split, after, all, elem, cells};
 ghost use Rattle.other.specs.Rules.{statuses, approved, daysIn, date, timed, selcal, address, wordFits, single, moreFits, ruleOf, edition};
 ghost use Rattle.other.specs.Field18.{fitFrom, fitMore, fitsIn, fits18, hasKey, wordsOf, wordsFrom, Found};
 
@@ -32,10 +32,7 @@ fn is_status(w: &[u8]) -> bool
 fn is_approved(w: &[u8]) -> bool
     ensures { λ r. ⌜ r ≡ approved (now (w .entry)) ⌝ }
 {
-    if !codes::codes_fit(
-        b"A1 B1 B2 B3 B4 B5 B6 C1 C2 C3 C4 D1 D2 D3 D4 L1 O1 O2 O3 O4 S1 S2 T1 T2",
-        w,
-    ) {
+    if !codes::codes_fit(b"A1B1B2B3B4B5B6C1C2C3C4D1D2D3D4L1O1O2O3O4S1S2T1T2", w) {
         return false;
     }
     if w.len() < 1 {
@@ -192,7 +189,7 @@ fn rule_at(rules: &[u8], k: usize) -> Rule
 // The item that begins at `at`, its key behind the one at place `last`, with all that follows it.
 fn item(keys: &[u8], rules: &[u8], s: &[u8], at: usize, last: usize) -> bool
     requires { ⌜ at ≤ length (now s) ⌝ }
-    ensures { λ r. ⌜ r ≡ fitFrom (edition (now (keys .entry)) (now (rules .entry))) last (split 32 (drop at (now (s .entry)))) ⌝ }
+    ensures { λ r. ⌜ r ≡ fitFrom (edition (cells 4 (now (keys .entry))) (now (rules .entry))) last (split 32 (drop at (now (s .entry)))) ⌝ }
 {
     let e = text::find(s, at, b' ');
     let w = &s[at..e];
@@ -200,7 +197,7 @@ fn item(keys: &[u8], rules: &[u8], s: &[u8], at: usize, last: usize) -> bool
     if o == w.len() {
         return false;
     }
-    let k = text::rank_of(&w[..o], keys);
+    let k = text::rank_in_cells(&w[..o], 4, keys);
     if k <= last {
         return false;
     }
@@ -213,7 +210,7 @@ fn item(keys: &[u8], rules: &[u8], s: &[u8], at: usize, last: usize) -> bool
 // What follows a word that ends at `end`, in an item of the key at place k: its further words, and the items behind it.
 fn words(keys: &[u8], rules: &[u8], s: &[u8], end: usize, k: usize) -> bool
     requires { ⌜ (end ≤ length (now s)) × (0 < k) ⌝ }
-    ensures { λ r. ⌜ r ≡ fitMore (edition (now (keys .entry)) (now (rules .entry))) k (after 32 (drop end (now (s .entry)))) ⌝ }
+    ensures { λ r. ⌜ r ≡ fitMore (edition (cells 4 (now (keys .entry))) (now (rules .entry))) k (after 32 (drop end (now (s .entry)))) ⌝ }
 {
     if end == s.len() {
         return true;
@@ -230,9 +227,9 @@ fn words(keys: &[u8], rules: &[u8], s: &[u8], end: usize, k: usize) -> bool
     words(keys, rules, s, e, k)
 }
 
-// Whether a content fits the form in an edition: its keys, and a letter for each key's rule.
+// Whether a content fits the form in an edition: its keys, in cells of four bytes, and a letter for each key's rule.
 fn fits_edition(keys: &[u8], rules: &[u8], s: &[u8]) -> bool
-    ensures { λ r. ⌜ r ≡ fitsIn (edition (now (keys .entry)) (now (rules .entry))) (now (s .entry)) ⌝ }
+    ensures { λ r. ⌜ r ≡ fitsIn (edition (cells 4 (now (keys .entry))) (now (rules .entry))) (now (s .entry)) ⌝ }
 {
     if text::same_bytes(s, b"0") {
         return true;
@@ -245,7 +242,7 @@ pub fn fits_field18(s: &[u8]) -> bool
     ensures { λ r. ⌜ r ≡ fits18 (now (s .entry)) ⌝ }
 {
     fits_edition(
-        b"STS PBN NAV COM DAT SUR DEP DEST DOF REG EET SEL TYP CODE DLE OPR ORGN PER ALTN RALT TALT RIF RMK",
+        b"STS PBN NAV COM DAT SUR DEP DESTDOF REG EET SEL TYP CODEDLE OPR ORGNPER ALTNRALTTALTRIF RMK ",
         b"SP......D.EL.HE........",
         s,
     )

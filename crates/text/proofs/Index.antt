@@ -1,6 +1,6 @@
 -- What ties the definitions, which go by structure, to code that walks an index: of each, where it stops, the next step and the end.
 -- Assumes nothing.
-use Prim.Native.Nat.{ℕ, suc, _+_, _-_, _<_, _≤_}
+use Prim.Native.Nat.{ℕ, zero, suc, _+_, _-_, _<_, _≤_}
 use mathlib.Core.Path.{_≡_, refl, sym, ap, _∙_}
 use mathlib.Core.Bool.{Bool, true, false, cond}
 use mathlib.Core.List.{List, [], _∷_}
@@ -10,8 +10,8 @@ use lib.Dec.{eqb}
 use lib.ListN.{length, take, drop, getD, drop-of-length-le, length-drop}
 use lib.Seq.{drop-cons, drop-drop, take-all}
 use lib.Arith.{lt-of-le-ne}
-use borrow.Author.Tests.{eq-eqb, ne-eqb, lt-ltb, le-ltb}
-use Rattle.text.specs.Words.{Word, split, onto, after, upTo, holds, before, behind, all, null, same, rankFrom}
+use borrow.Author.Tests.{eq-eqb, ne-eqb, lt-ltb, le-ltb, le-leb, lt-leb}
+use Rattle.text.specs.Words.{Word, split, onto, after, upTo, holds, before, behind, all, null, same, rankFrom, firstCells, cells}
 use Rattle.text.specs.Places.{Stepped}
 
 pub drop-here : (s : List ℕ) (i : ℕ) → i < length s → drop i s ≡ getD s i 0 ∷ drop (i + 1) s
@@ -143,3 +143,56 @@ module _ (k : ℕ) (w : Word) (s : List ℕ) (at e : ℕ) (end : e ≡ at + upTo
   pub rank-next : same w (take (e - at) (drop at s)) ≡ false → e < length s
       → rankFrom k w (split 32 (drop at s)) ≡ rankFrom (k + 1) w (split 32 (drop (e + 1) s))
   rank-next h l = rw (split-at 32 s at e end, h, after-here 32 s e l, add-one k)
+
+-- A WORD IN A LIST IN CELLS
+
+pub first-none : (w : Word) (d : ℕ) → length w ≡ 0 → getD w 0 d ≡ d
+first-none [] d e = refl
+first-none (x ∷ w) d e = absurd (omega arith)
+
+pub first-some : (w : Word) (d : ℕ) → (length w ≡ 0 → ⊥) → getD w 0 0 ≡ getD w 0 d
+first-some [] d n = absurd (n refl)
+first-some (x ∷ w) d n = refl
+
+-- a cell that begins otherwise does not hold the word
+pub other-cell : (w cell : Word) → 0 < length cell → (getD cell 0 0 ≡ getD w 0 32 → ⊥) → same w (before 32 cell) ≡ false
+other-cell w [] h n = absurd (omega arith)
+other-cell [] (c ∷ cell) h n = rw (ne-eqb c 32 n)
+other-cell (x ∷ w) (c ∷ cell) h n = go (eqb c 32)
+  where
+    go : (t : Bool) → same (x ∷ w) (take (cond t 0 (suc (upTo 32 cell))) (c ∷ cell)) ≡ false
+    go true = refl
+    go false = rw (ne-eqb x c (λ e. n (sym e)))
+
+-- the words of the cells from the k-th on, which begins at `at`
+abbrev pub cellsFrom : ℕ → ℕ → ℕ → List ℕ → List Word
+cellsFrom k n at s = firstCells (length s + 1 - k) n (drop at s)
+
+pub all-cells : (n : ℕ) (s : List ℕ) → cells n s ≡ cellsFrom 1 n 0 s
+all-cells n s = let m : length s ≡ length s + 1 - 1 = omega arith in ap (λ (m : ℕ). firstCells m n s) m
+
+module _ (k n at : ℕ) (w : Word) (s : List ℕ) where
+  -- whether the cell here, as Rattle says it of `&s[at..at + n]`, holds the word
+  abbrev held : Bool
+  held = same w (before 32 (take (at + n - at) (drop at s)))
+
+  cell-here : k ≤ length s → n ≤ length s - at
+      → cellsFrom k n at s ≡ before 32 (take (at + n - at) (drop at s)) ∷ cellsFrom (k + 1) n (at + n) s
+  cell-here h l =
+      let m : length s + 1 - k ≡ suc (length s + 1 - (k + 1)) = omega arith in
+      let w : at + n - at ≡ n = omega arith in
+      rw (m, w, length-drop, le-leb n (length s - at) l, drop-drop n at s)
+
+  pub cell-found : k ≤ length s → n ≤ length s - at → held ≡ true → rankFrom k w (cellsFrom k n at s) ≡ k
+  cell-found h l e = rw (cell-here h l, e)
+
+  pub cell-next : k ≤ length s → n ≤ length s - at → held ≡ false
+      → rankFrom k w (cellsFrom k n at s) ≡ rankFrom (k + 1) w (cellsFrom (k + 1) n (at + n) s)
+  cell-next h l e = rw (cell-here h l, e, add-one k)
+
+  pub no-cell : length s - at < n → rankFrom k w (cellsFrom k n at s) ≡ 0
+  no-cell l = go (length s + 1 - k)
+    where
+      go : (m : ℕ) → rankFrom k w (firstCells m n (drop at s)) ≡ 0
+      go zero = refl
+      go (suc m) = rw (length-drop, lt-leb n (length s - at) l)

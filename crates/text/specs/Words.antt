@@ -1,9 +1,9 @@
 -- Cutting and joining: a text is cut at a byte and joined again, a word is looked for in a list of words. Assumes nothing.
-use Prim.Native.Nat.{ℕ, suc}
+use Prim.Native.Nat.{ℕ, zero, suc}
 use mathlib.Core.Path.{_≡_, refl}
 use mathlib.Core.Bool.{Bool, true, false, _&&_, _||_, not, cond}
 use mathlib.Core.List.{List, [], _∷_, _++_}
-use lib.Dec.{ltb, eqb}
+use lib.Dec.{leb, ltb, eqb}
 use lib.ListN.{length, take, drop}
 use Rattle.alphabet.specs.Text.{bytes}
 use Rattle.alphabet.specs.Alphabet.{text, inAlphabet, white}
@@ -85,6 +85,16 @@ rankFrom k w (v ∷ vs) = cond (same w v) k (rankFrom (suc k) w vs)
 abbrev pub rank : Word → List Word → ℕ
 rank w vs = rankFrom 1 w vs
 
+-- A LIST IN CELLS of n bytes, each of them a word filled up with spaces
+
+-- the words of at most m cells
+abbrev pub firstCells : ℕ → ℕ → List ℕ → List Word
+firstCells zero n s = []
+firstCells (suc m) n s = cond (leb n (length s)) (before 32 (take n s) ∷ firstCells m n (drop n s)) []
+
+abbrev pub cells : ℕ → List ℕ → List Word
+cells n s = firstCells (length s) n s
+
 -- A TEXT WORD: one or more bytes of the alphabet, other than white space and ( ) - /
 
 abbrev pub textWord : Word → Bool
@@ -114,6 +124,9 @@ oblique-cut = (refl, refl)
 
 ranked : (rank (bytes "DOF") (split 32 (bytes "STS DOF RMK")) ≡ 2) × (rank (bytes "DO") (split 32 (bytes "STS DOF RMK")) ≡ 0)
 ranked = (refl, refl)
+
+in-cells : cells 2 (bytes "A E1S ") ≡ split 32 (bytes "A E1 S")
+in-cells = refl
 
 text-words : (textWord (bytes "B.1") ≡ true) × (textWord (bytes "") ≡ false) × (textWord (bytes "A B") ≡ false) × (textWord (bytes "A/B") ≡ false)
 unfolding text inAlphabet white

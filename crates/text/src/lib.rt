@@ -1,8 +1,8 @@
 // Cutting, comparing and copying bytes.
 ghost use mathlib.Core.Path.{_≡_};
-ghost use Prim.Native.Nat.{ℕ, _+_, _≤_};
-ghost use lib.ListN.{length, drop};
-ghost use Rattle.text.specs.Words.{split, upTo, before, all, textWord, same, elem, rank};
+ghost use Prim.Native.Nat.{ℕ, _+_, _≤_, _<_};
+ghost use lib.ListN.{length, drop, getD};
+ghost use Rattle.text.specs.Words.{split, upTo, before, all, textWord, same, elem, rank, cells};
 ghost use Rattle.text.specs.Kinds.{ofKind};
 ghost use Rattle.text.specs.Places.{Stepped};
 ghost use Rattle.text.specs.Lent.{front};
@@ -108,6 +108,51 @@ pub fn in_list(w: &[u8], list: &[u8]) -> bool
     ensures { λ r. ⌜ r ≡ elem (now (w .entry)) (split 32 (now (list .entry))) ⌝ }
 {
     rank_of(w, list) != 0
+}
+
+// What a cell that holds w begins with.
+fn first_in_cell(w: &[u8]) -> u8
+    ensures { λ r. ⌜ r ≡ getD (now (w .entry)) 0 32 ⌝ }
+{
+    if w.len() == 0 { b' ' } else { w[0] }
+}
+
+// Whether a cell holds w, filled up with spaces. Most that do not are known by their first byte.
+fn in_cell(w: &[u8], cell: &[u8]) -> bool
+    requires { ⌜ 0 < length (now cell) ⌝ }
+    ensures { λ r. ⌜ r ≡ same (now (w .entry)) (before 32 (now (cell .entry))) ⌝ }
+{
+    if cell[0] != first_in_cell(w) {
+        return false;
+    }
+    let e = find(cell, 0, b' ');
+    same_bytes(w, &cell[..e])
+}
+
+// The place of w in a list in cells of so many bytes, counted from 1; 0 where it has none.
+pub fn rank_in_cells(w: &[u8], width: usize, list: &[u8]) -> usize
+    requires { ⌜ 0 < width ⌝ }
+    ensures { λ r. ⌜ r ≡ rank (now (w .entry)) (cells width (now (list .entry))) ⌝ }
+{
+    let mut at = 0;
+    let mut k = 1;
+    while width <= list.len() - at {
+        let e = at + width;
+        if in_cell(w, &list[at..e]) {
+            return k;
+        }
+        at = e;
+        k += 1;
+    }
+    0
+}
+
+// Whether w is one of the words of a list in cells of so many bytes.
+pub fn in_cells(w: &[u8], width: usize, list: &[u8]) -> bool
+    requires { ⌜ 0 < width ⌝ }
+    ensures { λ r. ⌜ r ≡ elem (now (w .entry)) (cells width (now (list .entry))) ⌝ }
+{
+    rank_in_cells(w, width, list) != 0
 }
 
 // A place in a text. Its pieces end at a byte c: words at the space, fields at the hyphen.

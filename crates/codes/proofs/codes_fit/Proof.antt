@@ -3,7 +3,7 @@ use Prim.Native.Nat.{_-_, _≤_}
 use mathlib.Core.Path.{_≡_, refl, sym, _∙_}
 use native.Mathlib.Omega.{arith}
 use lib.ListN.{length, drop, length-set}
-use Rattle.text.specs.Words.{split}
+use Rattle.text.specs.Words.{cells}
 use Rattle.text.proofs.Index.{drop-end}
 use Rattle.codes.specs.Codes.{codes, codesFit}
 use Rattle.codes.proofs.Marks.{rest, rest-starts, not-listed, seen-before, marked, comes-again, comes-once}
@@ -12,7 +12,7 @@ use Rattle.codes.proofs.codes_fit.Statement.{statement}
 use Rattle.codes.proofs.codes_fit.Tie as tie
 
 abbrev Inv-loop : tie.InvT-loop
-Inv-loop list s seen₀ at₀ seen at = (at ≤ length s) × (length seen ≡ 64) × (codesFit (split 32 list) (codes s) ≡ rest seen (split 32 list) (codes (drop at s)))
+Inv-loop list s seen₀ at₀ seen at = (at ≤ length s) × (length seen ≡ 64) × (codesFit (cells 2 list) (codes s) ≡ rest seen (cells 2 list) (codes (drop at s)))
 
 abbrev μ-loop : tie.MeasureT-loop
 μ-loop list s seen₀ at₀ seen at = length s - at
@@ -32,13 +32,13 @@ part-w-start c = search needs
 part-w-end : tie.Need-part-w-end Inv-loop μ-loop
 part-w-end c = search needs
 
-rank-of-requires : tie.Need-rank-of-requires Inv-loop μ-loop
-rank-of-requires c κs = search needs
+rank-in-cells-requires : tie.Need-rank-in-cells-requires Inv-loop μ-loop
+rank-in-cells-requires c κs = search needs
 
 returns : tie.Need-returns Inv-loop μ-loop
 returns c =
     let l = c .before .before .before .before .before .loop in
-    not-listed _ (l .seen) _ _ _ _ (c .before .rank-of .result) (l .inv .2) (c .before .before .before .code-end .ensures .0) (c .before .rank-of .ensures) (c .if1 .taken)
+    not-listed _ (l .seen) _ _ _ _ (c .before .rank-in-cells .result) (l .inv .2) (c .before .before .before .code-end .ensures .0) (c .before .rank-in-cells .ensures) (c .if1 .taken)
 
 array-read-if3 : tie.Need-array-read-if3 Inv-loop μ-loop
 array-read-if3 c = search needs
@@ -46,7 +46,7 @@ array-read-if3 c = search needs
 returns-2 : tie.Need-returns-2 Inv-loop μ-loop
 returns-2 c =
     let l = c .before .before .before .before .before .before .before .loop in
-    seen-before _ (l .seen) _ _ _ _ (c .before .before .before .rank-of .result) (l .inv .2) (c .before .before .before .before .before .code-end .ensures .0) (c .before .before .before .rank-of .ensures) (c .if3 .taken)
+    seen-before _ (l .seen) _ _ _ _ (c .before .before .before .rank-in-cells .result) (l .inv .2) (c .before .before .before .before .before .code-end .ensures .0) (c .before .before .before .rank-in-cells .ensures) (c .if3 .taken)
 
 array-write-seen : tie.Need-array-write-seen Inv-loop μ-loop
 array-write-seen c = search needs
@@ -57,10 +57,10 @@ loop-less c = search needs
 loop-again : tie.Need-loop-again Inv-loop μ-loop
 loop-again c =
     let l = c .before .before .before .before .before .before .before .loop in
-    let r = c .before .before .before .rank-of .result in (
+    let r = c .before .before .before .rank-in-cells .result in (
       search needs,
       length-set (l .seen) r _ ∙ l .inv .1,
-      marked _ (l .seen) _ _ _ _ r (l .inv .2) (c .before .before .before .before .before .code-end .ensures .0) (c .before .before .before .rank-of .ensures) (c .before .before .if1 .left) (omega arith) (c .if3 .left),
+      marked _ (l .seen) _ _ _ _ r (l .inv .2) (c .before .before .before .before .before .code-end .ensures .0) (c .before .before .before .rank-in-cells .ensures) (c .before .before .if1 .left) (omega arith) (c .if3 .left),
     )
 
 comes-requires : tie.Need-comes-requires Inv-loop μ-loop
@@ -69,7 +69,7 @@ comes-requires c κs = search needs
 returns-3 : tie.Need-returns-3 Inv-loop μ-loop
 returns-3 c =
     let l = c .before .before .before .before .before .before .before .before .loop in
-    comes-again _ (l .seen) _ _ _ _ (c .before .before .before .before .rank-of .result) (l .inv .2) (c .before .before .before .before .before .before .code-end .ensures .0) (c .before .before .before .before .rank-of .ensures) (c .before .before .before .if1 .left) (sym (c .before .comes .ensures) ∙ c .if4 .taken)
+    comes-again _ (l .seen) _ _ _ _ (c .before .before .before .before .rank-in-cells .result) (l .inv .2) (c .before .before .before .before .before .before .code-end .ensures .0) (c .before .before .before .before .rank-in-cells .ensures) (c .before .before .before .if1 .left) (sym (c .before .comes .ensures) ∙ c .if4 .taken)
 
 loop-less-2 : tie.Need-loop-less-2 Inv-loop μ-loop
 loop-less-2 c = search needs
@@ -79,7 +79,7 @@ loop-again-2 c =
     let l = c .before .before .before .before .before .before .before .before .loop in (
       search needs,
       l .inv .1,
-      comes-once _ (l .seen) _ _ _ _ (c .before .before .before .before .rank-of .result) (l .inv .2) (c .before .before .before .before .before .before .code-end .ensures .0) (c .before .before .before .before .rank-of .ensures) (c .before .before .before .if1 .left) (omega arith) (sym (c .before .comes .ensures) ∙ c .if4 .left),
+      comes-once _ (l .seen) _ _ _ _ (c .before .before .before .before .rank-in-cells .result) (l .inv .2) (c .before .before .before .before .before .before .code-end .ensures .0) (c .before .before .before .before .rank-in-cells .ensures) (c .before .before .before .if1 .left) (omega arith) (sym (c .before .comes .ensures) ∙ c .if4 .left),
     )
 
 returns-4 : tie.Need-returns-4 Inv-loop μ-loop
@@ -97,7 +97,7 @@ codes-fit-spec =
     sub-w
     part-w-start
     part-w-end
-    rank-of-requires
+    rank-in-cells-requires
     returns
     array-read-if3
     returns-2

@@ -2,6 +2,7 @@
 use mathlib.Core.Path.{sym, _∙_}
 use borrow.Author.Tests.{not-true, not-false}
 use lib.Seq.{length-take-le}
+use Rattle.text.specs.Words.{cells}
 use Rattle.text.proofs.Index.{rest}
 use Rattle.equipment.specs.Field10.{edition}
 use Rattle.equipment.proofs.Laws.{no-oblique, at-oblique}
@@ -15,7 +16,7 @@ find-requires c κs = search needs
 returns : tie.Need-returns
 returns c =
     let a = c .before .before .before .before .before .args in
-    let e = edition (a .left .now) (a .most-left) (a .right .now) (a .most-right) in
+    let e = edition (cells 2 (a .left .now)) (a .most-left) (cells 2 (a .right .now)) (a .most-right) in
     sym (no-oblique e (a .s .now) (c .before .find .result) (c .before .find .ensures .0) (c .if1 .taken))
 
 slice-aggregate-side : tie.Need-slice-aggregate-side
@@ -27,7 +28,7 @@ side-requires c κs = search needs
 returns-2 : tie.Need-returns-2
 returns-2 c =
     let a = c .before .before .before .before .before .before .before .before .args in
-    let e = edition (a .left .now) (a .most-left) (a .right .now) (a .most-right) in
+    let e = edition (cells 2 (a .left .now)) (a .most-left) (cells 2 (a .right .now)) (a .most-right) in
     let f = c .before .before .before .before .find in
     rw (
       at-oblique e (a .s .now) (f .result) (f .ensures .0) (c .before .before .before .if1 .left) (f .ensures .1 .1),
@@ -52,7 +53,7 @@ side-requires-2 c κs = search needs
 returns-3 : tie.Need-returns-3
 returns-3 c =
     let a = c .before .before .before .before .before .before .before .before .before .before .args in
-    let e = edition (a .left .now) (a .most-left) (a .right .now) (a .most-right) in
+    let e = edition (cells 2 (a .left .now)) (a .most-left) (cells 2 (a .right .now)) (a .most-right) in
     let f = c .before .before .before .before .before .before .find in
     rw (
       at-oblique e (a .s .now) (f .result) (f .ensures .0) (c .before .before .before .before .before .if1 .left) (f .ensures .1 .1),

@@ -14,18 +14,18 @@ use Rattle.head.proofs.fits_field3.Tie as tie
 returns : tie.Need-returns
 returns c = sym (no-type-content (c .before .before .args .s .now) (c .if1 .taken))
 
-slice-aggregate-in-list : tie.Need-slice-aggregate-in-list
-slice-aggregate-in-list c = sym (length-take-le 3 (c .before .before .before .args .s .now) (omega arith))
+slice-aggregate-in-cells : tie.Need-slice-aggregate-in-cells
+slice-aggregate-in-cells c = sym (length-take-le 3 (c .before .before .before .args .s .now) (omega arith))
 
-slice-aggregate-in-list-2 : tie.Need-slice-aggregate-in-list-2
-slice-aggregate-in-list-2 c = search needs
+slice-aggregate-in-cells-2 : tie.Need-slice-aggregate-in-cells-2
+slice-aggregate-in-cells-2 c = search needs
 
-in-list-requires : tie.Need-in-list-requires
-in-list-requires c κs = search needs
+in-cells-requires : tie.Need-in-cells-requires
+in-cells-requires c κs = search needs
 
 returns-2 : tie.Need-returns-2
 unfolding types
-returns-2 c = sym (type-not (c .before .before .before .before .before .before .args .s .now) (sym (c .before .in-list .ensures) ∙ not-true _ (c .if2 .taken)))
+returns-2 c = sym (type-not (c .before .before .before .before .before .before .args .s .now) (sym (c .before .in-cells .ensures) ∙ not-true _ (c .if2 .taken)))
 
 sub-are-numbers : tie.Need-sub-are-numbers
 sub-are-numbers c = search needs
@@ -43,16 +43,16 @@ returns-3 : tie.Need-returns-3
 unfolding types
 returns-3 c =
     let s = c .before .before .before .before .before .before .before .before .args .s .now in
-    rw rest at (c .are-numbers .ensures) ∙ sym (type-is s (sym (c .before .before .before .in-list .ensures) ∙ not-false _ (c .before .before .if2 .left)))
+    rw rest at (c .are-numbers .ensures) ∙ sym (type-is s (sym (c .before .before .before .in-cells .ensures) ∙ not-false _ (c .before .before .if2 .left)))
 
 pub fits-field3-spec : {M : Type 1} → statement M
 fits-field3-spec =
     tie.close
     (tie.spec
     returns
-    slice-aggregate-in-list
-    slice-aggregate-in-list-2
-    in-list-requires
+    slice-aggregate-in-cells
+    slice-aggregate-in-cells-2
+    in-cells-requires
     returns-2
     sub-are-numbers
     part-are-numbers-start

@@ -6,19 +6,19 @@ use borrow.Author.Needs.{needs}
 use Rattle.kinds.proofs.type_named.Statement.{statement}
 use Rattle.kinds.proofs.type_named.Tie as tie
 
-slice-aggregate-rank-of : tie.Need-slice-aggregate-rank-of
-slice-aggregate-rank-of c = search needs
+slice-aggregate-rank-in-cells : tie.Need-slice-aggregate-rank-in-cells
+slice-aggregate-rank-in-cells c = search needs
 
-rank-of-requires : tie.Need-rank-of-requires
-rank-of-requires c κs = search needs
+rank-in-cells-requires : tie.Need-rank-in-cells-requires
+rank-in-cells-requires c κs = search needs
 
 type-ranked-requires : tie.Need-type-ranked-requires
 type-ranked-requires c κs = search needs
 
 returns : tie.Need-returns
 unfolding typeNamed types
-returns c = c .type-ranked .ensures ∙ ap typeRanked (c .before .rank-of .ensures)
+returns c = c .type-ranked .ensures ∙ ap typeRanked (c .before .rank-in-cells .ensures)
 
 pub type-named-spec : {M : Type 1} → statement M
 type-named-spec =
-    tie.close (tie.spec slice-aggregate-rank-of rank-of-requires type-ranked-requires returns)
+    tie.close (tie.spec slice-aggregate-rank-in-cells rank-in-cells-requires type-ranked-requires returns)

@@ -5,7 +5,7 @@ use mathlib.Core.List.{List}
 use lib.Dec.{ltb}
 use lib.Seq.{length-take-le}
 use borrow.Author.Tests.{lt-ltb, le-ltb, not-true, not-false}
-use Rattle.text.specs.Words.{split, after}
+use Rattle.text.specs.Words.{split, after, cells}
 use Rattle.text.proofs.Index.{after-here, after-end, rest}
 use Rattle.other.specs.Rules.{Edition, edition, ruleIn, wordFits, moreFits}
 use Rattle.other.specs.Field18.{fitFrom, fitMore}
@@ -26,7 +26,7 @@ use Rattle.other.proofs.more_fits.Reads as more-fits-reads
 use Rattle.other.proofs.rule_at.Reads as rule-at-reads
 use Rattle.other.proofs.word_fits.Reads as word-fits-reads
 use Rattle.text.proofs.find.Reads as find-reads
-use Rattle.text.proofs.rank_of.Reads as rank-of-reads
+use Rattle.text.proofs.rank_in_cells.Reads as rank-in-cells-reads
 use Rattle.other.proofs.+item+words.{statement}
 use Rattle.other.proofs.+item+words.Tie.{close}
 
@@ -52,8 +52,8 @@ abbrev item-calls : ℕ → item-lts.Claims
 item-calls t = (
   find-reads.Asked,
   find-reads.Learnt,
-  rank-of-reads.Asked,
-  rank-of-reads.Learnt,
+  rank-in-cells-reads.Asked,
+  rank-in-cells-reads.Learnt,
   rule-at-reads.Asked,
   rule-at-reads.Learnt,
   word-fits-reads.Asked,
@@ -77,12 +77,12 @@ words-calls t = (
 )
 
 -- what the definition says where `item` has found the key, and where `words` has read a word
-module _ (t : ℕ) (c : item-lts.After-rank-of (item-calls t) (item-given t) item.Post) where
+module _ (t : ℕ) (c : item-lts.After-rank-in-cells (item-calls t) (item-given t) item.Post) where
   abbrev item-args : item-lts.Args (item-calls t) (item-given t) item.Post (c .before .before .before .before .before .before .before .before .before .κs)
   item-args = c .before .before .before .before .before .before .before .before .before .args
 
   abbrev item-edition : Edition
-  item-edition = edition (item-args .keys .now) (item-args .rules .now)
+  item-edition = edition (cells 4 (item-args .keys .now)) (item-args .rules .now)
 
   abbrev item-end : ℕ
   item-end = c .before .before .before .before .before .find .result
@@ -94,21 +94,21 @@ module _ (t : ℕ) (c : item-lts.After-rank-of (item-calls t) (item-given t) ite
   item-word = take (item-end - item-args .at) (drop (item-args .at) (item-args .s .now))
 
   item-known : fitFrom item-edition (item-args .last) (split 32 (drop (item-args .at) (item-args .s .now)))
-      ≡ (ltb (item-args .last) (c .rank-of .result)
-      && (wordFits (ruleIn item-edition (c .rank-of .result)) (drop (item-cut + 1) item-word)
-      && fitMore item-edition (c .rank-of .result) (after 32 (drop item-end (item-args .s .now)))))
+      ≡ (ltb (item-args .last) (c .rank-in-cells .result)
+      && (wordFits (ruleIn item-edition (c .rank-in-cells .result)) (drop (item-cut + 1) item-word)
+      && fitMore item-edition (c .rank-in-cells .result) (after 32 (drop item-end (item-args .s .now)))))
   item-known =
       let f = c .before .before .before .before .before .find in
       let g = c .before .before .before .find2 in
-      item-here (item-args .s .now) (item-args .at) item-end (f .ensures .0) item-cut (g .ensures .0) item-edition (item-args .last) (c .rank-of .result)
-      (c .before .before .if1 .left) (g .ensures .1 .1) (c .rank-of .ensures)
+      item-here (item-args .s .now) (item-args .at) item-end (f .ensures .0) item-cut (g .ensures .0) item-edition (item-args .last) (c .rank-in-cells .result)
+      (c .before .before .if1 .left) (g .ensures .1 .1) (c .rank-in-cells .ensures)
 
 module _ (t : ℕ) (c : words-lts.Else2 (words-calls t) (words-given t) words.Post) where
   abbrev words-args : words-lts.Args (words-calls t) (words-given t) words.Post (c .before .before .before .before .before .before .before .before .κs)
   words-args = c .before .before .before .before .before .before .before .before .args
 
   abbrev words-edition : Edition
-  words-edition = edition (words-args .keys .now) (words-args .rules .now)
+  words-edition = edition (cells 4 (words-args .keys .now)) (words-args .rules .now)
 
   abbrev words-end : ℕ
   words-end = c .before .before .before .find .result
@@ -146,14 +146,14 @@ item-returns t c =
     let a = c .before .before .before .before .before .before .before .args in
     let f = c .before .before .before .find in
     let g = c .before .find2 in
-    let ed = edition (a .keys .now) (a .rules .now) in
+    let ed = edition (cells 4 (a .keys .now)) (a .rules .now) in
     sym (item-plain (a .s .now) (a .at) (f .result) (f .ensures .0) (g .result) (g .ensures .0) ed (a .last) (c .if1 .taken))
 
-item-slice-aggregate-rank-of : (t : ℕ) → item-lts.Need-slice-aggregate-rank-of (item-calls t) (item-given t) item.Post
-item-slice-aggregate-rank-of t c = sym (length-take-le _ _ (c .before .before .find2 .ensures .1 .1))
+item-slice-aggregate-rank-in-cells : (t : ℕ) → item-lts.Need-slice-aggregate-rank-in-cells (item-calls t) (item-given t) item.Post
+item-slice-aggregate-rank-in-cells t c = sym (length-take-le _ _ (c .before .before .find2 .ensures .1 .1))
 
-item-rank-of-requires : (t : ℕ) → item-lts.Need-rank-of-requires (item-calls t) (item-given t) item.Post
-item-rank-of-requires t c κs = search needs
+item-rank-in-cells-requires : (t : ℕ) → item-lts.Need-rank-in-cells-requires (item-calls t) (item-given t) item.Post
+item-rank-in-cells-requires t c κs = search needs
 
 item-returns-2 : (t : ℕ) → item-lts.Need-returns-2 (item-calls t) (item-given t) item.Post
 item-returns-2 t c = rw (item-known t (c .before), le-ltb _ _ (c .if2 .taken))
@@ -227,7 +227,7 @@ words-returns-2 t c =
     let a = c .before .before .before .before .before .before .before .before .before .args in
     let f = c .before .before .before .before .find in
     let g = c .before .before .find2 in
-    let ed = edition (a .keys .now) (a .rules .now) in
+    let ed = edition (cells 4 (a .keys .now)) (a .rules .now) in
     rw (
       after-here 32 (a .s .now) (a .end) (omega arith),
       words-item (a .s .now) (a .end + 1) (f .result) (f .ensures .0) (g .result) (g .ensures .0) ed (a .k) (c .before .if2 .taken),
@@ -263,8 +263,8 @@ pub +item+words-spec : {M : Type 1} → statement M
     (item-part-w-end t)
     (item-find-requires-2 t)
     (item-returns t)
-    (item-slice-aggregate-rank-of t)
-    (item-rank-of-requires t)
+    (item-slice-aggregate-rank-in-cells t)
+    (item-rank-in-cells-requires t)
     (item-returns-2 t)
     (item-rule-at-requires t)
     (item-add-word-fits t)
