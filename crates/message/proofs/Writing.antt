@@ -30,13 +30,19 @@ pub record Writing (t : MessageType) (n : ℕ) (s out₀ out : List ℕ) (o at j
   pub left : drop o (whole t n s) ≡ spelledFrom (leadOf j) (drop j (formsOf t n)) (split 45 (drop at s))
   pub written : out ≡ take o (whole t n s) ++ drop o out₀
 
-pub writing-starts : (t : MessageType) (n : ℕ) (s out : List ℕ) → length (whole t n s) ≤ length out → length (formsOf t n) ≡ length (split 45 s) → Writing t n s out out 0 0 0
+pub writing-starts : (t : MessageType) (n : ℕ) (s out : List ℕ) → length (whole t n s) ≤ length out
+    → length (formsOf t n) ≡ length (split 45 s) → Writing t n s out out 0 0 0
 writing-starts t n s out room even =
     record { inside = omega arith; few = omega arith; even = even; room = room; long = refl; within = omega arith; left = refl; written = refl }
 
--- a turn: the byte `lead` and what is written of the content of form f
-module _ (t : MessageType) (n : ℕ) (s out₀ out : List ℕ) (o at j e : ℕ) (w : Writing t n s out₀ out o at j) (end : e ≡ at + upTo 45 (drop at s))
-    (lead : ℕ) (f : Form) (is-lead : lead ≡ leadOf j) (is-form : f ≡ formAt t n j) where
+-- a turn: the field ends at e, and the byte `lead` and what is written of its content by form f are due
+pub record Turn (t : MessageType) (n : ℕ) (s out₀ out : List ℕ) (o at j e lead : ℕ) (f : Form) : Type 0 where
+  pub so-far : Writing t n s out₀ out o at j
+  pub end : e ≡ at + upTo 45 (drop at s)
+  pub is-lead : lead ≡ leadOf j
+  pub is-form : f ≡ formAt t n j
+
+module _ {t : MessageType} {n : ℕ} {s out₀ out : List ℕ} {o at j e lead : ℕ} {f : Form} (u : Turn t n s out₀ out o at j e lead f) where
   abbrev pub due : List ℕ
   due = lead ∷ writtenOf f (take (e - at) (drop at s))
 
@@ -45,49 +51,49 @@ module _ (t : MessageType) (n : ℕ) (s out₀ out : List ℕ) (o at j e : ℕ) 
 
   cut : drop o (whole t n s) ≡ due ++ behind-due
   cut =
-      w .left ∙ spelled-turn t n s at j e end (w .even)
-      ∙ ap₂ (λ (b : ℕ) (g : Form). (b ∷ writtenOf g (take (e - at) (drop at s))) ++ behind-due) (sym is-lead) (sym is-form)
+      u .so-far .left ∙ spelled-turn t n s at j e (u .end) (u .so-far .even)
+      ∙ ap₂ (λ (b : ℕ) (g : Form). (b ∷ writtenOf g (take (e - at) (drop at s))) ++ behind-due) (sym (u .is-lead)) (sym (u .is-form))
 
   pub turn-room : o + length due + length behind-due ≡ length (whole t n s)
-  turn-room = next-fits (whole t n s) out₀ out o (w .written) (w .within) due behind-due cut
+  turn-room = next-fits (whole t n s) out₀ out o (u .so-far .written) (u .so-far .within) due behind-due cut
 
   -- the rest that is lent has room for it
   pub turn-fits : length due ≤ length (take (length out - o) (drop o out))
-  turn-fits = omega (arith, turn-room, ap length (rest out o), length-drop o out, w .long, w .room)
+  turn-fits = omega (arith, turn-room, ap length (rest out o), length-drop o out, u .so-far .long, u .so-far .room)
 
-  module _ (ys : List ℕ) (wrote : ys ≡ front due (take (length out - o) (drop o out))) where
+  module _ {ys : List ℕ} (wrote : ys ≡ front due (take (length out - o) (drop o out))) where
     abbrev pub output : List ℕ
     output = take o out ++ (ys ++ drop (length out - o) (drop o out))
 
     now-written : output ≡ take (o + length due) (whole t n s) ++ drop (o + length due) out₀
-    now-written = lent out due o ys wrote ∙ next-out (whole t n s) out₀ out o (w .written) (w .within) due behind-due cut
+    now-written = lent out due o ys wrote ∙ next-out (whole t n s) out₀ out o (u .so-far .written) (u .so-far .within) due behind-due cut
 
     now-left : drop (o + length due) (whole t n s) ≡ behind-due
-    now-left = next-rest (whole t n s) out₀ out o (w .written) (w .within) due behind-due cut
+    now-left = next-rest (whole t n s) out₀ out o (u .so-far .written) (u .so-far .within) due behind-due cut
 
     pub turn-next : e < length s → length output ≡ length out → Writing t n s out₀ output (o + length due) (e + 1) (j + 1)
     turn-next h l =
         record {
           inside = omega arith;
-          few = omega (arith, w .few);
-          even = even-next t n s at j e end (w .even) h;
-          room = w .room;
-          long = l ∙ w .long;
+          few = omega (arith, u .so-far .few);
+          even = even-next t n s at j e (u .end) (u .so-far .even) h;
+          room = u .so-far .room;
+          long = l ∙ u .so-far .long;
           within = omega (arith, turn-room);
-          left = now-left ∙ spelled-next t n s at j e end (w .even) h;
+          left = now-left ∙ spelled-next t n s at j e (u .end) (u .so-far .even) h;
           written = now-written;
         }
 
     -- behind the last field the parenthesis is left
     module _ (h : length s ≤ e) (l : length output ≡ length out) where
       last-cut : drop (o + length due) (whole t n s) ≡ (41 ∷ []) ++ []
-      last-cut = now-left ∙ spelled-last t n s at j e end (w .even) h
+      last-cut = now-left ∙ spelled-last t n s at j e (u .end) (u .so-far .even) h
 
       pub last-long : o + length due + 1 ≡ length (whole t n s)
-      last-long = omega (arith, turn-room, ap length (spelled-last t n s at j e end (w .even) h))
+      last-long = omega (arith, turn-room, ap length (spelled-last t n s at j e (u .end) (u .so-far .even) h))
 
       pub last-room : o + length due < length output
-      last-room = omega (arith, last-long, l, w .long, w .room)
+      last-room = omega (arith, last-long, l, u .so-far .long, u .so-far .room)
 
       pub last-written : set output (o + length due) 41 ≡ front (whole t n s) out₀
       last-written =

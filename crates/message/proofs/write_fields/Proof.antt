@@ -2,7 +2,7 @@
 use Prim.Native.Nat.{_-_}
 use mathlib.Core.Path.{_∙_}
 use lib.ListN.{length, length-set}
-use Rattle.message.proofs.Writing.{Writing, writing-starts, turn-room, turn-fits, turn-next, last-long, last-room, last-written}
+use Rattle.message.proofs.Writing.{Writing, writing-starts, Turn, turn-room, turn-fits, turn-next, last-long, last-room, last-written}
 use borrow.Author.Needs.{needs}
 use native.Mathlib.Omega.{arith}
 use Rattle.message.proofs.write_fields.Statement.{statement}
@@ -44,43 +44,39 @@ part-write-field-start-2 c = search needs
 part-write-field-end-2 : tie.Need-part-write-field-end-2 Inv-loop μ-loop
 part-write-field-end-2 c = search needs
 
+-- the turn, once the field's form is known
+abbrev Looped : tie.After-form-at Inv-loop μ-loop → tie.At-loop Inv-loop μ-loop
+Looped d = d .before .before .before
+
+abbrev Started : tie.After-form-at Inv-loop μ-loop → tie.Start Inv-loop μ-loop
+Started d = Looped d .before .before .before
+
+turn : (d : tie.After-form-at Inv-loop μ-loop)
+    → Turn (Started d .args .t) (Started d .args .count) (Started d .args .s .now) (Started d .args .out .now)
+    (Looped d .loop .out) (Looped d .loop .o) (Looped d .loop .at) (Looped d .loop .j)
+    (d .before .before .find .result) (d .before .lead-of .result) (d .form-at .result)
+turn d =
+    record { so-far = Looped d .loop .inv; end = d .before .before .find .ensures .0; is-lead = d .before .lead-of .ensures; is-form = d .form-at .ensures }
+
 write-field-requires : tie.Need-write-field-requires Inv-loop μ-loop
-write-field-requires c κs =
-    let a = c .before .before .before .before .before .before .before .before .args in
-    let l = c .before .before .before .before .before .loop in
-    let f = c .before .before .before .before .find in
-    let g = c .before .before .before .lead-of in
-    let h = c .before .before .form-at in
-    turn-fits (a .t) (a .count) (a .s .now) (a .out .now) (l .out) (l .o) (l .at) (l .j) (f .result) (l .inv) (f .ensures .0) (g .result) (h .result) (g .ensures) (h .ensures)
+write-field-requires c κs = turn-fits (turn (c .before .before))
 
 add-o : tie.Need-add-o Inv-loop μ-loop
 add-o c =
-    let a = c .before .before .before .before .before .before .before .before .before .before .before .args in
-    let l = c .before .before .before .before .before .before .before .before .loop in
-    let f = c .before .before .before .before .before .before .before .find in
-    let g = c .before .before .before .before .before .before .lead-of in
-    let h = c .before .before .before .before .before .form-at in
-    omega (arith, turn-room (a .t) (a .count) (a .s .now) (a .out .now) (l .out) (l .o) (l .at) (l .j) (f .result) (l .inv) (f .ensures .0) (g .result) (h .result) (g .ensures) (h .ensures), c .before .before .write-field .ensures .0, l .inv .room, c .before .before .before .before .before .before .before .before .before .before .before .good)
+    let d = c .before .before .before .before .before in
+    omega (arith, turn-room (turn d), c .before .before .write-field .ensures .0, Looped d .loop .inv .room, Started d .good)
 
 slice-write-out : tie.Need-slice-write-out Inv-loop μ-loop
 slice-write-out c =
-    let a = c .before .before .before .before .before .before .before .before .before .before .before .before .args in
-    let l = c .before .before .before .before .before .before .before .before .before .loop in
-    let f = c .before .before .before .before .before .before .before .before .find in
-    let g = c .before .before .before .before .before .before .before .lead-of in
-    let h = c .before .before .before .before .before .before .form-at in
     let p = c .before .before .before .write-field in
-    rw (p .ensures .0) (last-room (a .t) (a .count) (a .s .now) (a .out .now) (l .out) (l .o) (l .at) (l .j) (f .result) (l .inv) (f .ensures .0) (g .result) (h .result) (g .ensures) (h .ensures) _ (p .ensures .1) (omega arith) (c .before .before .out .given .1))
+    rw (p .ensures .0) (last-room (turn (c .before .before .before .before .before .before)) (p .ensures .1) (omega arith) (c .before .before .out .given .1))
 
 add-result : tie.Need-add-result Inv-loop μ-loop
 add-result c =
-    let a = c .before .before .before .before .before .before .before .before .before .before .before .before .args in
-    let l = c .before .before .before .before .before .before .before .before .before .loop in
-    let f = c .before .before .before .before .before .before .before .before .find in
-    let g = c .before .before .before .before .before .before .before .lead-of in
-    let h = c .before .before .before .before .before .before .form-at in
+    let d = c .before .before .before .before .before .before in
     let p = c .before .before .before .write-field in
-    omega (arith, p .ensures .0, last-long (a .t) (a .count) (a .s .now) (a .out .now) (l .out) (l .o) (l .at) (l .j) (f .result) (l .inv) (f .ensures .0) (g .result) (h .result) (g .ensures) (h .ensures) _ (p .ensures .1) (omega arith) (c .before .before .out .given .1), l .inv .room, c .before .before .before .before .before .before .before .before .before .before .before .before .good)
+    let l = last-long (turn d) (p .ensures .1) (omega arith) (c .before .before .out .given .1) in
+    omega (arith, p .ensures .0, l, Looped d .loop .inv .room, Started d .good)
 
 same-length : tie.Need-same-length Inv-loop μ-loop
 same-length c =
@@ -88,15 +84,10 @@ same-length c =
 
 returns : tie.Need-returns Inv-loop μ-loop
 returns c =
-    let a = c .before .before .before .before .before .before .before .before .before .before .before .before .args in
-    let l = c .before .before .before .before .before .before .before .before .before .loop in
-    let f = c .before .before .before .before .before .before .before .before .find in
-    let g = c .before .before .before .before .before .before .before .lead-of in
-    let h = c .before .before .before .before .before .before .form-at in
-    let p = c .before .before .before .write-field in (
-      rw (p .ensures .0) (last-long (a .t) (a .count) (a .s .now) (a .out .now) (l .out) (l .o) (l .at) (l .j) (f .result) (l .inv) (f .ensures .0) (g .result) (h .result) (g .ensures) (h .ensures) _ (p .ensures .1) (omega arith) (c .before .before .out .given .1)),
-      rw (p .ensures .0) (last-written (a .t) (a .count) (a .s .now) (a .out .now) (l .out) (l .o) (l .at) (l .j) (f .result) (l .inv) (f .ensures .0) (g .result) (h .result) (g .ensures) (h .ensures) _ (p .ensures .1) (omega arith) (c .before .before .out .given .1)),
-    )
+    let u = turn (c .before .before .before .before .before .before) in
+    let p = c .before .before .before .write-field in
+    let l = c .before .before .out .given .1 in
+    (rw (p .ensures .0) (last-long u (p .ensures .1) (omega arith) l), rw (p .ensures .0) (last-written u (p .ensures .1) (omega arith) l))
 
 add-at : tie.Need-add-at Inv-loop μ-loop
 add-at c = search needs
@@ -109,13 +100,8 @@ loop-less c = search needs
 
 loop-again : tie.Need-loop-again Inv-loop μ-loop
 loop-again c =
-    let a = c .before .before .before .before .before .before .before .before .before .before .before .before .args in
-    let l = c .before .before .before .before .before .before .before .before .before .loop in
-    let f = c .before .before .before .before .before .before .before .before .find in
-    let g = c .before .before .before .before .before .before .before .lead-of in
-    let h = c .before .before .before .before .before .before .form-at in
     let p = c .before .before .before .write-field in
-    rw (p .ensures .0) (turn-next (a .t) (a .count) (a .s .now) (a .out .now) (l .out) (l .o) (l .at) (l .j) (f .result) (l .inv) (f .ensures .0) (g .result) (h .result) (g .ensures) (h .ensures) _ (p .ensures .1) (omega arith) (c .before .before .out .given .1))
+    rw (p .ensures .0) (turn-next (turn (c .before .before .before .before .before .before)) (p .ensures .1) (omega arith) (c .before .before .out .given .1))
 
 pub write-fields-spec : {M : Type 1} → statement M
 write-fields-spec =
