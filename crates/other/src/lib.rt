@@ -212,19 +212,19 @@ fn words(keys: &[u8], rules: &[u8], s: &[u8], end: usize, k: usize) -> bool
     requires { ⌜ (end ≤ length (now s)) × (0 < k) ⌝ }
     ensures { λ r. ⌜ r ≡ fitMore (edition (cells 4 (now (keys .entry))) (now (rules .entry))) k (after 32 (drop end (now (s .entry)))) ⌝ }
 {
-    if end == s.len() {
-        return true;
+    let mut e = end;
+    while e < s.len() {
+        let at = e + 1;
+        e = text::find(s, at, b' ');
+        let w = &s[at..e];
+        if text::find(w, 0, b'/') < w.len() {
+            return item(keys, rules, s, at, k);
+        }
+        if !more_fits(rule_at(rules, k), w) {
+            return false;
+        }
     }
-    let at = end + 1;
-    let e = text::find(s, at, b' ');
-    let w = &s[at..e];
-    if text::find(w, 0, b'/') < w.len() {
-        return item(keys, rules, s, at, k);
-    }
-    if !more_fits(rule_at(rules, k), w) {
-        return false;
-    }
-    words(keys, rules, s, e, k)
+    true
 }
 
 // Whether a content fits the form in an edition: its keys, in cells of four bytes, and a letter for each key's rule.

@@ -1,5 +1,5 @@
 -- `other::item` and `other::words`, which call one another, meet their contracts. The measure of both is the bytes left. Assumes nothing.
-use mathlib.Core.Path.{_≡_, sym, ap, _∙_}
+use mathlib.Core.Path.{_≡_, refl, sym, ap, _∙_}
 use mathlib.Core.Bool.{true, false, _&&_}
 use mathlib.Core.List.{List}
 use lib.Dec.{ltb}
@@ -12,7 +12,7 @@ use Rattle.other.specs.Field18.{fitFrom, fitMore}
 use Rattle.other.proofs.Index.{item-plain, item-here, words-item, words-word}
 use borrow.Author.Needs.{needs}
 use native.Mathlib.Omega.{arith}
-use Prim.Native.Nat.{ℕ, _+_, _-_, _<_}
+use Prim.Native.Nat.{ℕ, _+_, _-_, _<_, _≤_}
 use lib.ListN.{length, take, drop}
 use borrow.Fn.Kinds.{In}
 use borrow.Fn.PlainCycle.{Measures, is, falls, and}
@@ -72,9 +72,16 @@ words-calls t = (
   rule-at-reads.Learnt,
   more-fits-reads.Asked,
   more-fits-reads.Learnt,
-  words-below t,
-  words.Post,
 )
+
+-- `words` walks over the further words of its item; the words behind the place that it has reached decide
+abbrev words-Inv : words-lts.InvT-loop
+words-Inv keys rules s end k e₀ e =
+    (end ≤ e) × (e ≤ length s)
+    × (fitMore (edition (cells 4 keys) rules) k (after 32 (drop end s)) ≡ fitMore (edition (cells 4 keys) rules) k (after 32 (drop e s)))
+
+abbrev words-μ : words-lts.MeasureT-loop
+words-μ keys rules s end k e₀ e = length s - e
 
 -- what the definition says where `item` has found the key, and where `words` has read a word
 module _ (t : ℕ) (c : item-lts.After-rank-in-cells (item-calls t) (item-given t) item.Post) where
@@ -103,28 +110,33 @@ module _ (t : ℕ) (c : item-lts.After-rank-in-cells (item-calls t) (item-given 
       item-here (item-args .s .now) (item-args .at) item-end (f .ensures .0) item-cut (g .ensures .0) item-edition (item-args .last) (c .rank-in-cells .result)
       (c .before .before .if1 .left) (g .ensures .1 .1) (c .rank-in-cells .ensures)
 
-module _ (t : ℕ) (c : words-lts.Else2 (words-calls t) (words-given t) words.Post) where
-  abbrev words-args : words-lts.Args (words-calls t) (words-given t) words.Post (c .before .before .before .before .before .before .before .before .κs)
-  words-args = c .before .before .before .before .before .before .before .before .args
+module _ (t : ℕ) (c : words-lts.Else1 (words-calls t) (words-given t) words.Post words-Inv words-μ) where
+  abbrev words-args : words-lts.Args (words-calls t) (words-given t) words.Post words-Inv words-μ (c .before .before .before .before .before .before .before .before .before .κs)
+  words-args = c .before .before .before .before .before .before .before .before .before .args
 
   abbrev words-edition : Edition
   words-edition = edition (cells 4 (words-args .keys .now)) (words-args .rules .now)
+
+  abbrev words-at : ℕ
+  words-at = c .before .before .before .before .before .loop .e + 1
 
   abbrev words-end : ℕ
   words-end = c .before .before .before .find .result
 
   abbrev words-word-read : List ℕ
-  words-word-read = take (words-end - (words-args .end + 1)) (drop (words-args .end + 1) (words-args .s .now))
+  words-word-read = take (words-end - words-at) (drop words-at (words-args .s .now))
 
   words-known : fitMore words-edition (words-args .k) (after 32 (drop (words-args .end) (words-args .s .now)))
       ≡ (moreFits (ruleIn words-edition (words-args .k)) words-word-read
       && fitMore words-edition (words-args .k) (after 32 (drop words-end (words-args .s .now))))
   words-known =
       let s = words-args .s .now in
+      let l = c .before .before .before .before .before .loop in
       let g = c .before .find2 in
-      ap (fitMore words-edition (words-args .k)) (after-here 32 s (words-args .end) (omega arith))
-      ∙ words-word s (words-args .end + 1) words-end (c .before .before .before .find .ensures .0) (g .result) (g .ensures .0) words-edition (words-args .k)
-      (c .if2 .left)
+      l .inv .2
+      ∙ ap (fitMore words-edition (words-args .k)) (after-here 32 s (l .e) (c .before .before .before .before .loop-test .taken))
+      ∙ words-word s words-at words-end (c .before .before .before .find .ensures .0) (g .result) (g .ensures .0) words-edition (words-args .k)
+      (c .if1 .left)
 
 item-find-requires : (t : ℕ) → item-lts.Need-find-requires (item-calls t) (item-given t) item.Post
 item-find-requires t c κs = search needs
@@ -198,60 +210,68 @@ item-returns-4 t c =
     rw (item-known t (c .before .before .before .before .before .before), lt-ltb _ _ (c .before .before .before .before .before .if2 .left), ← r .ensures, e, r .ensures)
     (c .words .ensures)
 
-words-returns : (t : ℕ) → words-lts.Need-returns (words-calls t) (words-given t) words.Post
-words-returns t c = rw (after-end 32 (c .before .before .before .before .args .s .now) (c .before .before .before .before .args .end) (omega arith))
+words-loop-holds : (t : ℕ) → words-lts.Need-loop-holds (words-calls t) (words-given t) words.Post words-Inv words-μ
+words-loop-holds t c = (search needs, search needs, refl)
 
-words-add-at : (t : ℕ) → words-lts.Need-add-at (words-calls t) (words-given t) words.Post
+words-add-at : (t : ℕ) → words-lts.Need-add-at (words-calls t) (words-given t) words.Post words-Inv words-μ
 words-add-at t c = search needs
 
-words-find-requires : (t : ℕ) → words-lts.Need-find-requires (words-calls t) (words-given t) words.Post
+words-find-requires : (t : ℕ) → words-lts.Need-find-requires (words-calls t) (words-given t) words.Post words-Inv words-μ
 words-find-requires t c κs = search needs
 
-words-sub-w : (t : ℕ) → words-lts.Need-sub-w (words-calls t) (words-given t) words.Post
+words-sub-w : (t : ℕ) → words-lts.Need-sub-w (words-calls t) (words-given t) words.Post words-Inv words-μ
 words-sub-w t c = search needs
 
-words-part-w-start : (t : ℕ) → words-lts.Need-part-w-start (words-calls t) (words-given t) words.Post
+words-part-w-start : (t : ℕ) → words-lts.Need-part-w-start (words-calls t) (words-given t) words.Post words-Inv words-μ
 words-part-w-start t c = search needs
 
-words-part-w-end : (t : ℕ) → words-lts.Need-part-w-end (words-calls t) (words-given t) words.Post
+words-part-w-end : (t : ℕ) → words-lts.Need-part-w-end (words-calls t) (words-given t) words.Post words-Inv words-μ
 words-part-w-end t c = search needs
 
-words-find-requires-2 : (t : ℕ) → words-lts.Need-find-requires-2 (words-calls t) (words-given t) words.Post
+words-find-requires-2 : (t : ℕ) → words-lts.Need-find-requires-2 (words-calls t) (words-given t) words.Post words-Inv words-μ
 words-find-requires-2 t c κs = search needs
 
-words-item-requires : (t : ℕ) → words-lts.Need-item-requires (words-calls t) (words-given t) words.Post
+words-item-requires : (t : ℕ) → words-lts.Need-item-requires (words-calls t) (words-given t) words.Post words-Inv words-μ
 words-item-requires t c κs = search needs
 
-words-returns-2 : (t : ℕ) → words-lts.Need-returns-2 (words-calls t) (words-given t) words.Post
-words-returns-2 t c =
-    let a = c .before .before .before .before .before .before .before .before .before .args in
+words-returns : (t : ℕ) → words-lts.Need-returns (words-calls t) (words-given t) words.Post words-Inv words-μ
+words-returns t c =
+    let a = c .before .before .before .before .before .before .before .before .before .before .args in
+    let l = c .before .before .before .before .before .before .loop in
     let f = c .before .before .before .before .find in
     let g = c .before .before .find2 in
     let ed = edition (cells 4 (a .keys .now)) (a .rules .now) in
     rw (
-      after-here 32 (a .s .now) (a .end) (omega arith),
-      words-item (a .s .now) (a .end + 1) (f .result) (f .ensures .0) (g .result) (g .ensures .0) ed (a .k) (c .before .if2 .taken),
+      l .inv .2,
+      after-here 32 (a .s .now) (l .e) (c .before .before .before .before .before .loop-test .taken),
+      words-item (a .s .now) (l .e + 1) (f .result) (f .ensures .0) (g .result) (g .ensures .0) ed (a .k) (c .before .if1 .taken),
     ) (c .item .ensures)
 
-words-rule-at-requires : (t : ℕ) → words-lts.Need-rule-at-requires (words-calls t) (words-given t) words.Post
+words-rule-at-requires : (t : ℕ) → words-lts.Need-rule-at-requires (words-calls t) (words-given t) words.Post words-Inv words-μ
 words-rule-at-requires t c κs = search needs
 
-words-more-fits-requires : (t : ℕ) → words-lts.Need-more-fits-requires (words-calls t) (words-given t) words.Post
+words-more-fits-requires : (t : ℕ) → words-lts.Need-more-fits-requires (words-calls t) (words-given t) words.Post words-Inv words-μ
 words-more-fits-requires t c κs = search needs
 
-words-returns-3 : (t : ℕ) → words-lts.Need-returns-3 (words-calls t) (words-given t) words.Post
-words-returns-3 t c =
-    let e = sym (c .before .more-fits .ensures) ∙ not-true _ (c .if3 .taken) in
+words-returns-2 : (t : ℕ) → words-lts.Need-returns-2 (words-calls t) (words-given t) words.Post words-Inv words-μ
+words-returns-2 t c =
+    let e = sym (c .before .more-fits .ensures) ∙ not-true _ (c .if2 .taken) in
     rw (words-known t (c .before .before .before), ← c .before .before .rule-at .ensures, e)
 
-words-words-requires : (t : ℕ) → words-lts.Need-words-requires (words-calls t) (words-given t) words.Post
-words-words-requires t c κs = search needs
+words-loop-less : (t : ℕ) → words-lts.Need-loop-less (words-calls t) (words-given t) words.Post words-Inv words-μ
+words-loop-less t c = search needs
 
-words-returns-4 : (t : ℕ) → words-lts.Need-returns-4 (words-calls t) (words-given t) words.Post
-words-returns-4 t c =
-    let e = sym (c .before .before .more-fits .ensures) ∙ not-false _ (c .before .if3 .left) in
-    let r = c .before .before .before .rule-at in
-    rw (words-known t (c .before .before .before .before), ← r .ensures, e, r .ensures) (c .words .ensures)
+words-loop-again : (t : ℕ) → words-lts.Need-loop-again (words-calls t) (words-given t) words.Post words-Inv words-μ
+words-loop-again t c =
+    let e = sym (c .before .more-fits .ensures) ∙ not-false _ (c .if2 .left) in
+    let r = c .before .before .rule-at in
+    (search needs, search needs, rw (words-known t (c .before .before .before), ← r .ensures, e, r .ensures))
+
+words-returns-3 : (t : ℕ) → words-lts.Need-returns-3 (words-calls t) (words-given t) words.Post words-Inv words-μ
+words-returns-3 t c =
+    let a = c .before .before .before .before .before .args in
+    let l = c .before .loop in
+    sym (l .inv .2 ∙ ap (fitMore (edition (cells 4 (a .keys .now)) (a .rules .now)) (a .k)) (after-end 32 (a .s .now) (l .e) (c .loop-test .left)))
 
 pub +item+words-spec : {M : Type 1} → statement M
 +item+words-spec = close μ-item μ-words (λ t. item-lts.spec (item-calls t)
@@ -278,7 +298,9 @@ pub +item+words-spec : {M : Type 1} → statement M
     λ t. words-lts.spec (words-calls t)
     (words-given t)
     words.Post
-    (words-returns t)
+    words-Inv
+    words-μ
+    (words-loop-holds t)
     (words-add-at t)
     (words-find-requires t)
     (words-sub-w t)
@@ -286,9 +308,10 @@ pub +item+words-spec : {M : Type 1} → statement M
     (words-part-w-end t)
     (words-find-requires-2 t)
     (words-item-requires t)
-    (words-returns-2 t)
+    (words-returns t)
     (words-rule-at-requires t)
     (words-more-fits-requires t)
+    (words-returns-2 t)
+    (words-loop-less t)
+    (words-loop-again t)
     (words-returns-3 t)
-    (words-words-requires t)
-    (words-returns-4 t)
