@@ -1,18 +1,18 @@
 -- The table agrees with the alphabet at every byte value, and the sets are ranges of its classes: one test, computed over its 256 entries.
 -- Assumes nothing.
-use mathlib.Core.Path.{_≡_, refl, sym, _∙_}
+use mathlib.Core.Path.{_≡_, refl}
 use mathlib.Core.List.{List, [], _∷_}
 use mathlib.Core.Bool.{Bool, true, false, _&&_, _||_, not, cond, Bool·beq}
 use Prim.Native.Nat.{ℕ, _<_, _≤_}
 use lib.Dec.{T, eqb, eqb→eq, leb}
 use lib.ListN.{getD}
 use borrow.Author.Tests.{le-leb, lt-leb}
-use Rattle.alphabet.specs.Alphabet.{classOf, inAlphabet, letter, digit, octal, sign, text, white, oneOf, marks}
+use Rattle.alphabet.specs.Alphabet.{classOf, inAlphabet, innerByte, letter, digit, octal, sign, text, white, oneOf, marks}
 use Rattle.alphabet.proofs.Table.{at, both, both-left, both-right}
 
 abbrev pub classes : List ℕ
 classes =
-    0 ∷ 0 ∷ 0 ∷ 0 ∷ 0 ∷ 0 ∷ 0 ∷ 0 ∷ 0 ∷ 0 ∷ 15 ∷ 0 ∷ 0 ∷ 15 ∷ 0 ∷ 0 ∷ 0 ∷ 0 ∷ 0 ∷ 0 ∷ 0 ∷ 0 ∷ 0 ∷ 0 ∷ 0 ∷ 0 ∷ 0 ∷ 0 ∷ 0 ∷ 0 ∷ 0 ∷ 0 ∷ 15 ∷ 0 ∷ 0 ∷ 0 ∷ 0 ∷ 0 ∷ 0 ∷ 8 ∷ 13 ∷ 14 ∷ 0 ∷ 10 ∷ 7 ∷ 12 ∷ 6 ∷ 11 ∷ 2 ∷ 2 ∷ 2 ∷ 2 ∷ 2 ∷ 2 ∷ 2 ∷ 2 ∷ 3 ∷ 3 ∷ 5 ∷ 0 ∷ 0 ∷ 9 ∷ 0 ∷ 4 ∷ 0 ∷ 1 ∷ 1 ∷ 1 ∷ 1 ∷ 1 ∷ 1 ∷ 1 ∷ 1 ∷ 1 ∷ 1 ∷ 1 ∷ 1 ∷ 1 ∷ 1 ∷ 1 ∷ 1 ∷ 1 ∷ 1 ∷ 1 ∷ 1 ∷ 1 ∷ 1 ∷ 1 ∷ 1 ∷ 1 ∷ 1 ∷ 0 ∷ 0 ∷ 0 ∷ 0 ∷ 0 ∷ 0 ∷ 0 ∷ 0 ∷ 0 ∷ 0 ∷ 0 ∷ 0 ∷ 0 ∷ 0 ∷ 0 ∷ 0 ∷ 0 ∷ 0 ∷ 0 ∷ 0 ∷ 0 ∷ 0 ∷ 0 ∷ 0 ∷ 0 ∷ 0 ∷ 0 ∷ 0 ∷ 0 ∷ 0 ∷ 0 ∷ 0 ∷ 0 ∷ 0 ∷ 0 ∷ 0 ∷ 0 ∷ 0 ∷ 0 ∷ 0 ∷ 0 ∷ 0 ∷ 0 ∷ 0 ∷ 0 ∷ 0 ∷ 0 ∷ 0 ∷ 0 ∷ 0 ∷ 0 ∷ 0 ∷ 0 ∷ 0 ∷ 0 ∷ 0 ∷ 0 ∷ 0 ∷ 0 ∷ 0 ∷ 0 ∷ 0 ∷ 0 ∷ 0 ∷ 0 ∷ 0 ∷ 0 ∷ 0 ∷ 0 ∷ 0 ∷ 0 ∷ 0 ∷ 0 ∷ 0 ∷ 0 ∷ 0 ∷ 0 ∷ 0 ∷ 0 ∷ 0 ∷ 0 ∷ 0 ∷ 0 ∷ 0 ∷ 0 ∷ 0 ∷ 0 ∷ 0 ∷ 0 ∷ 0 ∷ 0 ∷ 0 ∷ 0 ∷ 0 ∷ 0 ∷ 0 ∷ 0 ∷ 0 ∷ 0 ∷ 0 ∷ 0 ∷ 0 ∷ 0 ∷ 0 ∷ 0 ∷ 0 ∷ 0 ∷ 0 ∷ 0 ∷ 0 ∷ 0 ∷ 0 ∷ 0 ∷ 0 ∷ 0 ∷ 0 ∷ 0 ∷ 0 ∷ 0 ∷ 0 ∷ 0 ∷ 0 ∷ 0 ∷ 0 ∷ 0 ∷ 0 ∷ 0 ∷ 0 ∷ 0 ∷ 0 ∷ 0 ∷ 0 ∷ 0 ∷ 0 ∷ 0 ∷ 0 ∷ 0 ∷ 0 ∷ 0 ∷ 0 ∷ 0 ∷ 0 ∷ 0 ∷ 0 ∷ 0 ∷ 0 ∷ 0 ∷ 0 ∷ 0 ∷ 0 ∷ 0 ∷ 0 ∷ 0 ∷ 0 ∷ 0 ∷ 0 ∷ 0 ∷ 0 ∷ 0 ∷ 0 ∷ 0 ∷ 0 ∷ 0 ∷ 0 ∷ 0 ∷ []
+    0 ∷ 0 ∷ 0 ∷ 0 ∷ 0 ∷ 0 ∷ 0 ∷ 0 ∷ 0 ∷ 0 ∷ 13 ∷ 0 ∷ 0 ∷ 13 ∷ 0 ∷ 0 ∷ 0 ∷ 0 ∷ 0 ∷ 0 ∷ 0 ∷ 0 ∷ 0 ∷ 0 ∷ 0 ∷ 0 ∷ 0 ∷ 0 ∷ 0 ∷ 0 ∷ 0 ∷ 0 ∷ 13 ∷ 0 ∷ 0 ∷ 0 ∷ 0 ∷ 0 ∷ 0 ∷ 8 ∷ 14 ∷ 15 ∷ 0 ∷ 10 ∷ 7 ∷ 12 ∷ 6 ∷ 11 ∷ 2 ∷ 2 ∷ 2 ∷ 2 ∷ 2 ∷ 2 ∷ 2 ∷ 2 ∷ 3 ∷ 3 ∷ 5 ∷ 0 ∷ 0 ∷ 9 ∷ 0 ∷ 4 ∷ 0 ∷ 1 ∷ 1 ∷ 1 ∷ 1 ∷ 1 ∷ 1 ∷ 1 ∷ 1 ∷ 1 ∷ 1 ∷ 1 ∷ 1 ∷ 1 ∷ 1 ∷ 1 ∷ 1 ∷ 1 ∷ 1 ∷ 1 ∷ 1 ∷ 1 ∷ 1 ∷ 1 ∷ 1 ∷ 1 ∷ 1 ∷ 0 ∷ 0 ∷ 0 ∷ 0 ∷ 0 ∷ 0 ∷ 0 ∷ 0 ∷ 0 ∷ 0 ∷ 0 ∷ 0 ∷ 0 ∷ 0 ∷ 0 ∷ 0 ∷ 0 ∷ 0 ∷ 0 ∷ 0 ∷ 0 ∷ 0 ∷ 0 ∷ 0 ∷ 0 ∷ 0 ∷ 0 ∷ 0 ∷ 0 ∷ 0 ∷ 0 ∷ 0 ∷ 0 ∷ 0 ∷ 0 ∷ 0 ∷ 0 ∷ 0 ∷ 0 ∷ 0 ∷ 0 ∷ 0 ∷ 0 ∷ 0 ∷ 0 ∷ 0 ∷ 0 ∷ 0 ∷ 0 ∷ 0 ∷ 0 ∷ 0 ∷ 0 ∷ 0 ∷ 0 ∷ 0 ∷ 0 ∷ 0 ∷ 0 ∷ 0 ∷ 0 ∷ 0 ∷ 0 ∷ 0 ∷ 0 ∷ 0 ∷ 0 ∷ 0 ∷ 0 ∷ 0 ∷ 0 ∷ 0 ∷ 0 ∷ 0 ∷ 0 ∷ 0 ∷ 0 ∷ 0 ∷ 0 ∷ 0 ∷ 0 ∷ 0 ∷ 0 ∷ 0 ∷ 0 ∷ 0 ∷ 0 ∷ 0 ∷ 0 ∷ 0 ∷ 0 ∷ 0 ∷ 0 ∷ 0 ∷ 0 ∷ 0 ∷ 0 ∷ 0 ∷ 0 ∷ 0 ∷ 0 ∷ 0 ∷ 0 ∷ 0 ∷ 0 ∷ 0 ∷ 0 ∷ 0 ∷ 0 ∷ 0 ∷ 0 ∷ 0 ∷ 0 ∷ 0 ∷ 0 ∷ 0 ∷ 0 ∷ 0 ∷ 0 ∷ 0 ∷ 0 ∷ 0 ∷ 0 ∷ 0 ∷ 0 ∷ 0 ∷ 0 ∷ 0 ∷ 0 ∷ 0 ∷ 0 ∷ 0 ∷ 0 ∷ 0 ∷ 0 ∷ 0 ∷ 0 ∷ 0 ∷ 0 ∷ 0 ∷ 0 ∷ 0 ∷ 0 ∷ 0 ∷ 0 ∷ 0 ∷ 0 ∷ 0 ∷ 0 ∷ 0 ∷ 0 ∷ 0 ∷ 0 ∷ 0 ∷ 0 ∷ 0 ∷ 0 ∷ 0 ∷ 0 ∷ 0 ∷ 0 ∷ 0 ∷ 0 ∷ 0 ∷ 0 ∷ []
 
 -- class k is one of those from low to high
 abbrev pub within : ℕ → ℕ → ℕ → Bool
@@ -27,7 +27,8 @@ right b k =
     (both (Bool·beq (within 2 3 k) (digit b))
     (both (Bool·beq (eqb k 2) (octal b))
     (both (Bool·beq (within 1 3 k) (sign b))
-    (both (Bool·beq (within 1 10 k) (text b)) (Bool·beq (eqb k 15) (white b))))))))
+    (both (Bool·beq (within 1 10 k) (text b))
+    (both (Bool·beq (eqb k 13) (white b)) (Bool·beq (within 1 13 k) (innerByte b)))))))))
 
 -- the rule at each entry
 pub record Rule (b k : ℕ) : Type 0 where
@@ -38,7 +39,8 @@ pub record Rule (b k : ℕ) : Type 0 where
   pub octal-is : eqb k 2 ≡ octal b
   pub sign-is : within 1 3 k ≡ sign b
   pub text-is : within 1 10 k ≡ text b
-  pub white-is : eqb k 15 ≡ white b
+  pub white-is : eqb k 13 ≡ white b
+  pub inner-is : within 1 13 k ≡ innerByte b
 
 beq→eq : (a b : Bool) → T (Bool·beq a b) → a ≡ b
 beq→eq true true t = refl
@@ -54,6 +56,7 @@ rule-of b k t =
     let t4 = both-right (Bool·beq (within 2 3 k) (digit b)) _ t3 in
     let t5 = both-right (Bool·beq (eqb k 2) (octal b)) _ t4 in
     let t6 = both-right (Bool·beq (within 1 3 k) (sign b)) _ t5 in
+    let t7 = both-right (Bool·beq (within 1 10 k) (text b)) _ t6 in
     record {
       class = eqb→eq k (classOf b) (both-left (eqb k (classOf b)) _ t);
       alphabet-is = beq→eq _ _ (both-left (Bool·beq (not (eqb k 0)) (inAlphabet b)) _ t1);
@@ -62,19 +65,13 @@ rule-of b k t =
       octal-is = beq→eq _ _ (both-left (Bool·beq (eqb k 2) (octal b)) _ t4);
       sign-is = beq→eq _ _ (both-left (Bool·beq (within 1 3 k) (sign b)) _ t5);
       text-is = beq→eq _ _ (both-left (Bool·beq (within 1 10 k) (text b)) _ t6);
-      white-is = beq→eq _ _ (both-right (Bool·beq (within 1 10 k) (text b)) _ t6);
+      white-is = beq→eq _ _ (both-left (Bool·beq (eqb k 13) (white b)) _ t7);
+      inner-is = beq→eq _ _ (both-right (Bool·beq (eqb k 13) (white b)) _ t7);
     }
 
 pub table-right : (b : ℕ) → b < 256 → Rule b (getD classes b 0)
-unfolding classOf inAlphabet text white
+unfolding classOf inAlphabet innerByte text white
 table-right b h = rule-of b (getD classes b 0) (at right classes tt b h)
-
--- the same of a number that is the class
-pub rule : (b k : ℕ) → b < 256 → k ≡ classOf b → Rule b k
-rule b k h e =
-    let r = table-right b h in
-    let p : getD classes b 0 ≡ k = r .class ∙ sym e in
-    rw p at r
 
 -- a range of bytes, tested at its lower end and then at its upper
 pub under : (low high b : ℕ) → b < low → false ≡ (leb low b && leb b high)

@@ -2,7 +2,7 @@
 ghost use mathlib.Core.Path.{_≡_};
 ghost use Prim.Native.Nat.{_≤_};
 ghost use lib.ListN.{length};
-ghost use Rattle.alphabet.specs.Alphabet.{classOf, inAlphabet, letter, digit, octal, sign, text, white, oneOf, marks, known};
+ghost use Rattle.alphabet.specs.Alphabet.{letter, digit, octal, sign, text, white, oneOf, marks, known, innerBytes};
 
 const CLASSES: [u8; 256] = [
     0,
@@ -15,13 +15,10 @@ const CLASSES: [u8; 256] = [
     0,
     0,
     0,
-    15,
+    13,
     0,
     0,
-    15,
-    0,
-    0,
-    0,
+    13,
     0,
     0,
     0,
@@ -37,7 +34,10 @@ const CLASSES: [u8; 256] = [
     0,
     0,
     0,
-    15,
+    0,
+    0,
+    0,
+    13,
     0,
     0,
     0,
@@ -45,8 +45,8 @@ const CLASSES: [u8; 256] = [
     0,
     0,
     8,
-    13,
     14,
+    15,
     0,
     10,
     7,
@@ -263,12 +263,6 @@ const CLASSES: [u8; 256] = [
     0,
 ];
 
-pub fn class_of(b: u8) -> u8
-    ensures { λ r. ⌜ r ≡ classOf b ⌝ }
-{
-    CLASSES[b as usize]
-}
-
 // How many bytes stand before the first that is not in the alphabet. The table is laid down once for all of them.
 pub fn known_bytes(s: &[u8]) -> usize
     ensures { λ r. ⌜ (r ≡ known (now (s .entry))) × (r ≤ length (now (s .entry))) ⌝ }
@@ -278,6 +272,26 @@ pub fn known_bytes(s: &[u8]) -> usize
     while i < s.len() {
         let b = s[i] as usize;
         if classes[b] == 0 {
+            return i;
+        }
+        i += 1;
+    }
+    i
+}
+
+// How many bytes stand before the first that is a parenthesis or not in the alphabet: the classes of the others are 1 to 13.
+pub fn inner_bytes(s: &[u8]) -> usize
+    ensures { λ r. ⌜ (r ≡ innerBytes (now (s .entry))) × (r ≤ length (now (s .entry))) ⌝ }
+{
+    let classes = CLASSES;
+    let mut i = 0;
+    while i < s.len() {
+        let b = s[i] as usize;
+        let class = classes[b];
+        if class == 0 {
+            return i;
+        }
+        if class > 13 {
             return i;
         }
         i += 1;

@@ -1,7 +1,7 @@
 -- Numbers 1 to 3 of document 01's table, on the message as sent: its length, its parentheses, its alphabet. Assumes nothing.
 use Prim.Native.Nat.{ℕ, suc, _≤_}
 use mathlib.Core.Path.{_≡_, refl}
-use mathlib.Core.Bool.{Bool, true, cond, not}
+use mathlib.Core.Bool.{Bool, true, false, cond, not}
 use mathlib.Core.List.{List, [], _∷_}
 use lib.Dec.{eqb, ltb}
 use lib.ListN.{length}
@@ -44,6 +44,10 @@ orElse (Bad n p) o = Bad n p
 
 unfoldable pub outer : List ℕ → Outer
 outer m = cond (ltb 1800 (length m)) (Bad 1 1800) (orElse (parens m) (lettersFrom 0 m))
+
+abbrev pub isGood : Outer → Bool
+isGood Good = true
+isGood (Bad n p) = false
 
 -- A MESSAGE THAT PASSES: at most 1,800 bytes, `(` first and `)` last, no parenthesis between, each byte in the alphabet
 

@@ -4,8 +4,8 @@ use mathlib.Core.Path.{_≡_, refl}
 use native.Mathlib.Omega.{arith}
 use lib.ListN.{length, drop, getD}
 use borrow.Author.Needs.{needs}
-use Rattle.alphabet.specs.Alphabet.{known}
-use Rattle.alphabet.proofs.Known.{foreign-byte, known-byte, known-stop, known-next, known-end}
+use Rattle.alphabet.specs.Alphabet.{inAlphabet, known}
+use Rattle.alphabet.proofs.Known.{foreign-byte, known-byte, count-stop, count-next, count-end}
 use Rattle.alphabet.proofs.known_bytes.Statement.{statement}
 use Rattle.alphabet.proofs.known_bytes.Tie as tie
 
@@ -32,7 +32,7 @@ returns c =
     let s = c .before .before .before .before .args .s .now in
     let l = c .before .before .before .loop in
     let h = foreign-byte (getD s (l .i) 0) (omega (arith, c .before .shared-slice-known .given (l .i))) (c .if1 .taken) in
-    (omega (arith, l .inv .1, known-stop s (l .i) (c .before .before .loop-test .taken) h), l .inv .0)
+    (omega (arith, l .inv .1, count-stop inAlphabet known (λ b t. refl) s (l .i) (c .before .before .loop-test .taken) h), l .inv .0)
 
 add-i : tie.Need-add-i Inv-loop μ-loop
 add-i c = search needs
@@ -45,13 +45,13 @@ loop-again c =
     let s = c .before .before .before .before .args .s .now in
     let l = c .before .before .before .loop in
     let h = known-byte (getD s (l .i) 0) (omega (arith, c .before .shared-slice-known .given (l .i))) (c .if1 .left) in
-    (omega arith, omega (arith, l .inv .1, known-next s (l .i) (c .before .before .loop-test .taken) h))
+    (omega arith, omega (arith, l .inv .1, count-next inAlphabet known (λ b t. refl) s (l .i) (c .before .before .loop-test .taken) h))
 
 returns-2 : tie.Need-returns-2 Inv-loop μ-loop
 returns-2 c =
     let s = c .before .before .args .s .now in
     let l = c .before .loop in
-    (omega (arith, l .inv .1, known-end s (l .i) (c .loop-test .left)), l .inv .0)
+    (omega (arith, l .inv .1, count-end inAlphabet known (λ b t. refl) s (l .i) refl (c .loop-test .left)), l .inv .0)
 
 pub known-bytes-spec : {M : Type 1} → statement M
 known-bytes-spec =
