@@ -130,13 +130,6 @@ unfolding front
 lead-write [] w x h = absurd (omega arith)
 lead-write (b ∷ bs) w x h = refl
 
--- A CLOSING BYTE, behind what was written
-pub close-write : (out w : List ℕ) (x : ℕ) → length w < length out → set (front w out) (length w) x ≡ front (w ++ (x ∷ [])) out
-unfolding front
-close-write [] w x h = absurd (omega arith)
-close-write (b ∷ bs) [] x h = refl
-close-write (b ∷ bs) (y ∷ w) x h = ap (λ (l : List ℕ). y ∷ l) (close-write bs w x (omega arith))
-
 -- TO A FIELD, hyphen by hyphen
 
 pub hyphen-turn : (s u : List ℕ) (at next left : ℕ) → Stepped 45 s at next → 0 < left → behindHyphen left (drop at s) ≡ u → behindHyphen (left - 1) (drop next s) ≡ u

@@ -1,5 +1,5 @@
--- What is written of a message's fields is the spelling of its canonical record; without field 19 it is the text as it stands. Assumes nothing.
-use Prim.Native.Nat.{ℕ, zero, suc, _-_, _<_}
+-- What is written of a message's fields is the spelling of its canonical record. Assumes nothing.
+use Prim.Native.Nat.{ℕ, _<_}
 use mathlib.Core.Path.{_≡_, refl, sym, ap, ap₂, _∙_}
 use mathlib.Core.Bool.{Bool, true, false, not, cond, false≢true}
 use mathlib.Core.List.{List, [], _∷_, _++_, map, append-assoc}
@@ -7,20 +7,16 @@ use native.Mathlib.Omega.{arith}
 use lib.Dec.{eqb}
 use lib.ListN.{length}
 use borrow.Author.Tests.{eqb-true, not-true}
-use Rattle.text.specs.Words.{Word, split, join, all}
-use Rattle.text.proofs.Index.{split-cut}
-use Rattle.text.proofs.Joined.{join-split}
+use Rattle.text.specs.Words.{Word, join, all}
 use Rattle.text.proofs.Tests.{both}
 use Rattle.sent.specs.Sent.{messageOf}
 use Rattle.records.specs.Records.{contentsOf, canonicalAll, fitAll, recordsOf, LawsAll}
-use Rattle.kinds.specs.declared.MessageType.{MessageType}
-use Rattle.kinds.specs.declared.MessageType.the-variants.{Fpl, Chg, Cnl, Dla, Dep, Arr, Rqp, Rqs, Spl}
 use Rattle.kinds.specs.declared.Form.{Form}
-use Rattle.kinds.specs.Kinds.{entries, formsOf, planForms, briefForms, requestForms, arrivalForms, divertedForms, numberOf}
+use Rattle.kinds.specs.Kinds.{numberOf}
 use Rattle.forms.specs.Field22.{whichOf}
 use Rattle.forms.specs.Forms.{fieldOf, isEntry, writtenOf}
 use Rattle.forms.proofs.Forms.{lawsOf, written-canonical}
-use Rattle.message.specs.Reading.{spelledFrom, enclosed, hasField19}
+use Rattle.message.specs.Reading.{spelledFrom}
 use Rattle.message.specs.Message.{ranksIn}
 
 -- the laws of the fields of a list of forms
@@ -78,45 +74,11 @@ ranks-stay (f ∷ fs) (c ∷ cs) = go (ranks-stay fs cs) (isEntry f) refl
     go ih true p = ap₂ (λ (r : ℕ) (rs : List ℕ). r ∷ rs) (ap whichOf (plain-form f c (entry-stays f p))) ih
     go ih false p = ih
 
--- FORMS WITHOUT FIELD 19 write each content as it stands
-
-abbrev pub plain : Form → Bool
-plain f = not (eqb (numberOf f) 19)
-
-pub all-stay : (fs : List Form) (cs : List Word) → length fs ≡ length cs → all plain fs ≡ true → writtenAll fs cs ≡ cs
+-- a list of forms without field 19 stays as it is
+pub all-stay : (fs : List Form) (cs : List Word) → length fs ≡ length cs → all (λ f. not (eqb (numberOf f) 19)) fs ≡ true → writtenAll fs cs ≡ cs
 all-stay [] [] l e = refl
 all-stay [] (c ∷ cs) l e = absurd (omega arith)
 all-stay (f ∷ fs) [] l e = absurd (omega arith)
 all-stay (f ∷ fs) (c ∷ cs) l e =
-    let h = both (plain f) (all plain fs) e in
+    let h = both (not (eqb (numberOf f) 19)) (all (λ f. not (eqb (numberOf f) 19)) fs) e in
     ap₂ (λ (w : Word) (ws : List Word). w ∷ ws) (plain-form f c (not-true (eqb (numberOf f) 19) (h .0))) (all-stay fs cs (omega arith) (h .1))
-
-plain-entries : (k : ℕ) → all plain (entries k) ≡ true
-plain-entries zero = refl
-plain-entries (suc k) = plain-entries k
-
--- such are the forms of every type but SPL, whatever the count
-pub plain-forms : (t : MessageType) (n : ℕ) → hasField19 t ≡ false → all plain (formsOf t n) ≡ true
-unfolding formsOf planForms briefForms requestForms arrivalForms divertedForms
-plain-forms Fpl n e = refl
-plain-forms Chg n e = plain-entries (n - 5)
-plain-forms Cnl n e = refl
-plain-forms Dla n e = refl
-plain-forms Dep n e = refl
-plain-forms Arr n e = go (eqb n 4)
-  where
-    go : (b : Bool) → all plain (cond b arrivalForms divertedForms) ≡ true
-    go true = refl
-    go false = refl
-plain-forms Rqp n e = refl
-plain-forms Rqs n e = refl
-plain-forms Spl n e = absurd (false≢true (sym e))
-
--- so the spelling of a message of these types is its text in its parentheses
-pub spelled-plain : (t : MessageType) (n : ℕ) (s : List ℕ) → hasField19 t ≡ false → length (formsOf t n) ≡ length (split 45 s)
-    → spelledFrom 40 (formsOf t n) (split 45 s) ≡ enclosed s
-spelled-plain t n s e l =
-    let fs = formsOf t n in
-    spelled-message fs (split 45 s) (omega (arith, l, ap length (split-cut 45 s))) l
-    ∙ ap messageOf (all-stay fs (split 45 s) l (plain-forms t n e))
-    ∙ ap enclosed (join-split 45 s)

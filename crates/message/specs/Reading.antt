@@ -52,22 +52,6 @@ leadOf j = cond (eqb j 0) 40 45
 unfoldable pub spellingOf : MessageType → List ℕ → List ℕ
 spellingOf t m = spelledFrom 40 (formsOf t (countOf m)) (contents m)
 
--- a text in its parentheses: it is the spelling where no field is field 19, which alone is not written as it stands
-abbrev pub enclosed : List ℕ → List ℕ
-enclosed s = 40 ∷ (s ++ (41 ∷ []))
-
--- the types with field 19
-abbrev pub hasField19 : MessageType → Bool
-hasField19 Fpl = false
-hasField19 Chg = false
-hasField19 Cnl = false
-hasField19 Dla = false
-hasField19 Dep = false
-hasField19 Arr = false
-hasField19 Rqp = false
-hasField19 Rqs = false
-hasField19 Spl = true
-
 -- NUMBERS 7, 8 AND 9: the leftmost field that has one
 
 -- the fields from place j on; the earlier ones named fields of these ranks

@@ -16,8 +16,6 @@ ghost use Rattle.message.specs.Reading.{
   unexplainedIn,
   leadOf,
   spelledFrom,
-  enclosed,
-  hasField19,
   isPlan,
   placeInPlan,
   Counted,
@@ -132,46 +130,6 @@ fn write_fields(t: MessageType, count: usize, s: &[u8], out: &mut [u8]) -> usize
     }
 }
 
-// Whether a message of a type has field 19, which alone is not written as it stands.
-fn has_field19(t: MessageType) -> bool
-    ensures { λ r. ⌜ r ≡ hasField19 t ⌝ }
-{
-    match t {
-        MessageType::Fpl => false,
-        MessageType::Chg => false,
-        MessageType::Cnl => false,
-        MessageType::Dla => false,
-        MessageType::Dep => false,
-        MessageType::Arr => false,
-        MessageType::Rqp => false,
-        MessageType::Rqs => false,
-        MessageType::Spl => true,
-    }
-}
-
-// Writes a text in its parentheses at the front of `out`.
-fn write_enclosed(s: &[u8], out: &mut [u8]) -> usize
-    requires { ⌜ length (enclosed (now s)) ≤ length (now out) ⌝ }
-    ensures { λ r. ⌜ (r ≡ length (enclosed (now (s .entry)))) × (now (out .exit) ≡ front (enclosed (now (s .entry))) (now (out .entry))) ⌝ }
-{
-    out[0] = b'(';
-    let n = text::put(s, &mut out[1..]);
-    out[n + 1] = b')';
-    n + 2
-}
-
-// Writes the spelling at the front of `out`: field by field where there is a field 19, and the text whole where there is none.
-fn write_spelling(t: MessageType, count: usize, s: &[u8], out: &mut [u8]) -> usize
-    requires { ⌜ (length (spelledFrom 40 (formsOf t count) (split 45 (now s))) ≤ length (now out)) × (length (formsOf t count) ≡ length (split 45 (now s))) ⌝ }
-    ensures { λ r. ⌜ (r ≡ length (spelledFrom 40 (formsOf t count) (split 45 (now (s .entry)))))
-        × (now (out .exit) ≡ front (spelledFrom 40 (formsOf t count) (split 45 (now (s .entry)))) (now (out .entry))) ⌝ }
-{
-    if has_field19(t) {
-        return write_fields(t, count, s, out);
-    }
-    write_enclosed(s, out)
-}
-
 // The cursor n fields on.
 fn onward(s: &[u8], from: Cursor, n: usize) -> Cursor
     requires { ⌜ from .at ≤ length (now s) ⌝ }
@@ -229,17 +187,13 @@ fn place_in_plan(field: u8) -> usize
     if field == 13 { 5 } else { 7 }
 }
 
-// Whether the spelling fits so many bytes. It is never longer than the text in its parentheses, and only field 19 makes it shorter, so it is
-// measured only where there is one and the text does not fit.
+// Whether the spelling fits so many bytes. It is never longer than the text with its parentheses, so it is measured only where these do not fit.
 fn has_room(t: MessageType, count: usize, s: &[u8], room: usize) -> bool
     requires { ⌜ (length (now s) ≤ 1800) × (length (formsOf t count) ≡ length (split 45 (now s))) ⌝ }
     ensures { λ r. ⌜ r ≡ leb (length (spelledFrom 40 (formsOf t count) (split 45 (now (s .entry))))) room ⌝ }
 {
     if s.len() + 2 <= room {
         return true;
-    }
-    if !has_field19(t) {
-        return false;
     }
     spelled_length(t, count, s) <= room
 }
@@ -257,7 +211,7 @@ fn read_room(t: MessageType, count: usize, msg: &[u8], s: &[u8], out: &mut [u8])
             place: 0,
         };
     }
-    let n = write_spelling(t, count, s, out);
+    let n = write_fields(t, count, s, out);
     Answer::Accepted(t, n)
 }
 

@@ -25,10 +25,9 @@ returns c =
     told (roomAs (a .t) (a .msg .now) (length (a .out .now))) _ (a .msg .now) (a .out .now) _
     (room-short (a .t) (a .msg .now) (a .count) (a .s .now) (c .before .before .before .before .before .pre) (length (a .out .now)) due refl h) refl
 
-write-spelling-requires : tie.Need-write-spelling-requires
-write-spelling-requires c κs =
-    let h = sym (c .before .before .has-room .ensures) ∙ not-false _ (c .before .if1 .left) in
-    (leb-true _ _ h, c .before .before .before .before .before .before .pre .even)
+write-fields-requires : tie.Need-write-fields-requires
+write-fields-requires c κs =
+    (leb-true _ _ (sym (c .before .before .has-room .ensures) ∙ not-false _ (c .before .if1 .left)), c .before .before .before .before .before .before .pre .even)
 
 same-length : tie.Need-same-length
 same-length c = search needs
@@ -37,10 +36,9 @@ returns-2 : tie.Need-returns-2
 returns-2 c =
     let a = c .before .before .before .before .before .before .before .before .before .args in
     let k = c .before .before .before .before .before .before .before .before .before .pre in
-    let p = c .before .before .write-spelling in
+    let p = c .before .before .write-fields in
     let due = length (spelledFrom 40 (formsOf (a .t) (a .count)) (split 45 (a .s .now))) in
-    let enough = sym (c .before .before .before .before .before .has-room .ensures) ∙ not-false _ (c .before .before .before .before .if1 .left) in
-    let h = leb-true due (length (a .out .now)) enough in
+    let h = leb-true due (length (a .out .now)) (sym (c .before .before .before .before .before .has-room .ensures) ∙ not-false _ (c .before .before .before .before .if1 .left)) in
     told (roomAs (a .t) (a .msg .now) (length (a .out .now))) _ (a .msg .now) (a .out .now) _
     (room-enough (a .t) (a .msg .now) (a .count) (a .s .now) k (length (a .out .now)) (p .result) (p .ensures .0) (omega (arith, p .ensures .0, h)))
     (p .ensures .1 ∙ ap (λ (l : List ℕ). front l (a .out .now)) (spelling-is (a .t) (a .msg .now) (a .count) (a .s .now) k))
@@ -48,4 +46,4 @@ returns-2 c =
 pub read-room-spec : {M : Type 1} → statement M
 read-room-spec =
     tie.close
-    (tie.spec has-room-requires returns write-spelling-requires same-length returns-2)
+    (tie.spec has-room-requires returns write-fields-requires same-length returns-2)
