@@ -1,0 +1,93 @@
+-- `vectors::held::offer_into` meets its contract. Assumes nothing.
+use mathlib.Core.Path.{sym}
+use lib.Seq.{length-take-le, length-front}
+use lib.ListN.{drop, length-append}
+use Rattle.vectors.proofs.held.Room.{update-room}
+use native.Mathlib.Omega.{arith}
+use borrow.Author.Needs.{needs}
+use Rattle.vectors.proofs.held.offer_into.Statement.{statement}
+use Rattle.vectors.proofs.held.offer_into.Tie as tie
+
+fill-requires : tie.Need-fill-requires
+fill-requires c κs = search needs
+
+slice-reshare-prefix-update : tie.Need-slice-reshare-prefix-update
+slice-reshare-prefix-update c = search needs
+
+slice-aggregate-update : tie.Need-slice-aggregate-update
+slice-aggregate-update c =
+    let p = c .before .before .before .before .before .before .before .before .before .pre in
+    sym (length-take-le _ _ (omega (arith, p .3, p .2)))
+
+slice-relend-prefix-update : tie.Need-slice-relend-prefix-update
+slice-relend-prefix-update c = search needs
+
+slice-aggregate-update-2 : tie.Need-slice-aggregate-update-2
+slice-aggregate-update-2 c =
+    let p = c .before .before .before .before .before .before .before .before .before .before .pre in
+    sym (length-take-le _ _ (omega (arith, p .0, p .1, c .before .before .before .before .before .fill .kept)))
+
+update-requires : tie.Need-update-requires
+update-requires c κs = search needs
+
+enum-known-next : tie.Need-enum-known-next
+enum-known-next c = search needs
+
+accept-requires : tie.Need-accept-requires
+accept-requires c κs =
+    let s = c .before .before .before .before .before .before .before .before .before .before .before .before .before .before .before .before .before .before in
+    let r = c .before .before .before .before .before .before .before .update in
+    let f = c .before .before .before .before .before .before .before .before .before .before .before .before .before .fill in
+    let new = r .last .1 .1 .1 .0 in
+    let fits = update-room _ _ _ _ (r .ensures .0) (c .before .before .before .next .given .1) in
+    let long = length-front (f .last .0) new (s .args .room) (r .kept .1 .1 .1 .0) in (
+      omega (arith, fits, r .kept .1 .1 .1 .0, length-append new (drop (s .args .room) (f .last .0))),
+      omega (arith, long, f .kept, s .pre .1),
+      s .pre .2,
+      s .pre .3,
+    )
+
+enum-known-number : tie.Need-enum-known-number
+enum-known-number c = search needs
+
+say-refused-requires : tie.Need-say-refused-requires
+say-refused-requires c κs = search needs
+
+same-length : tie.Need-same-length
+same-length c = search needs
+
+same-length-2 : tie.Need-same-length-2
+same-length-2 c = search needs
+
+returns : tie.Need-returns
+returns c = search needs
+
+same-length-3 : tie.Need-same-length-3
+same-length-3 c = search needs
+
+same-length-4 : tie.Need-same-length-4
+same-length-4 c = search needs
+
+returns-2 : tie.Need-returns-2
+returns-2 c = search needs
+
+pub offer-into-spec : {M : Type 1} → statement M
+offer-into-spec =
+    tie.close
+    (tie.spec
+    fill-requires
+    slice-reshare-prefix-update
+    slice-aggregate-update
+    slice-relend-prefix-update
+    slice-aggregate-update-2
+    update-requires
+    enum-known-next
+    accept-requires
+    enum-known-number
+    say-refused-requires
+    same-length
+    same-length-2
+    returns
+    same-length-3
+    same-length-4
+    returns-2)
