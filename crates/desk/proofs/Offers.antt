@@ -1,6 +1,6 @@
 -- What filing a plan and offering a piece to the strip leave on the desk. Assumes nothing.
 use Prim.Native.Nat.{ℕ, _+_, _-_, _≤_, _<_}
-use mathlib.Core.Path.{_≡_, refl, sym, ap, subst, _∙_}
+use mathlib.Core.Path.{_≡_, refl, sym, ap, _∙_}
 use mathlib.Core.Bool.{Bool, true, false, cond}
 use mathlib.Core.List.{List, [], _∷_, map}
 use mathlib.Core.Option.{Option, some}
@@ -16,7 +16,6 @@ use Rattle.message.specs.declared.Answer.{Answer}
 use Rattle.message.specs.declared.Answer.the-variants.{Accepted as ReadAs, Refused as NotRead}
 use Rattle.message.specs.Reading.{isPlan, spellingOf, answerOf, writtenAs, outAfter}
 use Rattle.message.proofs.Reached.{accepted-taken}
-use Rattle.state.specs.declared.State.{State}
 use Rattle.state.specs.declared.State.the-variants.{Filed}
 use Rattle.state.specs.declared.Strip.{Strip}
 use Rattle.strip.specs.declared.Updated.{Updated}
@@ -24,7 +23,7 @@ use Rattle.strip.specs.declared.Updated.the-variants.{Accepted, Refused}
 use Rattle.strip.specs.Updating.{updateOf, outAfter as newAfter}
 use Rattle.history.specs.Demand3.{Board, putAs, updater, offered, offeredAll}
 use Rattle.history.proofs.Strip.{is-plan}
-use Rattle.history.proofs.Causes.{Took, Verdict, verdict}
+use Rattle.history.proofs.Causes.{accepted-fits}
 use Rattle.desk.specs.declared.Held.{Held}
 use Rattle.desk.specs.declared.Held.the-variants.{Nothing, Flight}
 use Rattle.desk.specs.Desk.{boardIn, InRoom, filingAs, filedBy, lent, offerOf, boardAfter, afterAll, heldAfter, Offering}
@@ -63,12 +62,6 @@ module _ (buffer m after : List ℕ) (wide : length buffer ≡ 1800) where
 
 -- OFFERING
 
--- an accepted update fits the room that it was lent
-pub in-lent : (strip : List ℕ) (s : State) (m : List ℕ) (room : ℕ) (next : Strip) (k : ℕ) → updateOf strip s m room ≡ Accepted next k → k ≤ room
-in-lent strip s m room next k e =
-    let t : Took strip s m room next k = subst (Verdict strip s m room) e (verdict strip s m room) in
-    omega (arith, t .long, t .fits)
-
 module _ (held : Strip) (n : ℕ) (buffer m after : List ℕ) where
   abbrev board : Board
   board = record { strip = take n buffer; state = held .state }
@@ -95,7 +88,7 @@ module _ (held : Strip) (n : ℕ) (buffer m after : List ℕ) where
       → Offering (Flight held n) buffer m (Accepted next k) after
   unfolding front
   taken next k new e q l w =
-      let h : k ≤ 1800 = in-lent (take n buffer) (held .state) m 1800 next k e in
+      let h : k ≤ 1800 = accepted-fits (take n buffer) (held .state) m 1800 next k e in
       record {
         answer-is = sym e;
         board-is =

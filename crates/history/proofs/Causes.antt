@@ -367,6 +367,10 @@ module _ (strip : List ℕ) (s : State) (m : List ℕ) (room : ℕ) where
           subst Verdict (sym (fifteen strip s m room ∙ ap (λ (b : Bool). cond b (readAs (answerOf m 1800) strip s m room) (Refused 15 0 0)) q))
           (not-proper (λ p. false≢true (sym q ∙ proper-tested strip s p)))
 
+  -- an accepted update fits the room that it was lent
+  pub accepted-fits : (next : Strip) (k : ℕ) → updateOf strip s m room ≡ Accepted next k → k ≤ room
+  accepted-fits next k e = let t : Took strip s m room next k = subst Verdict e verdict in omega (arith, t .long, t .fits)
+
   -- REFUSED WITH A NUMBER exactly where that cause is
 
   pub refused-cause : (number field place : ℕ) → updateOf strip s m room ≡ Refused number field place → Cause strip s m room number field place

@@ -4,7 +4,8 @@ use mathlib.Core.Path.{refl, sym, _∙_}
 use borrow.Author.Needs.{needs}
 use lib.ListN.{take}
 use lib.Seq.{length-take-le}
-use Rattle.desk.proofs.Offers.{in-lent, refused, taken}
+use Rattle.history.proofs.Causes.{accepted-fits}
+use Rattle.desk.proofs.Offers.{refused, taken}
 use Rattle.desk.proofs.offer.Statement.{statement}
 use Rattle.desk.proofs.offer.Tie as tie
 
@@ -27,7 +28,7 @@ array-share-prefix-new : tie.Need-array-share-prefix-new
 array-share-prefix-new c =
     let u = c .before .before .before .before in
     let a = u .before .before .before .before .before .args in
-    let h = in-lent (take (a .n) (a .strip .now)) (a .held .state) (a .piece .now) 1800 _ _ (sym (u .update .ensures .0) ∙ c .before .next .given .1) in
+    let h = accepted-fits (take (a .n) (a .strip .now)) (a .held .state) (a .piece .now) 1800 _ _ (sym (u .update .ensures .0) ∙ c .before .next .given .1) in
     omega (arith, h, u .update .kept .1 .1 .1 .0)
 
 slice-aggregate-put : tie.Need-slice-aggregate-put

@@ -1,8 +1,8 @@
 -- `vectors::held::offer_into` meets its contract. Assumes nothing.
-use mathlib.Core.Path.{sym}
+use mathlib.Core.Path.{sym, _∙_}
 use lib.Seq.{length-take-le, length-front}
 use lib.ListN.{drop, length-append}
-use Rattle.vectors.proofs.held.Room.{update-room}
+use Rattle.history.proofs.Causes.{accepted-fits}
 use native.Mathlib.Omega.{arith}
 use borrow.Author.Needs.{needs}
 use Rattle.vectors.proofs.held.offer_into.Statement.{statement}
@@ -39,7 +39,7 @@ accept-requires c κs =
     let r = c .before .before .before .before .before .before .before .update in
     let f = c .before .before .before .before .before .before .before .before .before .before .before .before .before .fill in
     let new = r .last .1 .1 .1 .0 in
-    let fits = update-room _ _ _ _ (r .ensures .0) (c .before .before .before .next .given .1) in
+    let fits = accepted-fits _ _ _ _ _ _ (sym (r .ensures .0) ∙ c .before .before .before .next .given .1) in
     let long = length-front (f .last .0) new (s .args .room) (r .kept .1 .1 .1 .0) in (
       omega (arith, fits, r .kept .1 .1 .1 .0, length-append new (drop (s .args .room) (f .last .0))),
       omega (arith, long, f .kept, s .pre .1),
