@@ -34,76 +34,96 @@ use Rattle.strip.specs.declared.Offered.{Offered}
 use Rattle.strip.specs.declared.Offered.the-variants.{Says, Unfit}
 use Rattle.strip.specs.declared.Updated.{Updated}
 use Rattle.strip.specs.declared.Updated.the-variants.{Accepted, Refused}
-use Rattle.strip.specs.Updating.{canonicalPlan, readAsPlan, plan, said, textSaid, eventOf, differences, differs, amended, newStrip, roomAs, amendedAs, eventAs, readAs, updateOf, typeRead, writtenAs, outAfter}
-use Rattle.strip.specs.Texts.{amendedOf, newText, offeredAs, textsAs, writtenText, Due, notReadAs}
+use Rattle.strip.specs.Updating.{canonicalPlan, readAsPlan, plan, said, textSaid, eventOf, differences, differs, amended, newStrip}
+use Rattle.strip.specs.Updating.{roomAs, amendedAs, eventAs, readAs, updateOf, typeRead, writtenAs, outAfter}
+use Rattle.strip.specs.Texts.{amendedOf, newText, offeredAs, textsAs, writtenText, Due, Amends, Offers, notReadAs}
 use Rattle.strip.proofs.Steps.{plan-type, spelling-two}
 
 -- THE ANSWER DUE, and the output that goes with it
 
-pub told : (due answer : Updated) (t : MessageType) (p s out after : List ℕ) → due ≡ answer → after ≡ writtenText answer t p s out → Due due t p s out answer after
-told due answer t p s out after e w = (sym e, w ∙ ap (λ (a : Updated). writtenText a t p s out) (sym e))
+module _ (due answer : Updated) (t : MessageType) (p s out after : List ℕ) where
+  told : due ≡ answer → after ≡ writtenText answer t p s out → Due due t p s out answer after
+  told e w = (sym e, w ∙ ap (λ (a : Updated). writtenText a t p s out) (sym e))
 
-pub passed-on : (due there answer : Updated) (t : MessageType) (p s out after : List ℕ) → due ≡ there → Due there t p s out answer after → Due due t p s out answer after
-passed-on due there answer t p s out after e d = (d .0 ∙ sym e, d .1 ∙ ap (λ (a : Updated). writtenText a t p s out) (sym e))
+  passed-on : (there : Updated) → due ≡ there → Due there t p s out answer after → Due due t p s out answer after
+  passed-on there e d = (d .0 ∙ sym e, d .1 ∙ ap (λ (a : Updated). writtenText a t p s out) (sym e))
 
 -- 10, 16 AND 11
 
-module _ (t : MessageType) (p s : List ℕ) (next : State) (room : ℕ) where
-  by-field : (u : ℕ) → u ≡ unexplainedIn (amendedOf t p s)
-      → amendedAs (amendedOf t p s) next room ≡ cond (eqb u 0) (roomAs (newText t p s) next room) (Refused 10 u 0)
+module _ (t : MessageType) (p s : List ℕ) (next : State) (out : List ℕ) where
+  abbrev amend-due : Updated
+  amend-due = amendedAs (amendedOf t p s) next (length out)
+
+  refused-so : (number field : ℕ) → amend-due ≡ Refused number field 0 → Amends t next p s out (Refused number field 0) out
+  refused-so number field e = told amend-due (Refused number field 0) t p s out out e refl
+
+  by-field : (u : ℕ) → u ≡ unexplainedIn (amendedOf t p s) → amend-due ≡ cond (eqb u 0) (roomAs (newText t p s) next (length out)) (Refused 10 u 0)
   unfolding newText
-  by-field u e = ap (λ (v : ℕ). cond (eqb v 0) (roomAs (messageOf (amendedOf t p s)) next room) (Refused 10 v 0)) (sym e)
+  by-field u e = ap (λ (v : ℕ). cond (eqb v 0) (roomAs (messageOf (amendedOf t p s)) next (length out)) (Refused 10 v 0)) (sym e)
 
-  pub left-unexplained : (u : ℕ) → u ≡ unexplainedIn (amendedOf t p s) → (u ≡ 0 → ⊥) → amendedAs (amendedOf t p s) next room ≡ Refused 10 u 0
-  left-unexplained u e ne = by-field u e ∙ ap (λ (b : Bool). cond b (roomAs (newText t p s) next room) (Refused 10 u 0)) (ne-eqb u 0 ne)
+  pub left-unexplained : (u : ℕ) → u ≡ unexplainedIn (amendedOf t p s) → (u ≡ 0 → ⊥) → Amends t next p s out (Refused 10 u 0) out
+  left-unexplained u e ne =
+      refused-so 10 u (by-field u e ∙ ap (λ (b : Bool). cond b (roomAs (newText t p s) next (length out)) (Refused 10 u 0)) (ne-eqb u 0 ne))
 
-  explained : (u : ℕ) → u ≡ unexplainedIn (amendedOf t p s) → u ≡ 0 → amendedAs (amendedOf t p s) next room ≡ roomAs (newText t p s) next room
-  explained u e z = by-field u e ∙ ap (λ (v : ℕ). cond (eqb v 0) (roomAs (newText t p s) next room) (Refused 10 v 0)) z
+  explained : (u : ℕ) → u ≡ unexplainedIn (amendedOf t p s) → u ≡ 0 → amend-due ≡ roomAs (newText t p s) next (length out)
+  explained u e z = by-field u e ∙ ap (λ (v : ℕ). cond (eqb v 0) (roomAs (newText t p s) next (length out)) (Refused 10 v 0)) z
 
   module _ (u : ℕ) (e : u ≡ unexplainedIn (amendedOf t p s)) (z : u ≡ 0) (n : ℕ) (long : n ≡ length (newText t p s)) where
-    by-length : amendedAs (amendedOf t p s) next room ≡ cond (ltb 1800 n) (Refused 16 0 0) (cond (ltb room n) (Refused 11 0 0) (Accepted (record { state = next }) n))
-    by-length =
-        explained u e z
-        ∙ ap (λ (k : ℕ). cond (ltb 1800 k) (Refused 16 0 0) (cond (ltb room k) (Refused 11 0 0) (Accepted (record { state = next }) k))) (sym long)
+    abbrev by-room : ℕ → Updated
+    by-room k = cond (ltb 1800 k) (Refused 16 0 0) (cond (ltb (length out) k) (Refused 11 0 0) (Accepted (record { state = next }) k))
 
-    pub too-long : 1800 < n → amendedAs (amendedOf t p s) next room ≡ Refused 16 0 0
-    too-long h = by-length ∙ rw (lt-ltb 1800 n h)
+    by-length : amend-due ≡ by-room n
+    by-length = explained u e z ∙ ap by-room (sym long)
 
-    pub no-room : n ≤ 1800 → room < n → amendedAs (amendedOf t p s) next room ≡ Refused 11 0 0
-    no-room h r = by-length ∙ rw (le-ltb 1800 n h, lt-ltb room n r)
+    pub too-long : 1800 < n → Amends t next p s out (Refused 16 0 0) out
+    too-long h = refused-so 16 0 (by-length ∙ rw (lt-ltb 1800 n h))
 
-    pub fits-room : n ≤ 1800 → n ≤ room → amendedAs (amendedOf t p s) next room ≡ Accepted (record { state = next }) n
-    fits-room h r = by-length ∙ rw (le-ltb 1800 n h, le-ltb room n r)
+    pub no-room : n ≤ 1800 → length out < n → Amends t next p s out (Refused 11 0 0) out
+    no-room h r = refused-so 11 0 (by-length ∙ rw (le-ltb 1800 n h, lt-ltb (length out) n r))
+
+    pub fits-room : n ≤ 1800 → n ≤ length out → (after : List ℕ) → after ≡ front (newText t p s) out
+        → Amends t next p s out (Accepted (record { state = next }) n) after
+    fits-room h r after w =
+        told amend-due (Accepted (record { state = next }) n) t p s out after (by-length ∙ rw (le-ltb 1800 n h, le-ltb (length out) n r)) w
 
 -- 14, 12 AND 13
 
-module _ (t : MessageType) (p : List ℕ) (state : State) (s : List ℕ) (room : ℕ) where
-  by-event : (o : Offered) → eventOf t (split 45 s) ≡ o → textsAs t p state s room ≡ offeredAs o t p state s room
-  unfolding textsAs
-  by-event o e = ap (λ (x : Offered). offeredAs x t p state s room) e
+module _ (t : MessageType) (p : List ℕ) (state : State) (s out : List ℕ) where
+  abbrev offer-due : Updated
+  offer-due = textsAs t p state s (length out)
 
-  pub unfit : eventOf t (split 45 s) ≡ Unfit → textsAs t p state s room ≡ Refused 14 0 0
-  unfit e = by-event Unfit e
+  turned-down : (number : ℕ) → offer-due ≡ Refused number 0 0 → Offers t state p s out (Refused number 0 0) out
+  turned-down number e = told offer-due (Refused number 0 0) t p s out out e refl
+
+  by-event : (o : Offered) → eventOf t (split 45 s) ≡ o → offer-due ≡ offeredAs o t p state s (length out)
+  unfolding textsAs
+  by-event o e = ap (λ (x : Offered). offeredAs x t p state s (length out)) e
+
+  pub unfit : eventOf t (split 45 s) ≡ Unfit → Offers t state p s out (Refused 14 0 0) out
+  unfit e = turned-down 14 (by-event Unfit e)
 
   module _ (e : Event) (is-event : eventOf t (split 45 s) ≡ Says e) where
+    abbrev by-state : Bool → Updated
+    by-state b = cond b (amendedAs (amendedOf t p s) (nextOf state e) (length out)) (Refused 13 0 0)
+
     by-differences : (b : Bool) → differs (differences t (split 45 p) (split 45 s)) ≡ b
-        → textsAs t p state s room ≡ cond b (Refused 12 0 0) (cond (allowedIn state e) (amendedAs (amendedOf t p s) (nextOf state e) room) (Refused 13 0 0))
-    by-differences b d =
-        by-event (Says e) is-event
-        ∙ ap (λ (x : Bool). cond x (Refused 12 0 0) (cond (allowedIn state e) (amendedAs (amendedOf t p s) (nextOf state e) room) (Refused 13 0 0))) d
+        → offer-due ≡ cond b (Refused 12 0 0) (by-state (allowedIn state e))
+    by-differences b d = by-event (Says e) is-event ∙ ap (λ (x : Bool). cond x (Refused 12 0 0) (by-state (allowedIn state e))) d
 
-    pub differing : differs (differences t (split 45 p) (split 45 s)) ≡ true → textsAs t p state s room ≡ Refused 12 0 0
-    differing d = by-differences true d
+    pub differing : differs (differences t (split 45 p) (split 45 s)) ≡ true → Offers t state p s out (Refused 12 0 0) out
+    differing d = turned-down 12 (by-differences true d)
 
-    pub not-allowed : differs (differences t (split 45 p) (split 45 s)) ≡ false → allowedIn state e ≡ false → textsAs t p state s room ≡ Refused 13 0 0
-    not-allowed d a =
-        by-differences false d ∙ ap (λ (x : Bool). cond x (amendedAs (amendedOf t p s) (nextOf state e) room) (Refused 13 0 0)) a
+    module _ (same-flight : differs (differences t (split 45 p) (split 45 s)) ≡ false) where
+      pub not-allowed : allowedIn state e ≡ false → Offers t state p s out (Refused 13 0 0) out
+      not-allowed a = turned-down 13 (by-differences false same-flight ∙ ap by-state a)
 
-    pub allowed : differs (differences t (split 45 p) (split 45 s)) ≡ false → allowedIn state e ≡ true → (next : State) → next ≡ nextOf state e
-        → textsAs t p state s room ≡ amendedAs (amendedOf t p s) next room
-    allowed d a next n =
-        by-differences false d ∙ ap (λ (x : Bool). cond x (amendedAs (amendedOf t p s) (nextOf state e) room) (Refused 13 0 0)) a
-        ∙ ap (λ (x : State). amendedAs (amendedOf t p s) x room) (sym n)
+      pub allowed : allowedIn state e ≡ true → (next : State) → next ≡ nextOf state e → (answer : Updated) (after : List ℕ)
+          → Amends t next p s out answer after → Offers t state p s out answer after
+      allowed a next n answer after d =
+          let amends = amendedAs (amendedOf t p s) next (length out) in
+          let e : offer-due ≡ amends
+          = by-differences false same-flight ∙ ap by-state a ∙ ap (λ (x : State). amendedAs (amendedOf t p s) x (length out)) (sym n) in
+          passed-on offer-due answer t p s out after amends e d
 
 -- A LIST OF NINE, field by field
 
@@ -239,7 +259,8 @@ module _ (strip : List ℕ) (state : State) (m out : List ℕ) where
   abbrev pub Whole : Updated → List ℕ → Type 0
   Whole answer after = (answer ≡ updateOf strip state m (length out)) × (after ≡ outAfter strip state m out)
 
-  whole : (u : Updated) → updateOf strip state m (length out) ≡ u → (answer : Updated) (after : List ℕ) → answer ≡ u → after ≡ writtenAs u strip m out → Whole answer after
+  whole : (u : Updated) → updateOf strip state m (length out) ≡ u → (answer : Updated) (after : List ℕ)
+      → answer ≡ u → after ≡ writtenAs u strip m out → Whole answer after
   unfolding outAfter
   whole u e answer after a w = (a ∙ sym e, w ∙ ap (λ (x : Updated). writtenAs x strip m out) (sym e))
 
@@ -259,15 +280,17 @@ module _ (strip : List ℕ) (state : State) (m out : List ℕ) where
       reading : (a : Answer) → answerOf m 1800 ≡ a → updateOf strip state m (length out) ≡ readAs a strip state m (length out)
       reading a e = by-tests true true is-sound is-plan ∙ ap (λ (x : Answer). readAs x strip state m (length out)) e
 
-      pub not-read : (number field place : ℕ) → answerOf m 1800 ≡ NotRead number field place → (answer : Updated) → answer ≡ notReadAs number field place → Whole answer out
-      not-read number field place e answer a = whole (notReadAs number field place) (reading (NotRead number field place) e) answer out a (stays (leb number 9))
+      pub not-read : (number field place : ℕ) → answerOf m 1800 ≡ NotRead number field place
+          → (answer : Updated) → answer ≡ notReadAs number field place → Whole answer out
+      not-read number field place e answer a =
+          whole (notReadAs number field place) (reading (NotRead number field place) e) answer out a (stays (leb number 9))
         where
           stays : (b : Bool) → out ≡ writtenAs (cond b (Refused number field place) (Refused 14 0 0)) strip m out
           stays true = refl
           stays false = refl
 
-      pub was-read : (t : MessageType) (n : ℕ) → answerOf m 1800 ≡ ReadAs t n → (p s : List ℕ) → p ≡ inner strip → s ≡ textSaid t m → (answer : Updated) (after : List ℕ)
-          → Due (textsAs t p state s (length out)) t p s out answer after → Whole answer after
+      pub was-read : (t : MessageType) (n : ℕ) → answerOf m 1800 ≡ ReadAs t n → (p s : List ℕ) → p ≡ inner strip → s ≡ textSaid t m
+          → (answer : Updated) (after : List ℕ) → Due (textsAs t p state s (length out)) t p s out answer after → Whole answer after
       was-read t n e p s ep es answer after d =
           let same = texts-same strip m (plan-facts strip is-plan .nine) t n e state (length out) in
           let v = textsAs t (inner strip) state (textSaid t m) (length out) in

@@ -99,27 +99,29 @@ plan-type Rqs e = absurd (false≢true e)
 plan-type Spl e = absurd (false≢true e)
 
 module _ (strip : List ℕ) where
-  pub plan-refused : (number field place : ℕ) → answerOf strip 1800 ≡ NotRead number field place → false ≡ canonicalPlan strip
+  plan-by : {a : Answer} → answerOf strip 1800 ≡ a → canonicalPlan strip ≡ (readAsPlan a && same (spellingOf Fpl strip) strip)
   unfolding canonicalPlan
-  plan-refused number field place e = sym (ap (λ (a : Answer). readAsPlan a && same (spellingOf Fpl strip) strip) e)
+  plan-by e = ap (λ (x : Answer). readAsPlan x && same (spellingOf Fpl strip) strip) e
+
+  pub plan-refused : (number field place : ℕ) → answerOf strip 1800 ≡ NotRead number field place → false ≡ canonicalPlan strip
+  plan-refused number field place e = sym (plan-by e)
 
   pub plan-other : (t : MessageType) (n : ℕ) → answerOf strip 1800 ≡ ReadAs t n → isPlan t ≡ false → false ≡ canonicalPlan strip
-  unfolding canonicalPlan
-  plan-other t n e p = sym (ap (λ (a : Answer). readAsPlan a && same (spellingOf Fpl strip) strip) e ∙ ap (λ (b : Bool). b && same (spellingOf Fpl strip) strip) p)
+  plan-other t n e p = sym (plan-by e ∙ ap (λ (b : Bool). b && same (spellingOf Fpl strip) strip) p)
 
-  pub plan-same : (t : MessageType) (n : ℕ) (w : List ℕ) → answerOf strip 1800 ≡ ReadAs t n → isPlan t ≡ true → w ≡ spellingOf t strip → same w strip ≡ canonicalPlan strip
-  unfolding canonicalPlan
+  pub plan-same : (t : MessageType) (n : ℕ) (w : List ℕ) → answerOf strip 1800 ≡ ReadAs t n → isPlan t ≡ true → w ≡ spellingOf t strip
+      → same w strip ≡ canonicalPlan strip
   plan-same t n w e p k =
-      let f = plan-type t p in
-      sym (ap (λ (a : Answer). readAsPlan a && same (spellingOf Fpl strip) strip) e ∙ ap (λ (b : Bool). b && same (spellingOf Fpl strip) strip) p
-      ∙ ap (λ (u : MessageType). same (spellingOf u strip) strip) (sym f) ∙ ap (λ (v : List ℕ). same v strip) (sym k))
+      sym (plan-by e ∙ ap (λ (b : Bool). b && same (spellingOf Fpl strip) strip) p
+      ∙ ap (λ (u : MessageType). same (spellingOf u strip) strip) (sym (plan-type t p)) ∙ ap (λ (v : List ℕ). same v strip) (sym k))
 
 -- THE FIELDS OF THE AMENDED PLAN that 10 looks at
 
-pub unexplained-are : (t : MessageType) (p s : List ℕ) (a b d e : Word) → a ≡ contentOf t p s 3 → b ≡ contentOf t p s 5 → d ≡ contentOf t p s 7 → e ≡ contentOf t p s 8
-    → unexplained a b d e ≡ unexplainedIn (amendedOf t p s)
-unexplained-are t p s a b d e i j k l =
-    ap₂ (λ (v w : Word). unexplained v w d e) i j ∙ ap₂ (λ (v w : Word). unexplained (contentOf t p s 3) (contentOf t p s 5) v w) k l
+module _ (t : MessageType) (p s : List ℕ) where
+  pub unexplained-are : {a b d e : Word} → a ≡ contentOf t p s 3 → b ≡ contentOf t p s 5 → d ≡ contentOf t p s 7 → e ≡ contentOf t p s 8
+      → unexplained a b d e ≡ unexplainedIn (amendedOf t p s)
+  unexplained-are {a} {b} {d} {e} i j k l =
+      ap₂ (λ (v w : Word). unexplained v w d e) i j ∙ ap₂ (λ (v w : Word). unexplained (contentOf t p s 3) (contentOf t p s 5) v w) k l
 
 -- as the code has it: `last` is the scratch after the reading
 module _ (m buf last : List ℕ) (d : last ≡ readAfter m buf) (t : MessageType) (n : ℕ) (e : answerOf m (length buf) ≡ ReadAs t n) where

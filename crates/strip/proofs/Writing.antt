@@ -40,33 +40,34 @@ unfolding behindHyphen
 next-behind zero s = refl
 next-behind (suc k) s = next-behind k (behind 45 s)
 
-pub next-field : (plan : List ℕ) (k at next : ℕ) → AtField plan k at → Stepped 45 plan at next → AtField plan (k + 1) next
-next-field plan k at next h step =
+pub next-field : {plan : List ℕ} {k at next : ℕ} → AtField plan k at → Stepped 45 plan at next → AtField plan (k + 1) next
+next-field {plan} {k} h step =
     record {
       inside = step .inside;
       ahead = step .over ∙ ap (behind 45) (h .ahead) ∙ sym (next-behind k plan) ∙ ap (λ (j : ℕ). behindHyphen j plan) (sym (add-one k));
     }
 
 -- the same, by the field's end
-pub behind-field : (plan : List ℕ) (k at e next : ℕ) → AtField plan k at → e ≡ at + upTo 45 (drop at plan) → next ≤ length plan → drop next plan ≡ drop (suc e) plan
-    → AtField plan (k + 1) next
-behind-field plan k at e next h end l d =
+pub behind-field : {plan : List ℕ} {k at e : ℕ} (next : ℕ) → AtField plan k at → e ≡ at + upTo 45 (drop at plan)
+    → (next ≤ length plan) × (drop next plan ≡ drop (suc e) plan) → AtField plan (k + 1) next
+behind-field {plan} {k} {at} {e} next h end step =
     let z : suc e ≡ at + suc (upTo 45 (drop at plan)) = omega arith in
     record {
-      inside = l;
+      inside = step .0;
       ahead =
-          d ∙ ap (λ (i : ℕ). drop i plan) z ∙ sym (drop-drop (suc (upTo 45 (drop at plan))) at plan) ∙ ap (behind 45) (h .ahead) ∙ sym (next-behind k plan)
-          ∙ ap (λ (j : ℕ). behindHyphen j plan) (sym (add-one k));
+          step .1 ∙ ap (λ (i : ℕ). drop i plan) z ∙ sym (drop-drop (suc (upTo 45 (drop at plan))) at plan)
+          ∙ ap (behind 45) (h .ahead) ∙ sym (next-behind k plan) ∙ ap (λ (j : ℕ). behindHyphen j plan) (sym (add-one k));
     }
 
-pub own-field : (plan : List ℕ) (at e : ℕ) → e ≡ at + upTo 45 (drop at plan) → take (e - at) (drop at plan) ≡ before 45 (drop at plan)
-own-field plan at e end = piece 45 plan at e end
-
 -- field k of the amended plan, from what stands at the cursor
-pub content-at : (t : MessageType) (plan said : List ℕ) (k at : ℕ) (own w : Word) → AtField plan k at → own ≡ before 45 (drop at plan) → w ≡ contentIn t own said k
-    → w ≡ contentOf t plan said k
-content-at t plan said k at own w h e c =
-    c ∙ ap (λ (v : Word). contentIn t v said k) (e ∙ ap (before 45) (h .ahead) ∙ sym (field-at k plan))
+module _ (t : MessageType) (plan said : List ℕ) {k at : ℕ} (h : AtField plan k at) where
+  pub content-at : {own w : Word} → own ≡ before 45 (drop at plan) → w ≡ contentIn t own said k → w ≡ contentOf t plan said k
+  content-at e c = c ∙ ap (λ (v : Word). contentIn t v said k) (e ∙ ap (before 45) (h .ahead) ∙ sym (field-at k plan))
+
+  -- the same, by the field's end
+  pub content-to : {e : ℕ} {w : Word} → e ≡ at + upTo 45 (drop at plan) → w ≡ contentIn t (take (e - at) (drop at plan)) said k
+      → w ≡ contentOf t plan said k
+  content-to {e} end c = content-at (piece 45 plan at e end) c
 
 -- THE MARKS OF NAMED FIELDS: a field that has no mark yet is not named by an entry before `at`
 
@@ -75,10 +76,11 @@ pub record Marking (said : List ℕ) (marks : List Bool) (at : ℕ) : Type 0 whe
   pub inside : at ≤ length said
   pub unmarked : (k : ℕ) → 0 < k → getD marks k false ≡ false → Seeking said k at
 
-pub marking-starts : (said : List ℕ) (marks : List Bool) (at : ℕ) → length marks ≡ 9 → at ≤ length said → drop at said ≡ behindHyphen 5 said → Marking said marks at
+pub marking-starts : (said : List ℕ) (marks : List Bool) (at : ℕ) → length marks ≡ 9 → at ≤ length said → drop at said ≡ behindHyphen 5 said
+    → Marking said marks at
 marking-starts said marks at n l d = record { nine = n; inside = l; unmarked = λ k h q. seeking-starts h l d }
 
-module _ (said : List ℕ) (marks : List Bool) (at e r : ℕ) (m : Marking said marks at) (end : e ≡ at + upTo 45 (drop at said)) (last : e ≤ length said)
+module _ {said : List ℕ} {marks : List Bool} {at e r : ℕ} (m : Marking said marks at) (end : e ≡ at + upTo 45 (drop at said)) (last : e ≤ length said)
     (is-rank : r ≡ whichOf (take (e - at) (drop at said))) (small : r ≤ 8) where
   other-rank : (k : ℕ) → getD (set marks r true) k false ≡ false → r ≡ k → ⊥
   other-rank k q z =
@@ -191,17 +193,18 @@ module _ (t : MessageType) (plan said : List ℕ) where
   pub counting-starts : Counting 0 0
   counting-starts = record { nine = omega arith; few = omega arith; ahead = omega (arith, ap length left-first) }
 
-  pub counting-next : (n j : ℕ) (w : List ℕ) → Counting n j → j < 9 → w ≡ contentOf t plan said j → length plan ≤ 1800 → length said ≤ 1800
+  pub counting-next : {n j : ℕ} {w : List ℕ} → Counting n j → j < 9 → w ≡ contentOf t plan said j → length plan ≤ 1800 → length said ≤ 1800
       → Counting (n + (1 + length w)) (j + 1)
-  counting-next n j w k h e p q =
+  counting-next {n} {j} {w} k h e p q =
+      let whole = length-append (leadOf j ∷ contentOf t plan said j) (left t plan said (j + 1)) in
       record {
         nine = omega arith;
         few = omega (arith, k .few, ap length e, content-short t plan said j 1800 p q);
-        ahead = omega (arith, k .ahead, ap length e, ap length (left-turn j h), length-append (leadOf j ∷ contentOf t plan said j) (left t plan said (j + 1)));
+        ahead = omega (arith, k .ahead, ap length e, ap length (left-turn j h), whole);
       }
 
-  pub counting-done : (n j : ℕ) → Counting n j → 9 ≤ j → n + 1 ≡ length (newText t plan said)
-  counting-done n j k h = omega (arith, k .ahead, ap length (left-last j h))
+  pub counting-done : {n j : ℕ} → Counting n j → 9 ≤ j → n + 1 ≡ length (newText t plan said)
+  counting-done {n} {j} k h = omega (arith, k .ahead, ap length (left-last j h))
 
   -- ITS WRITING: before field j the first o bytes are written, and the rest of the output is as it was
   pub record Amending (out₀ out : List ℕ) (o j : ℕ) : Type 0 where
@@ -214,40 +217,50 @@ module _ (t : MessageType) (plan said : List ℕ) where
   amending-starts out h = record { nine = omega arith; enough = h; long = refl; turn = due (begin (newText t plan said) out) left-first }
 
   -- a turn: the byte that leads to the field, and the field
-  module _ (out₀ out : List ℕ) (o j : ℕ) (k : Amending out₀ out o j) (h : j < 9) (lead : ℕ) (w : Word) (is-lead : lead ≡ leadOf j) (is-content : w ≡ contentOf t plan said j) where
-    ahead : left t plan said j ≡ (lead ∷ w) ++ left t plan said (j + 1)
-    ahead =
-        left-turn j h ∙ ap (λ (x : ℕ). (x ∷ contentOf t plan said j) ++ left t plan said (j + 1)) (sym is-lead)
-        ∙ ap (λ (v : Word). (lead ∷ v) ++ left t plan said (j + 1)) (sym is-content)
+  pub record Turn (out₀ out : List ℕ) (o j lead : ℕ) (w : Word) : Type 0 where
+    pub so-far : Amending out₀ out o j
+    pub more : j < 9
+    pub is-lead : lead ≡ leadOf j
+    pub is-content : w ≡ contentOf t plan said j
 
-    pub turn-room : o + length (lead ∷ w) + length (left t plan said (j + 1)) ≡ length (newText t plan said)
-    turn-room = room (lead ∷ w) (left t plan said (j + 1)) (due (k .turn) ahead)
+module _ {t : MessageType} {plan said out₀ out : List ℕ} {o j lead : ℕ} {w : Word} (u : Turn t plan said out₀ out o j lead w) where
+  ahead : left t plan said j ≡ (lead ∷ w) ++ left t plan said (j + 1)
+  ahead =
+      left-turn t plan said j (u .more)
+      ∙ ap (λ (x : ℕ). (x ∷ contentOf t plan said j) ++ left t plan said (j + 1)) (sym (u .is-lead))
+      ∙ ap (λ (v : Word). (lead ∷ v) ++ left t plan said (j + 1)) (sym (u .is-content))
 
-    -- the rest that is lent has room for it
-    pub turn-fits : length (lead ∷ w) ≤ length (take (length out - o) (drop o out))
-    turn-fits = omega (arith, turn-room, ap length (rest out o), length-drop o out, k .long, k .enough)
+  turn-due : Writing (newText t plan said) out₀ out o ((lead ∷ w) ++ left t plan said (j + 1))
+  turn-due = due (u .so-far .turn) ahead
 
-    pub turn-next : (ys : List ℕ) → ys ≡ front (lead ∷ w) (take (length out - o) (drop o out))
-        → length (take o out ++ (ys ++ drop (length out - o) (drop o out))) ≡ length out
-        → Amending out₀ (take o out ++ (ys ++ drop (length out - o) (drop o out))) (o + length (lead ∷ w)) (j + 1)
-    turn-next ys wrote l =
-        record {
-          nine = omega arith;
-          enough = k .enough;
-          long = l ∙ k .long;
-          turn = onward (lead ∷ w) (left t plan said (j + 1)) (due (k .turn) ahead) _ (lent out (lead ∷ w) o ys wrote);
-        }
+  pub turn-room : o + length (lead ∷ w) + length (left t plan said (j + 1)) ≡ length (newText t plan said)
+  turn-room = room (lead ∷ w) (left t plan said (j + 1)) turn-due
 
-  -- behind the last field the parenthesis is left
-  module _ (out₀ out : List ℕ) (o j : ℕ) (k : Amending out₀ out o j) (h : 9 ≤ j) where
-    closing : Writing (newText t plan said) out₀ out o ((41 ∷ []) ++ [])
-    closing = due (k .turn) (left-last j h)
+  -- the rest that is lent has room for it
+  pub turn-fits : length (lead ∷ w) ≤ length (take (length out - o) (drop o out))
+  turn-fits = omega (arith, turn-room, ap length (rest out o), length-drop o out, u .so-far .long, u .so-far .enough)
 
-    pub last-long : o + 1 ≡ length (newText t plan said)
-    last-long = omega (arith, room (41 ∷ []) [] closing)
+  pub turn-next : {ys : List ℕ} → ys ≡ front (lead ∷ w) (take (length out - o) (drop o out))
+      → length (take o out ++ (ys ++ drop (length out - o) (drop o out))) ≡ length out
+      → Amending t plan said out₀ (take o out ++ (ys ++ drop (length out - o) (drop o out))) (o + length (lead ∷ w)) (j + 1)
+  turn-next {ys} wrote l =
+      record {
+        nine = omega (arith, u .more);
+        enough = u .so-far .enough;
+        long = l ∙ u .so-far .long;
+        turn = onward (lead ∷ w) (left t plan said (j + 1)) turn-due _ (lent out (lead ∷ w) o ys wrote);
+      }
 
-    pub last-room : o < length out
-    last-room = omega (arith, last-long, k .long, k .enough)
+-- behind the last field the parenthesis is left
+module _ {t : MessageType} {plan said out₀ out : List ℕ} {o j : ℕ} (k : Amending t plan said out₀ out o j) (h : 9 ≤ j) where
+  closing : Writing (newText t plan said) out₀ out o ((41 ∷ []) ++ [])
+  closing = due (k .turn) (left-last t plan said j h)
 
-    pub last-written : set out o 41 ≡ front (newText t plan said) out₀
-    last-written = all-written (onward (41 ∷ []) [] closing (set out o 41) (store out o 41 last-room)) .1
+  pub last-long : o + 1 ≡ length (newText t plan said)
+  last-long = omega (arith, room (41 ∷ []) [] closing)
+
+  pub last-room : o < length out
+  last-room = omega (arith, last-long, k .long, k .enough)
+
+  pub last-written : set out o 41 ≡ front (newText t plan said) out₀
+  last-written = all-written (onward (41 ∷ []) [] closing (set out o 41) (store out o 41 last-room)) .1

@@ -19,7 +19,8 @@ abbrev filed : List ℕ
 filed = bytes "FPL-ABC12-IS-B738/M-SDFG/S-EHAM0930-N0440F310 DCT PAM DCT-EDDF0100 EDDK-0"
 
 -- a CHG replaces the fields that it names, a DLA the time in 13, a DEP nothing
-changed : newText Chg filed (bytes "CHG-ABC12-EHAM0930-EDDF-0-9/B39M/M-8/IN") ≡ bytes "(FPL-ABC12-IN-B39M/M-SDFG/S-EHAM0930-N0440F310 DCT PAM DCT-EDDF0100 EDDK-0)"
+changed : newText Chg filed (bytes "CHG-ABC12-EHAM0930-EDDF-0-9/B39M/M-8/IN")
+    ≡ bytes "(FPL-ABC12-IN-B39M/M-SDFG/S-EHAM0930-N0440F310 DCT PAM DCT-EDDF0100 EDDK-0)"
 unfolding newText namedBy labels
 changed = refl
 

@@ -318,7 +318,8 @@ fn write_new<'a>(
     out: &mut [u8],
 ) -> usize
     requires { ⌜ (length (newText t (now plan) (now said)) ≤ length (now out)) × (length marks ≡ 9) × Marks (now said) marks ⌝ }
-    ensures { λ r. ⌜ (r ≡ length (newText t (now (plan .entry)) (now (said .entry)))) × (now (out .exit) ≡ front (newText t (now (plan .entry)) (now (said .entry))) (now (out .entry))) ⌝ }
+    ensures { λ r. ⌜ (r ≡ length (newText t (now (plan .entry)) (now (said .entry))))
+        × (now (out .exit) ≡ front (newText t (now (plan .entry)) (now (said .entry))) (now (out .entry))) ⌝ }
 {
     let mut o = 0;
     let mut c = Cursor { at: 0 };
@@ -420,7 +421,8 @@ fn not_read(number: u8, field: u8, place: usize) -> Updated
 // Offers a message to a strip. Accepted: the strip's new state and the length of its new spelling, which is then at the front of `out`, and
 // the bytes behind it stay. Refused: the number, the field and the place, and every byte of `out` stays.
 pub fn update(strip: &[u8], held: Strip, msg: &[u8], out: &mut [u8]) -> Updated
-    ensures { λ r. ⌜ (r ≡ updateOf (now (strip .entry)) (held .state) (now (msg .entry)) (length (now (out .entry)))) × (now (out .exit) ≡ outAfter (now (strip .entry)) (held .state) (now (msg .entry)) (now (out .entry))) ⌝ }
+    ensures { λ r. ⌜ (r ≡ updateOf (now (strip .entry)) (held .state) (now (msg .entry)) (length (now (out .entry))))
+        × (now (out .exit) ≡ outAfter (now (strip .entry)) (held .state) (now (msg .entry)) (now (out .entry))) ⌝ }
 {
     if !held.is_sound() {
         return Updated::Refused {

@@ -1,7 +1,6 @@
 -- `strip::behind` meets its contract. Assumes nothing.
-use Prim.Native.Nat.{suc}
 use Rattle.text.proofs.Index.{drop-end}
-use Prim.Native.Nat.{ℕ}
+use Prim.Native.Nat.{ℕ, suc}
 use mathlib.Core.Path.{sym, ap, _∙_}
 use lib.ListN.{drop}
 use native.Mathlib.Numerals.{add-one}
@@ -17,7 +16,10 @@ returns : tie.Need-returns
 returns c = (omega arith, ap (λ (i : ℕ). drop i (c .before .args .plan .now)) (add-one (c .before .args .e)))
 
 returns-2 : tie.Need-returns-2
-returns-2 c = let p = c .before .args .plan .now in let e = c .before .args .e in (c .before .pre, drop-end p e (omega arith) ∙ sym (drop-end p (suc e) (omega arith)))
+returns-2 c =
+    let p = c .before .args .plan .now in
+    let e = c .before .args .e in
+    (c .before .pre, drop-end p e (omega arith) ∙ sym (drop-end p (suc e) (omega arith)))
 
 pub behind-spec : {M : Type 1} → statement M
 behind-spec = tie.close (tie.spec add-t5 returns returns-2)

@@ -17,7 +17,9 @@ part-result-end : tie.Need-part-result-end
 part-result-end c = search needs
 
 returns : tie.Need-returns
-returns c = let s = c .before .before .args .s .now in rest s (length s) ∙ drop-end s (length s) (omega arith) ∙ sym (drop-end s 4 (omega (arith, c .before .if1 .taken)))
+returns c =
+    let s = c .before .before .args .s .now in
+    rest s (length s) ∙ drop-end s (length s) (omega arith) ∙ sym (drop-end s 4 (omega (arith, c .before .if1 .taken)))
 
 sub-result-2 : tie.Need-sub-result-2
 sub-result-2 c = search needs

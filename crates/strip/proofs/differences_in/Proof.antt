@@ -1,7 +1,63 @@
 -- `strip::differences_in` meets its contract. Assumes nothing.
+use mathlib.Core.Path.{_≡_}
+use mathlib.Core.List.{List, []}
+use lib.ListN.{take, getD}
+use Rattle.text.specs.Words.{Word, split, before, same}
 use borrow.Author.Needs.{needs}
 use Rattle.strip.proofs.differences_in.Statement.{statement}
 use Rattle.strip.proofs.differences_in.Tie as tie
+
+-- THE VALUES COMPARED, each where its test was made: the plan's fields, and the message's, of these ranks
+
+module _ (c : tie.After-field2) where
+  abbrev ours : List Word
+  ours = split 45 (c .before .before .before .before .args .plan .now)
+
+  abbrev theirs : List Word
+  theirs = split 45 (c .before .before .before .before .args .said .now)
+
+module _ (c : tie.After-same-bytes) where
+  abbrev at-identification : tie.After-field2
+  at-identification = c .before .before .before .before .before
+
+  identification : c .same-bytes .result
+      ≡ same (before 47 (getD (ours at-identification) 1 [])) (before 47 (getD (theirs at-identification) 1 []))
+  identification =
+      cc (
+        c .same-bytes .ensures,
+        c .before .identification2 .ensures,
+        c .before .before .field4 .ensures,
+        c .before .before .before .identification .ensures,
+        c .before .before .before .before .field3 .ensures,
+      )
+
+module _ (c : tie.After-same-bytes2) where
+  abbrev at-aerodrome : tie.After-field2
+  at-aerodrome = c .before .before .before .before .before .before .before .before
+
+  aerodrome : c .same-bytes2 .result ≡ same (take 4 (getD (ours at-aerodrome) 5 [])) (take 4 (getD (theirs at-aerodrome) 2 []))
+  aerodrome =
+      cc (
+        c .same-bytes2 .ensures,
+        c .before .aerodrome-of2 .ensures,
+        c .before .before .aerodrome-of .ensures,
+        at-aerodrome .field2 .ensures,
+        at-aerodrome .before .field .ensures,
+      )
+
+module _ (c : tie.After-same-bytes3) where
+  abbrev at-destination : tie.After-field2
+  at-destination = c .before .before .before .before .before .before .before .before .before .before .before .before .before .before
+
+  destination : c .same-bytes3 .result ≡ same (take 4 (getD (ours at-destination) 7 [])) (take 4 (getD (theirs at-destination) 3 []))
+  destination =
+      cc (
+        c .same-bytes3 .ensures,
+        c .before .aerodrome-of4 .ensures,
+        c .before .before .field6 .ensures,
+        c .before .before .before .aerodrome-of3 .ensures,
+        c .before .before .before .before .field5 .ensures,
+      )
 
 field-requires : tie.Need-field-requires
 field-requires c κs = search needs
@@ -52,7 +108,17 @@ same-bytes-requires-3 : tie.Need-same-bytes-requires-3
 same-bytes-requires-3 c κs = search needs
 
 returns : tie.Need-returns
-returns c = cc (c .same-bytes3 .ensures, c .before .aerodrome-of4 .ensures, c .before .before .field6 .ensures, c .before .before .before .aerodrome-of3 .ensures, c .before .before .before .before .field5 .ensures, c .before .before .before .before .before .time-differs .ensures, c .before .before .before .before .before .before .same-bytes2 .ensures, c .before .before .before .before .before .before .before .aerodrome-of2 .ensures, c .before .before .before .before .before .before .before .before .aerodrome-of .ensures, c .before .before .before .before .before .before .before .before .before .same-bytes .ensures, c .before .before .before .before .before .before .before .before .before .before .identification2 .ensures, c .before .before .before .before .before .before .before .before .before .before .before .field4 .ensures, c .before .before .before .before .before .before .before .before .before .before .before .before .identification .ensures, c .before .before .before .before .before .before .before .before .before .before .before .before .before .field3 .ensures, c .before .before .before .before .before .before .before .before .before .before .before .before .before .before .field2 .ensures, c .before .before .before .before .before .before .before .before .before .before .before .before .before .before .before .field .ensures)
+returns c =
+    let fields = at-destination c in
+    let timed = c .before .before .before .before .before in
+    cc (
+      identification (c .before .before .before .before .before .before .before .before .before),
+      aerodrome (c .before .before .before .before .before .before),
+      timed .time-differs .ensures,
+      fields .field2 .ensures,
+      fields .before .field .ensures,
+      destination c,
+    )
 
 pub differences-in-spec : {M : Type 1} → statement M
 differences-in-spec =

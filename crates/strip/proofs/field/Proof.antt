@@ -13,7 +13,9 @@ part-requires : tie.Need-part-requires
 part-requires c κs = search needs
 
 returns : tie.Need-returns
-returns c = c .part .ensures ∙ ap (before 45) (c .before .seek .ensures .1) ∙ sym (field-at (c .before .before .before .args .j) (c .before .before .before .args .s .now))
+returns c =
+    let a = c .before .before .before .args in
+    c .part .ensures ∙ ap (before 45) (c .before .seek .ensures .1) ∙ sym (field-at (a .j) (a .s .now))
 
 pub field-spec : {M : Type 1} → statement M
 field-spec = tie.close (tie.spec seek-requires part-requires returns)

@@ -1,13 +1,41 @@
 -- `strip::is_canonical_plan` meets its contract. Assumes nothing.
+use Prim.Native.Nat.{ℕ, _≤_}
+use mathlib.Core.Path.{_≡_, sym, _∙_}
+use mathlib.Core.List.{List}
+use lib.ListN.{length, take}
 use lib.Seq.{length-take-le}
-use Rattle.strip.proofs.Steps.{read-bounds, scratch-whole}
-use mathlib.Core.Path.{sym, _∙_}
 use borrow.Author.Tests.{not-true, not-false}
-use Rattle.strip.proofs.Steps.{plan-refused, plan-other, plan-same}
+use Rattle.kinds.specs.declared.MessageType.{MessageType}
+use Rattle.message.specs.declared.Answer.the-variants.{Accepted as ReadAs}
+use Rattle.message.specs.Reading.{spellingOf, answerOf}
+use Rattle.strip.proofs.Steps.{read-bounds, scratch-whole, plan-refused, plan-other, plan-same}
 use native.Mathlib.Omega.{arith}
 use borrow.Author.Needs.{needs}
 use Rattle.strip.proofs.is_canonical_plan.Statement.{statement}
 use Rattle.strip.proofs.is_canonical_plan.Tie as tie
+
+-- where the strip was read, as a message of this type, whose spelling takes this many bytes at the front of the scratch
+module _ (c : tie.After-known-told) where
+  abbrev strip : List ℕ
+  strip = c .before .before .before .before .before .before .before .args .strip .now
+
+  abbrev type-read : MessageType
+  type-read = c .before .t .given .0 .0
+
+  abbrev size : ℕ
+  size = c .before .t .given .0 .1 .0
+
+  abbrev scratch : List ℕ
+  scratch = c .before .before .before .before .read .last .1 .0
+
+  read-so : answerOf strip 1800 ≡ ReadAs type-read size
+  read-so = sym (c .before .before .before .before .read .ensures .0) ∙ c .before .t .given .1
+
+  inside : size ≤ length scratch
+  inside = omega (arith, read-bounds strip 1800 _ _ read-so .1, c .before .before .before .before .read .kept .1 .0)
+
+  spelling-there : take size scratch ≡ spellingOf type-read strip
+  spelling-there = scratch-whole strip _ _ (c .before .before .before .before .read .ensures .1) _ _ read-so
 
 slice-aggregate-read : tie.Need-slice-aggregate-read
 slice-aggregate-read c = search needs
@@ -25,22 +53,29 @@ is-plan-requires : tie.Need-is-plan-requires
 is-plan-requires c κs = search needs
 
 returns : tie.Need-returns
-returns c = plan-other (c .before .before .before .before .before .before .before .before .before .args .strip .now) _ _ (sym (c .before .before .before .before .before .before .read .ensures .0) ∙ c .before .before .before .t .given .1) (sym (c .before .is-plan .ensures) ∙ not-true _ (c .if1 .taken))
+returns c =
+    let d = c .before .before in
+    plan-other (strip d) _ _ (read-so d) (sym (c .before .is-plan .ensures) ∙ not-true _ (c .if1 .taken))
 
 array-share-prefix-scratch : tie.Need-array-share-prefix-scratch
-array-share-prefix-scratch c = omega (arith, read-bounds (c .before .before .before .before .before .before .before .before .before .args .strip .now) 1800 _ _ (sym (c .before .before .before .before .before .before .read .ensures .0) ∙ c .before .before .before .t .given .1) .1, c .before .before .before .before .before .before .read .kept .1 .0)
+array-share-prefix-scratch c = inside (c .before .before)
 
 slice-aggregate-same-bytes : tie.Need-slice-aggregate-same-bytes
-slice-aggregate-same-bytes c = sym (length-take-le _ _ (omega (arith, read-bounds (c .before .before .before .before .before .before .before .before .before .before .args .strip .now) 1800 _ _ (sym (c .before .before .before .before .before .before .before .read .ensures .0) ∙ c .before .before .before .before .t .given .1) .1, c .before .before .before .before .before .before .before .read .kept .1 .0)))
+slice-aggregate-same-bytes c = sym (length-take-le _ _ (inside (c .before .before .before)))
 
 same-bytes-requires : tie.Need-same-bytes-requires
 same-bytes-requires c κs = search needs
 
 returns-2 : tie.Need-returns-2
-returns-2 c = plan-refused (c .before .before .before .before .before .before .args .strip .now) _ _ _ (sym (c .before .before .before .read .ensures .0) ∙ c .enum-told .given .1)
+returns-2 c =
+    plan-refused (c .before .before .before .before .before .before .args .strip .now) _ _ _
+    (sym (c .before .before .before .read .ensures .0) ∙ c .enum-told .given .1)
 
 returns-3 : tie.Need-returns-3
-returns-3 c = c .same-bytes .ensures ∙ plan-same (c .before .before .before .before .before .before .before .before .before .before .before .args .strip .now) _ _ _ (sym (c .before .before .before .before .before .before .before .before .read .ensures .0) ∙ c .before .before .before .before .before .t .given .1) (sym (c .before .before .before .is-plan .ensures) ∙ not-false _ (c .before .before .if1 .left)) (scratch-whole (c .before .before .before .before .before .before .before .before .before .before .before .args .strip .now) _ _ (c .before .before .before .before .before .before .before .before .read .ensures .1) _ _ (sym (c .before .before .before .before .before .before .before .before .read .ensures .0) ∙ c .before .before .before .before .before .t .given .1))
+returns-3 c =
+    let d = c .before .before .before .before in
+    let is-plan = sym (c .before .before .before .is-plan .ensures) ∙ not-false _ (c .before .before .if1 .left) in
+    c .same-bytes .ensures ∙ plan-same (strip d) _ _ _ (read-so d) is-plan (spelling-there d)
 
 pub is-canonical-plan-spec : {M : Type 1} → statement M
 is-canonical-plan-spec =

@@ -1,5 +1,5 @@
 -- `strip::last_field` meets its contract. Assumes nothing.
-use Prim.Native.Nat.{_≤_, _-_}
+use Prim.Native.Nat.{_≤_, _<_, _-_}
 use mathlib.Core.Path.{_≡_, refl}
 use lib.ListN.{length, drop}
 use Rattle.text.specs.Words.{split}
@@ -32,7 +32,10 @@ part-result-end : tie.Need-part-result-end Inv-loop μ-loop
 part-result-end c = search needs
 
 returns : tie.Need-returns Inv-loop μ-loop
-returns c = last-here (c .before .before .before .before .before .args .s .now) (c .before .before .before .loop .at) (c .before .before .find .result) (c .before .before .find .ensures .0) _ (c .before .before .before .loop .inv .1) (c .before .if1 .taken)
+returns c =
+    let f = c .before .before .find in
+    let l = c .before .before .before .loop in
+    last-here (c .before .before .before .before .before .args .s .now) (l .at) (f .result) (f .ensures .0) _ (l .inv .1) (c .before .if1 .taken)
 
 add-at : tie.Need-add-at Inv-loop μ-loop
 add-at c = search needs
@@ -41,7 +44,11 @@ loop-less : tie.Need-loop-less Inv-loop μ-loop
 loop-less c = search needs
 
 loop-again : tie.Need-loop-again Inv-loop μ-loop
-loop-again c = (search needs, last-next (c .before .before .before .before .args .s .now) (c .before .before .loop .at) (c .before .find .result) (c .before .find .ensures .0) _ (c .before .before .loop .inv .1) (omega (arith, c .if1 .left, c .before .find .ensures .1 .1)))
+loop-again c =
+    let f = c .before .find in
+    let l = c .before .before .loop in
+    let inside : f .result < length (c .before .before .before .before .args .s .now) = omega (arith, c .if1 .left, f .ensures .1 .1) in
+    (search needs, last-next (c .before .before .before .before .args .s .now) (l .at) (f .result) (f .ensures .0) _ (l .inv .1) inside)
 
 pub last-field-spec : {M : Type 1} → statement M
 last-field-spec =

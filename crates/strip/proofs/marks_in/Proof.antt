@@ -44,7 +44,7 @@ returns c =
     let l = c .before .before .before .before .loop in
     let f = c .before .before .before .end .ensures in
     let r = c .before .rank-in in
-    (length-set (l .marks) (r .result) true ∙ l .inv .nine, marking-done (c .before .before .before .before .before .before .before .args .said .now) (l .marks) (l .c .at) _ _ (l .inv) (f .0) (f .1 .1) (r .ensures .0) (r .ensures .1) (omega arith))
+    (length-set (l .marks) (r .result) true ∙ l .inv .nine, marking-done (l .inv) (f .0) (f .1 .1) (r .ensures .0) (r .ensures .1) (omega arith))
 
 next-requires : tie.Need-next-requires Inv-loop μ-loop
 next-requires c κs = c .before .before .before .before .loop .inv .inside
@@ -52,7 +52,8 @@ next-requires c κs = c .before .before .before .before .loop .inv .inside
 loop-less : tie.Need-loop-less Inv-loop μ-loop
 loop-less c =
     let f = c .before .before .before .before .end .ensures in
-    let h : c .before .before .before .before .before .loop .c .at < length (c .before .before .before .before .before .before .before .before .args .said .now) = omega (arith, f .1 .0, f .1 .1) in
+    let l = c .before .before .before .before .before in
+    let h : l .loop .c .at < length (l .before .before .before .args .said .now) = omega (arith, f .1 .0, f .1 .1) in
     omega (arith, c .next .ensures .further h, c .next .ensures .inside)
 
 loop-again : tie.Need-loop-again Inv-loop μ-loop
@@ -60,7 +61,7 @@ loop-again c =
     let l = c .before .before .before .before .before .loop in
     let f = c .before .before .before .before .end .ensures in
     let r = c .before .before .rank-in .ensures in
-    marking-next (c .before .before .before .before .before .before .before .before .args .said .now) (l .marks) (l .c .at) _ _ (l .inv) (f .0) (f .1 .1) (r .0) (r .1) _ (omega arith) (c .next .ensures)
+    marking-next (l .inv) (f .0) (f .1 .1) (r .0) (r .1) _ (omega arith) (c .next .ensures)
 
 pub marks-in-spec : {M : Type 1} → statement M
 marks-in-spec =

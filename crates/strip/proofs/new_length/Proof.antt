@@ -1,8 +1,10 @@
 -- `strip::new_length` meets its contract. Assumes nothing.
-use Prim.Native.Nat.{_-_}
-use mathlib.Core.Path.{ap}
+use Prim.Native.Nat.{_-_, _≤_}
+use mathlib.Core.Path.{_≡_, ap}
 use lib.ListN.{length}
-use Rattle.strip.proofs.Writing.{AtField, first-field, behind-field, own-field, content-at, Counting, counting-starts, counting-next, counting-done, content-short}
+use Rattle.strip.specs.Texts.{contentOf}
+use Rattle.strip.proofs.Writing.{AtField, first-field, behind-field, content-to, content-short}
+use Rattle.strip.proofs.Writing.{Counting, counting-starts, counting-next, counting-done}
 use borrow.Author.Needs.{needs}
 use native.Mathlib.Omega.{arith}
 use Rattle.strip.proofs.new_length.Statement.{statement}
@@ -13,6 +15,27 @@ Inv-loop t plan said marks n₀ c₀ k₀ n c k = Counting t plan said n k × At
 
 abbrev μ-loop : tie.MeasureT-loop
 μ-loop t plan said marks n₀ c₀ k₀ n c k = 9 - k
+
+-- a turn of the loop, once the field's content is known
+module _ (c : tie.After-content Inv-loop μ-loop) where
+  abbrev looped : tie.At-loop Inv-loop μ-loop
+  looped = c .before .before .before .before
+
+  abbrev start : tie.Start Inv-loop μ-loop
+  start = looped .before .before .before
+
+  abbrev ended : tie.After-end Inv-loop μ-loop
+  ended = c .before .before
+
+  is-content : c .content .result .now ≡ contentOf (start .args .t) (start .args .plan .now) (start .args .said .now) (looped .loop .k)
+  is-content =
+      let a = start .args in
+      content-to (a .t) (a .plan .now) (a .said .now) (looped .loop .inv .1) (ended .end .ensures .0) (c .content .ensures)
+
+  short : length (c .content .result .now) ≤ 1800
+  short =
+      let a = start .args in
+      omega (arith, ap length is-content, content-short (a .t) (a .plan .now) (a .said .now) (looped .loop .k) 1800 (start .pre .0) (start .pre .1))
 
 loop-holds : tie.Need-loop-holds Inv-loop μ-loop
 loop-holds c = (counting-starts _ _ _, first-field _)
@@ -36,21 +59,13 @@ content-requires : tie.Need-content-requires Inv-loop μ-loop
 content-requires c κs = c .before .before .before .before .before .before .pre .3 (c .before .before .before .loop .k)
 
 add-n : tie.Need-add-n Inv-loop μ-loop
-add-n c =
-    let p = c .before .before .before .before .before .before .before in
-    let l = c .before .before .before .before .loop in
-    let w = content-at (p .args .t) (p .args .plan .now) (p .args .said .now) (l .k) (l .c .at) _ _ (l .inv .1) (own-field (p .args .plan .now) (l .c .at) (c .before .before .end .result) (c .before .before .end .ensures .0)) (c .content .ensures) in
-    omega (arith, ap length w, content-short (p .args .t) (p .args .plan .now) (p .args .said .now) (l .k) 1800 (p .pre .0) (p .pre .1))
+add-n c = omega (arith, short c)
 
 add-n-2 : tie.Need-add-n-2 Inv-loop μ-loop
-add-n-2 c =
-    let p = c .before .before .before .before .before .before .before in
-    let l = c .before .before .before .before .loop in
-    let w = content-at (p .args .t) (p .args .plan .now) (p .args .said .now) (l .k) (l .c .at) _ _ (l .inv .1) (own-field (p .args .plan .now) (l .c .at) (c .before .before .end .result) (c .before .before .end .ensures .0)) (c .content .ensures) in
-    omega (arith, ap length w, content-short (p .args .t) (p .args .plan .now) (p .args .said .now) (l .k) 1800 (p .pre .0) (p .pre .1), l .inv .0 .few, l .inv .0 .nine)
+add-n-2 c = let l = looped c .loop .inv .0 in omega (arith, short c, l .few, l .nine)
 
 behind-requires : tie.Need-behind-requires Inv-loop μ-loop
-behind-requires c κs = c .before .before .end .ensures .1 .1
+behind-requires c κs = ended c .end .ensures .1 .1
 
 add-k : tie.Need-add-k Inv-loop μ-loop
 add-k c = search needs
@@ -60,17 +75,22 @@ loop-less c = search needs
 
 loop-again : tie.Need-loop-again Inv-loop μ-loop
 loop-again c =
-    let p = c .before .before .before .before .before .before .before .before in
-    let l = c .before .before .before .before .before .loop in
-    let f = c .before .before .before .end in
-    let w = content-at (p .args .t) (p .args .plan .now) (p .args .said .now) (l .k) (l .c .at) _ _ (l .inv .1) (own-field (p .args .plan .now) (l .c .at) (f .result) (f .ensures .0)) (c .before .content .ensures) in
-    (counting-next (p .args .t) (p .args .plan .now) (p .args .said .now) (l .n) (l .k) _ (l .inv .0) (c .before .before .before .before .loop-test .taken) w (p .pre .0) (p .pre .1), behind-field (p .args .plan .now) (l .k) (l .c .at) (f .result) _ (l .inv .1) (f .ensures .0) (c .behind .ensures .0) (c .behind .ensures .1))
+    let d = c .before in
+    let a = start d .args in
+    let p = start d .pre in
+    let l = looped d .loop .inv in
+    let more = c .before .before .before .before .loop-test .taken in (
+      counting-next (a .t) (a .plan .now) (a .said .now) (l .0) more (is-content d) (p .0) (p .1),
+      behind-field _ (l .1) (ended d .end .ensures .0) (c .behind .ensures),
+    )
 
 add-result : tie.Need-add-result Inv-loop μ-loop
 add-result c = omega (arith, c .before .loop .inv .0 .few, c .before .loop .inv .0 .nine)
 
 returns : tie.Need-returns Inv-loop μ-loop
-returns c = let p = c .before .before .before .before in let l = c .before .loop in counting-done (p .args .t) (p .args .plan .now) (p .args .said .now) (l .n) (l .k) (l .inv .0) (c .loop-test .left)
+returns c =
+    let a = c .before .before .before .before .args in
+    counting-done (a .t) (a .plan .now) (a .said .now) (c .before .loop .inv .0) (c .loop-test .left)
 
 pub new-length-spec : {M : Type 1} → statement M
 new-length-spec =

@@ -1,13 +1,36 @@
 -- `strip::offer` meets its contract. Assumes nothing.
-use mathlib.Core.Path.{refl, sym, ap, _∙_}
-use lib.ListN.{length}
+use mathlib.Core.Path.{_≡_, sym, ap, _∙_}
 use borrow.Author.Tests.{not-true, not-false}
-use Rattle.strip.specs.Updating.{amendedAs, differs}
-use Rattle.strip.specs.Texts.{amendedOf, textsAs}
-use Rattle.strip.proofs.Answers.{told, passed-on, unfit, differing, not-allowed, allowed}
+use Rattle.text.specs.Words.{split}
+use Rattle.state.specs.declared.Event.{Event}
+use Rattle.strip.specs.declared.Offered.the-variants.{Says}
+use Rattle.strip.specs.Updating.{eventOf, differences, differs}
+use Rattle.strip.proofs.Answers.{unfit, differing, not-allowed, allowed}
 use borrow.Author.Needs.{needs}
 use Rattle.strip.proofs.offer.Statement.{statement}
 use Rattle.strip.proofs.offer.Tie as tie
+
+-- THE WAY TO AN ANSWER: what the message says, and whether it is of the same flight
+
+module _ (c : tie.After-known-told) where
+  abbrev start : tie.Start
+  start = c .before .before .before .before .before .before .before
+
+  abbrev event : Event
+  event = c .before .e .given .0 .0
+
+  says : eventOf (start .args .t) (split 45 (start .args .said .now)) ≡ Says event
+  says = sym (c .before .before .before .event-of .ensures) ∙ c .before .e .given .1
+
+module _ (c : tie.After-any) where
+  abbrev told-there : tie.After-known-told
+  told-there = c .before .before
+
+  abbrev begun : tie.Start
+  begun = start told-there
+
+  compared : differs (differences (begun .args .t) (split 45 (begun .args .plan .now)) (split 45 (begun .args .said .now))) ≡ c .any .result
+  compared = sym (c .any .ensures ∙ ap differs (c .before .differences-in .ensures))
 
 event-of-requires : tie.Need-event-of-requires
 event-of-requires c κs = search needs
@@ -26,40 +49,45 @@ any-requires c κs = search needs
 
 returns : tie.Need-returns
 returns c =
-    let a = c .before .before .before .before .before .before .before .before .before .before .args in
-    told (textsAs (a .t) (a .plan .now) (a .held .state) (a .said .now) (length (a .out .now))) _ (a .t) (a .plan .now) (a .said .now) (a .out .now) _
-    (differing (a .t) (a .plan .now) (a .held .state) (a .said .now) (length (a .out .now)) _ (sym (c .before .before .before .before .before .before .event-of .ensures) ∙ c .before .before .before .before .e .given .1) (sym (c .before .any .ensures ∙ ap differs (c .before .before .differences-in .ensures)) ∙ c .if1 .taken)) refl
+    let d = told-there (c .before) in
+    let a = start d .args in
+    differing (a .t) (a .plan .now) (a .held .state) (a .said .now) (a .out .now) _ (says d) (compared (c .before) ∙ c .if1 .taken)
 
 allows-requires : tie.Need-allows-requires
 allows-requires c κs = search needs
 
 returns-2 : tie.Need-returns-2
 returns-2 c =
-    let a = c .before .before .before .before .before .before .before .before .before .before .before .before .args in
-    told (textsAs (a .t) (a .plan .now) (a .held .state) (a .said .now) (length (a .out .now))) _ (a .t) (a .plan .now) (a .said .now) (a .out .now) _
-    (not-allowed (a .t) (a .plan .now) (a .held .state) (a .said .now) (length (a .out .now)) _ (sym (c .before .before .before .before .before .before .before .before .event-of .ensures) ∙ c .before .before .before .before .before .before .e .given .1) (sym (c .before .before .before .any .ensures ∙ ap differs (c .before .before .before .before .differences-in .ensures)) ∙ c .before .before .if1 .left) (sym (c .before .allows .ensures) ∙ not-true _ (c .if2 .taken))) refl
+    let same = c .before .before in
+    let d = told-there (same .before) in
+    let a = start d .args in
+    not-allowed (a .t) (a .plan .now) (a .held .state) (a .said .now) (a .out .now) _ (says d) (compared (same .before) ∙ same .if1 .left)
+    (sym (c .before .allows .ensures) ∙ not-true _ (c .if2 .taken))
 
 next-requires : tie.Need-next-requires
 next-requires c κs = search needs
 
 amend-requires : tie.Need-amend-requires
-amend-requires c κs = c .before .before .before .before .before .before .before .before .before .before .before .before .before .before .pre
+amend-requires c κs = start (c .before .before .before .before .before .before .before) .pre
 
 returns-3 : tie.Need-returns-3
 returns-3 c =
     let a = c .before .before .before .before .before .before .args in
-    told (textsAs (a .t) (a .plan .now) (a .held .state) (a .said .now) (length (a .out .now))) _ (a .t) (a .plan .now) (a .said .now) (a .out .now) _
-    (unfit (a .t) (a .plan .now) (a .held .state) (a .said .now) (length (a .out .now)) (sym (c .before .before .event-of .ensures) ∙ c .enum-told .given .1)) refl
+    unfit (a .t) (a .plan .now) (a .held .state) (a .said .now) (a .out .now) (sym (c .before .before .event-of .ensures) ∙ c .enum-told .given .1)
 
 same-length : tie.Need-same-length
 same-length c = search needs
 
 returns-4 : tie.Need-returns-4
 returns-4 c =
-    let a = c .before .before .before .before .before .before .before .before .before .before .before .before .before .before .before .before .before .args in
-    passed-on (textsAs (a .t) (a .plan .now) (a .held .state) (a .said .now) (length (a .out .now))) (amendedAs (amendedOf (a .t) (a .plan .now) (a .said .now)) (c .before .before .before .before .next .result .state) (length (a .out .now))) _ (a .t) (a .plan .now) (a .said .now) (a .out .now) _
-    (allowed (a .t) (a .plan .now) (a .held .state) (a .said .now) (length (a .out .now)) _ (sym (c .before .before .before .before .before .before .before .before .before .before .before .before .before .event-of .ensures) ∙ c .before .before .before .before .before .before .before .before .before .before .before .e .given .1) (sym (c .before .before .before .before .before .before .before .before .any .ensures ∙ ap differs (c .before .before .before .before .before .before .before .before .before .differences-in .ensures)) ∙ c .before .before .before .before .before .before .before .if1 .left) (sym (c .before .before .before .before .before .before .allows .ensures) ∙ not-false _ (c .before .before .before .before .before .if2 .left)) (c .before .before .before .before .next .result .state) (c .before .before .before .before .next .ensures))
-    (c .before .before .amend .ensures)
+    let next = c .before .before .before .before in
+    let may = next .before in
+    let same = may .before .before in
+    let d = told-there (same .before) in
+    let a = start d .args in
+    allowed (a .t) (a .plan .now) (a .held .state) (a .said .now) (a .out .now) _ (says d) (compared (same .before) ∙ same .if1 .left)
+    (sym (may .before .allows .ensures) ∙ not-false _ (may .if2 .left)) (next .next .result .state) (next .next .ensures)
+    _ _ (c .before .before .amend .ensures)
 
 pub offer-spec : {M : Type 1} → statement M
 offer-spec =

@@ -21,7 +21,9 @@ same-bytes-requires : tie.Need-same-bytes-requires
 same-bytes-requires c κs = search needs
 
 returns-2 : tie.Need-returns-2
-returns-2 c = rw (sym (c .before .before .before .before .compares-time .ensures) ∙ not-false _ (c .before .before .before .if1 .left), ← c .before .behind-aerodrome2 .ensures, ← c .before .before .behind-aerodrome .ensures, c .same-bytes .ensures)
+returns-2 c =
+    let compared = sym (c .before .before .before .before .compares-time .ensures) ∙ not-false _ (c .before .before .before .if1 .left) in
+    rw (compared, ← c .before .behind-aerodrome2 .ensures, ← c .before .before .behind-aerodrome .ensures, c .same-bytes .ensures)
 
 pub time-differs-spec : {M : Type 1} → statement M
 time-differs-spec =

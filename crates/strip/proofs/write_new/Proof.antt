@@ -1,7 +1,8 @@
 -- `strip::write_new` meets its contract. Assumes nothing.
 use Prim.Native.Nat.{_-_}
 use lib.ListN.{length-set}
-use Rattle.strip.proofs.Writing.{AtField, first-field, behind-field, own-field, content-at, Amending, amending-starts, turn-room, turn-fits, turn-next, last-long, last-room, last-written}
+use Rattle.strip.proofs.Writing.{AtField, first-field, behind-field, content-to, Amending, amending-starts}
+use Rattle.strip.proofs.Writing.{Turn, turn-room, turn-fits, turn-next, last-long, last-room, last-written}
 use borrow.Author.Needs.{needs}
 use native.Mathlib.Omega.{arith}
 use Rattle.strip.proofs.write_new.Statement.{statement}
@@ -13,8 +14,33 @@ Inv-loop t plan said out₀ marks o₀ c₀ k₀ out o c k = Amending t plan sai
 abbrev μ-loop : tie.MeasureT-loop
 μ-loop t plan said out₀ marks o₀ c₀ k₀ out o c k = 9 - k
 
+-- a turn of the loop, once the field's content and the byte that leads to it are known
+module _ (c : tie.After-lead-of Inv-loop μ-loop) where
+  abbrev looped : tie.At-loop Inv-loop μ-loop
+  looped = c .before .before .before .before .before
+
+  abbrev start : tie.Start Inv-loop μ-loop
+  start = looped .before .before .before .before
+
+  abbrev ended : tie.After-end Inv-loop μ-loop
+  ended = c .before .before .before
+
+  turn : Turn (start .args .t) (start .args .plan .now) (start .args .said .now) (start .args .out .now)
+      (looped .loop .out) (looped .loop .o) (looped .loop .k) (c .lead-of .result) (c .before .content .result .now)
+  turn =
+      let a = start .args in
+      record {
+        so-far = looped .loop .inv .0;
+        more = c .before .before .before .before .loop-test .taken;
+        is-lead = c .lead-of .ensures;
+        is-content = content-to (a .t) (a .plan .now) (a .said .now) (looped .loop .inv .1) (ended .end .ensures .0) (c .before .content .ensures);
+      }
+
 loop-holds : tie.Need-loop-holds Inv-loop μ-loop
-loop-holds c = let a = c .before .before .before in (amending-starts (a .args .t) (a .args .plan .now) (a .args .said .now) (a .args .out .now) (a .pre .0), first-field _)
+loop-holds c =
+    let s = c .before .before .before in
+    let a = s .args in
+    (amending-starts (a .t) (a .plan .now) (a .said .now) (a .out .now) (s .pre .0), first-field _)
 
 end-requires : tie.Need-end-requires Inv-loop μ-loop
 end-requires c κs = c .before .loop .inv .1 .inside
@@ -38,32 +64,24 @@ lead-of-requires : tie.Need-lead-of-requires Inv-loop μ-loop
 lead-of-requires c κs = search needs
 
 sub-write-part : tie.Need-sub-write-part Inv-loop μ-loop
-sub-write-part c = let l = c .before .before .before .before .before .loop in omega (arith, l .inv .0 .turn .inside, l .inv .0 .long, l .inv .0 .enough)
+sub-write-part c = let l = looped c .loop .inv .0 in omega (arith, l .turn .inside, l .long, l .enough)
 
 part-write-part-start : tie.Need-part-write-part-start Inv-loop μ-loop
-part-write-part-start c = let l = c .before .before .before .before .before .loop in omega (arith, l .inv .0 .turn .inside, l .inv .0 .long, l .inv .0 .enough)
+part-write-part-start c = let l = looped c .loop .inv .0 in omega (arith, l .turn .inside, l .long, l .enough)
 
 part-write-part-end : tie.Need-part-write-part-end Inv-loop μ-loop
 part-write-part-end c = search needs
 
 write-part-requires : tie.Need-write-part-requires Inv-loop μ-loop
-write-part-requires c κs =
-    let a = c .before .before .before .before .before .before .before .before .before .before .args in
-    let l = c .before .before .before .before .before .before .loop in
-    let f = c .before .before .before .before .end in
-    let w = content-at (a .t) (a .plan .now) (a .said .now) (l .k) (l .c .at) _ _ (l .inv .1) (own-field (a .plan .now) (l .c .at) (f .result) (f .ensures .0)) (c .before .before .content .ensures) in
-    turn-fits (a .t) (a .plan .now) (a .said .now) (a .out .now) (l .out) (l .o) (l .k) (l .inv .0) (c .before .before .before .before .before .loop-test .taken) _ _ (c .before .lead-of .ensures) w
+write-part-requires c κs = turn-fits (turn (c .before))
 
 add-o : tie.Need-add-o Inv-loop μ-loop
 add-o c =
-    let a = c .before .before .before .before .before .before .before .before .before .before .before .before .before .args in
-    let l = c .before .before .before .before .before .before .before .before .before .loop in
-    let f = c .before .before .before .before .before .before .before .end in
-    let w = content-at (a .t) (a .plan .now) (a .said .now) (l .k) (l .c .at) _ _ (l .inv .1) (own-field (a .plan .now) (l .c .at) (f .result) (f .ensures .0)) (c .before .before .before .before .before .content .ensures) in
-    omega (arith, turn-room (a .t) (a .plan .now) (a .said .now) (a .out .now) (l .out) (l .o) (l .k) (l .inv .0) (c .before .before .before .before .before .before .before .before .loop-test .taken) _ _ (c .before .before .before .before .lead-of .ensures) w, c .before .before .write-part .ensures .0, l .inv .0 .enough, c .before .before .before .before .before .before .before .before .before .before .before .before .before .good)
+    let d = c .before .before .before .before in
+    omega (arith, turn-room (turn d), c .before .before .write-part .ensures .0, looped d .loop .inv .0 .enough, start d .good)
 
 behind-requires : tie.Need-behind-requires Inv-loop μ-loop
-behind-requires c κs = c .before .before .before .before .before .before .before .end .ensures .1 .1
+behind-requires c κs = ended (c .before .before .before .before) .end .ensures .1 .1
 
 add-k : tie.Need-add-k Inv-loop μ-loop
 add-k c = search needs
@@ -73,24 +91,26 @@ loop-less c = search needs
 
 loop-again : tie.Need-loop-again Inv-loop μ-loop
 loop-again c =
-    let a = c .before .before .before .before .before .before .before .before .before .before .before .before .before .before .args in
-    let l = c .before .before .before .before .before .before .before .before .before .before .loop in
-    let f = c .before .before .before .before .before .before .before .before .end in
+    let d = c .before .before .before .before .before in
     let p = c .before .before .before .write-part in
-    let w = content-at (a .t) (a .plan .now) (a .said .now) (l .k) (l .c .at) _ _ (l .inv .1) (own-field (a .plan .now) (l .c .at) (f .result) (f .ensures .0)) (c .before .before .before .before .before .before .content .ensures) in
-    (rw (p .ensures .0) (turn-next (a .t) (a .plan .now) (a .said .now) (a .out .now) (l .out) (l .o) (l .k) (l .inv .0) (c .before .before .before .before .before .before .before .before .before .loop-test .taken) _ _ (c .before .before .before .before .before .lead-of .ensures) w _ (p .ensures .1) (c .before .before .out .given .1)), behind-field (a .plan .now) (l .k) (l .c .at) (f .result) _ (l .inv .1) (f .ensures .0) (c .behind .ensures .0) (c .behind .ensures .1))
+    let next = turn-next (turn d) (p .ensures .1) (c .before .before .out .given .1) in
+    (rw (p .ensures .0) next, behind-field _ (looped d .loop .inv .1) (ended d .end .ensures .0) (c .behind .ensures))
 
 slice-write-out : tie.Need-slice-write-out Inv-loop μ-loop
-slice-write-out c = let a = c .before .before .before .before .before .args in let l = c .before .loop in last-room (a .t) (a .plan .now) (a .said .now) (a .out .now) (l .out) (l .o) (l .k) (l .inv .0) (c .loop-test .left)
+slice-write-out c = last-room (c .before .loop .inv .0) (c .loop-test .left)
 
 add-result : tie.Need-add-result Inv-loop μ-loop
-add-result c = let a = c .before .before .before .before .before .args in let l = c .before .loop in omega (arith, last-long (a .t) (a .plan .now) (a .said .now) (a .out .now) (l .out) (l .o) (l .k) (l .inv .0) (c .loop-test .left), l .inv .0 .enough, c .before .before .before .before .before .good)
+add-result c =
+    let l = c .before .loop .inv .0 in
+    omega (arith, last-long l (c .loop-test .left), l .enough, c .before .before .before .before .before .good)
 
 same-length : tie.Need-same-length Inv-loop μ-loop
 same-length c = simp length-set (c .before .loop .inv .0 .long)
 
 returns : tie.Need-returns Inv-loop μ-loop
-returns c = let a = c .before .before .before .before .before .args in let l = c .before .loop in (last-long (a .t) (a .plan .now) (a .said .now) (a .out .now) (l .out) (l .o) (l .k) (l .inv .0) (c .loop-test .left), last-written (a .t) (a .plan .now) (a .said .now) (a .out .now) (l .out) (l .o) (l .k) (l .inv .0) (c .loop-test .left))
+returns c =
+    let l = c .before .loop .inv .0 in
+    (last-long l (c .loop-test .left), last-written l (c .loop-test .left))
 
 pub write-new-spec : {M : Type 1} → statement M
 write-new-spec =

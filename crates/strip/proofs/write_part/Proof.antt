@@ -22,7 +22,10 @@ part-put-end : tie.Need-part-put-end
 part-put-end c = search needs
 
 put-requires : tie.Need-put-requires
-put-requires c κs = let d = c .before .before .before in let out = set (d .args .out .now) 0 (d .args .lead) in omega (arith, ap length (rest out 1), length-drop 1 out, length-set (d .args .out .now) 0 (d .args .lead), d .pre)
+put-requires c κs =
+    let d = c .before .before .before in
+    let out = set (d .args .out .now) 0 (d .args .lead) in
+    omega (arith, ap length (rest out 1), length-drop 1 out, length-set (d .args .out .now) 0 (d .args .lead), d .pre)
 
 add-result : tie.Need-add-result
 add-result c = search needs
@@ -31,7 +34,12 @@ same-length : tie.Need-same-length
 same-length c = c .before .out .given .1 ∙ simp length-set
 
 returns : tie.Need-returns
-returns c = let d = c .before .before .before .before .before .before in let a = d .args in let p = c .before .before .put in (omega (arith, p .ensures .0), lent (set (a .out .now) 0 (a .lead)) (a .part .now) 1 _ (p .ensures .1) ∙ lead-write (a .out .now) (a .part .now) (a .lead) (omega (arith, d .pre)))
+returns c =
+    let d = c .before .before .before .before .before .before in
+    let a = d .args in
+    let p = c .before .before .put .ensures in
+    let behind-lead = lent (set (a .out .now) 0 (a .lead)) (a .part .now) 1 _ (p .1) in
+    (omega (arith, p .0), behind-lead ∙ lead-write (a .out .now) (a .part .now) (a .lead) (omega (arith, d .pre)))
 
 pub write-part-spec : {M : Type 1} → statement M
 write-part-spec =
