@@ -6,7 +6,7 @@ use mathlib.Core.List.{List}
 use mathlib.Core.Option.{Option}
 use native.Mathlib.Omega.{arith}
 use lib.Dec.{eqb, leb}
-use lib.ListN.{length, take, drop, length-take, length-drop}
+use lib.ListN.{length, take, drop, length-drop}
 use lib.Seq.{length-take-le, drop-drop, take-take}
 use borrow.Author.Tests.{eq-eqb, ne-eqb}
 use Rattle.text.specs.Words.{Word, split, same, upTo}
@@ -21,7 +21,7 @@ use Rattle.message.specs.Reading.{spellingOf, answerOf}
 use Rattle.state.specs.declared.State.{State}
 use Rattle.state.specs.State.{sound}
 use Rattle.force.specs.declared.Found.the-variants.{At, Nowhere}
-use Rattle.force.specs.InForce.{inForce, namedAt, placeOf, FoundIn}
+use Rattle.force.specs.InForce.{inForce, placeOf, FoundIn}
 use Rattle.force.proofs.Walk.{in-chg, in-plan, place-at, drop-take}
 use Rattle.strip.specs.Updating.{canonicalPlan, differences, differs}
 use Rattle.asked.specs.declared.Asked.{Asked}
@@ -42,7 +42,8 @@ module _ (plan said : List ℕ) (k : ℕ) where
       let n : to + 1 - (from + 1) ≡ to - from = omega arith in
       (omega arith, omega (arith, l), omega (arith, b), ap₂ (λ (i j : ℕ). take i (drop j s)) n f ∙ c)
 
-  long : (s : List ℕ) (from to : ℕ) → from ≤ to → to ≤ length s → take (to - from) (drop from s) ≡ inForce plan said k → length (inForce plan said k) ≡ to - from
+  long : (s : List ℕ) (from to : ℕ) → from ≤ to → to ≤ length s → take (to - from) (drop from s) ≡ inForce plan said k
+      → length (inForce plan said k) ≡ to - from
   long s from to l b c = sym (ap length c) ∙ length-take-le (to - from) (drop from s) (omega (arith, l, b, length-drop from s))
 
   pub in-change : (from to : ℕ) → FoundIn said k (At from to) → Stood (InChange (from + 1) (to + 1))
@@ -52,8 +53,8 @@ module _ (plan said : List ℕ) (k : ℕ) where
       let t : suc from + length (inForce plan said k) ≡ to + 1 = omega (arith, h .0, long said from to (h .0) (h .1) c) in
       (sym (ap (λ (o : Option ℕ). standsIn o plan said k) (h .3) ∙ ap₂ InChange f t), one-less said from to (h .0) (h .1) c)
 
-  pub in-strip : (at e : ℕ) → FoundIn said k Nowhere → at ≤ length plan → drop at plan ≡ behindHyphen k plan → e ≡ at + upTo 45 (drop at plan) → at ≤ e → e ≤ length plan
-      → Stood (InStrip (at + 1) (e + 1))
+  pub in-strip : (at e : ℕ) → FoundIn said k Nowhere → at ≤ length plan → drop at plan ≡ behindHyphen k plan
+      → e ≡ at + upTo 45 (drop at plan) → at ≤ e → e ≤ length plan → Stood (InStrip (at + 1) (e + 1))
   in-strip at e h l d end ae el =
       let c = in-plan {A = ℕ} plan said k 0 0 0 0 at e h l d end .0 in
       let f : suc (placeOf plan k) ≡ at + 1 = omega (arith, place-at k at plan l d) in
@@ -66,7 +67,8 @@ module _ (plan said : List ℕ) (number : ℕ) where
   abbrev pub Told : Asked → Type 0
   Told r = (r ≡ flightAs plan said number) × ShowsText r plan said (inForce plan said (rankOf number))
 
-  by-differences : (b : Bool) → differs (differences Chg (split 45 plan) (split 45 said)) ≡ b → flightAs plan said number ≡ cond b (Refused 12 0 0) (fieldAs plan said number)
+  by-differences : (b : Bool) → differs (differences Chg (split 45 plan) (split 45 said)) ≡ b
+      → flightAs plan said number ≡ cond b (Refused 12 0 0) (fieldAs plan said number)
   by-differences b e = ap (λ (x : Bool). cond x (Refused 12 0 0) (fieldAs plan said number)) e
 
   pub other-flight : differs (differences Chg (split 45 plan) (split 45 said)) ≡ true → Told (Refused 12 0 0)
@@ -123,7 +125,8 @@ module _ (t : MessageType) (spelled strip chg : List ℕ) (number : ℕ) where
     unfolding typeAs
     not-spelled e = (sym (rw (change, e)), tt)
 
-    pub spelled-so : same spelled chg ≡ true → 2 ≤ length spelled → 2 ≤ length strip → (p s : List ℕ) → p ≡ inner strip → s ≡ inner chg → (r : Asked) → Told p s number r → Answered r
+    pub spelled-so : same spelled chg ≡ true → 2 ≤ length spelled → 2 ≤ length strip
+        → (p s : List ℕ) → p ≡ inner strip → s ≡ inner chg → (r : Asked) → Told p s number r → Answered r
     unfolding typeAs
     spelled-so e two two' p s ep es r h =
         let c : spelled ≡ chg = same-eq spelled chg e in (
@@ -139,7 +142,8 @@ module _ (strip : List ℕ) (state : State) (chg : List ℕ) (number : ℕ) wher
   abbrev pub Whole : Asked → Type 0
   Whole r = (r ≡ askedOf strip state chg number) × Shows r strip chg (inForce (inner strip) (inner chg) (rankOf number))
 
-  by-tests : (a b : Bool) → sound state ≡ a → canonicalPlan strip ≡ b → askedOf strip state chg number ≡ cond (a && b) (readAs (answerOf chg 1800) strip chg number) (Refused 15 0 0)
+  by-tests : (a b : Bool) → sound state ≡ a → canonicalPlan strip ≡ b
+      → askedOf strip state chg number ≡ cond (a && b) (readAs (answerOf chg 1800) strip chg number) (Refused 15 0 0)
   unfolding askedOf
   by-tests a b e f = ap₂ (λ (x y : Bool). cond (x && y) (readAs (answerOf chg 1800) strip chg number) (Refused 15 0 0)) e f
 
@@ -164,7 +168,8 @@ module _ (strip : List ℕ) (state : State) (chg : List ℕ) (number : ℕ) wher
           nothing true = tt
           nothing false = tt
 
-      pub was-read : (t : MessageType) (n : ℕ) → answerOf chg 1800 ≡ ReadAs t n → (spelled : List ℕ) → spelled ≡ spellingOf t chg → (r : Asked) → Answered t spelled strip chg number r → Whole r
+      pub was-read : (t : MessageType) (n : ℕ) → answerOf chg 1800 ≡ ReadAs t n → (spelled : List ℕ) → spelled ≡ spellingOf t chg
+          → (r : Asked) → Answered t spelled strip chg number r → Whole r
       was-read t n e spelled s r h =
           (h .0 ∙ ap (λ (x : List ℕ). typeAs t x strip chg number) s ∙ sym (reading (ReadAs t n) e), h .1)
 
@@ -177,7 +182,8 @@ module _ (strip : List ℕ) (state : State) (chg : List ℕ) (number : ℕ) {a r
   pub shows-so : Shows r strip chg (inForce (inner strip) (inner chg) (rankOf number))
   shows-so = subst (λ (x : Asked). Shows x strip chg (inForce (inner strip) (inner chg) (rankOf number))) is (whole .1)
 
-  pub part-shown : {A : Type 0} (sb : A) (sp : ℕ) (cb : A) (cp : ℕ) (w : Word) (block : A) (place : ℕ) → w ≡ shown r strip chg number → StandsAt r sb sp cb cp block place
+  pub part-shown : {A : Type 0} (sb : A) (sp : ℕ) (cb : A) (cp : ℕ) (w : Word) (block : A) (place : ℕ)
+      → w ≡ shown r strip chg number → StandsAt r sb sp cb cp block place
       → (w ≡ shown (askedOf strip state chg number) strip chg number) × StandsAt (askedOf strip state chg number) sb sp cb cp block place
   part-shown sb sp cb cp w block place b p = (
     b ∙ ap (λ (x : Asked). shown x strip chg number) (sym answer-is),

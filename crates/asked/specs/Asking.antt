@@ -109,7 +109,8 @@ abbrev said : List ℕ
 said = bytes "CHG-ABC12-EHAM0930-EDDF-0-9/B39M/M-8/IN"
 
 -- field 9 stands in the CHG, 10 in the strip, 3 and 22 cannot be asked for
-asked : (flightAs plan said 9 ≡ InChange 29 35) × (flightAs plan said 10 ≡ InStrip 21 27) × (flightAs plan said 3 ≡ Refused 8 3 0) × (flightAs plan said 22 ≡ Refused 8 22 0)
+asked : (flightAs plan said 9 ≡ InChange 29 35) × (flightAs plan said 10 ≡ InStrip 21 27)
+    × (flightAs plan said 3 ≡ Refused 8 3 0) × (flightAs plan said 22 ≡ Refused 8 22 0)
 unfolding namedAt namedBy labels behindHyphen
 asked = (refl, refl, refl, refl)
 
@@ -118,10 +119,12 @@ parts : (take 6 (drop 29 (bytes "(CHG-ABC12-EHAM0930-EDDF-0-9/B39M/M-8/IN)")) �
 parts = (refl, refl)
 
 -- another flight; the number asked is looked at last
-other : (flightAs plan (bytes "CHG-ABC13-EHAM0930-EDDF-0-9/B39M/M") 9 ≡ Refused 12 0 0) × (flightAs plan (bytes "CHG-ABC13-EHAM0930-EDDF-0-9/B39M/M") 3 ≡ Refused 12 0 0)
+other : (flightAs plan (bytes "CHG-ABC13-EHAM0930-EDDF-0-9/B39M/M") 9 ≡ Refused 12 0 0)
+    × (flightAs plan (bytes "CHG-ABC13-EHAM0930-EDDF-0-9/B39M/M") 3 ≡ Refused 12 0 0)
 other = (refl, refl)
 
 -- not a CHG; not its own spelling
-unfit : (typeAs Cnl (bytes "(CNL)") (bytes "(FPL)") (bytes "(CNL)") 9 ≡ Refused 14 0 0) × (typeAs Chg (bytes "(CHG)") (bytes "(FPL)") (bytes "( CHG)") 9 ≡ Refused 17 0 0)
+unfit : (typeAs Cnl (bytes "(CNL)") (bytes "(FPL)") (bytes "(CNL)") 9 ≡ Refused 14 0 0)
+    × (typeAs Chg (bytes "(CHG)") (bytes "(FPL)") (bytes "( CHG)") 9 ≡ Refused 17 0 0)
 unfolding typeAs
 unfit = (refl, refl)

@@ -174,7 +174,8 @@ pub fn ask(strip: &[u8], held: Strip, chg: &[u8], number: u8) -> Asked
 // Shows the content of a field in force, as a part of the CHG or of the strip; a refusal shows an empty part at the strip's start.
 pub fn in_force<'a>(strip: &'a [u8], held: Strip, chg: &'a [u8], number: u8) -> &'a [u8]
     ensures { λ r. ⌜ now r ≡ shown (askedOf (now (strip .entry)) (held .state) (now (chg .entry)) number) (now (strip .entry)) (now (chg .entry)) number ⌝ }
-    ensures { λ r. ⌜ StandsAt (askedOf (now (strip .entry)) (held .state) (now (chg .entry)) number) (strip .entry .ptr .0) (strip .entry .ptr .1) (chg .entry .ptr .0) (chg .entry .ptr .1) (r .ptr .0) (r .ptr .1) ⌝ }
+    ensures { λ r. ⌜ StandsAt (askedOf (now (strip .entry)) (held .state) (now (chg .entry)) number)
+        (strip .entry .ptr .0) (strip .entry .ptr .1) (chg .entry .ptr .0) (chg .entry .ptr .1) (r .ptr .0) (r .ptr .1) ⌝ }
 {
     match ask(strip, held, chg, number) {
         Asked::InStrip { from, to } => &strip[from..to],

@@ -33,7 +33,16 @@ returns-9 : tie.Need-returns-9
 returns-9 c =
     let n = c .before .args .number in
     let r = c .match .rest in
-    rw (ne-eqb n 7 (r .0 .0 .0 .0 .0 .0 .0 .1), ne-eqb n 8 (r .0 .0 .0 .0 .0 .0 .1), ne-eqb n 9 (r .0 .0 .0 .0 .0 .1), ne-eqb n 10 (r .0 .0 .0 .0 .1), ne-eqb n 13 (r .0 .0 .0 .1), ne-eqb n 15 (r .0 .0 .1), ne-eqb n 16 (r .0 .1), ne-eqb n 18 (r .1))
+    rw (
+      ne-eqb n 7 (r .0 .0 .0 .0 .0 .0 .0 .1),
+      ne-eqb n 8 (r .0 .0 .0 .0 .0 .0 .1),
+      ne-eqb n 9 (r .0 .0 .0 .0 .0 .1),
+      ne-eqb n 10 (r .0 .0 .0 .0 .1),
+      ne-eqb n 13 (r .0 .0 .0 .1),
+      ne-eqb n 15 (r .0 .0 .1),
+      ne-eqb n 16 (r .0 .1),
+      ne-eqb n 18 (r .1),
+    )
 
 pub rank-of-spec : {M : Type 1} → statement M
 rank-of-spec =

@@ -1,10 +1,20 @@
 -- `asked::stands` meets its contract. Assumes nothing.
+use Rattle.force.specs.declared.Found.the-variants.{At}
+use Rattle.force.specs.InForce.{FoundIn}
 use Rattle.force.proofs.Walk.{as-found}
 use Rattle.asked.proofs.Steps.{in-change, in-strip}
 use native.Mathlib.Omega.{arith}
 use borrow.Author.Needs.{needs}
 use Rattle.asked.proofs.stands.Statement.{statement}
 use Rattle.asked.proofs.stands.Tie as tie
+
+-- where the field stands in the CHG's text
+module _ (c : tie.After-known-told) where
+  abbrev start : tie.Start
+  start = c .before .before .before .before .before .before
+
+  found : FoundIn (start .args .said .now) (start .args .k) (At (c .before .from .given .0 .0) (c .before .from .given .0 .1 .0))
+  found = as-found _ _ (c .before .before .before .named .ensures) (c .before .from .given .1)
 
 named-requires : tie.Need-named-requires
 named-requires c κs = search needs
@@ -13,10 +23,10 @@ enum-known-from : tie.Need-enum-known-from
 enum-known-from c = search needs
 
 add-t11 : tie.Need-add-t11
-add-t11 c = omega (arith, as-found _ _ (c .before .before .before .named .ensures) (c .before .from .given .1) .0, as-found _ _ (c .before .before .before .named .ensures) (c .before .from .given .1) .1, c .before .before .before .before .before .before .pre .1)
+add-t11 c = omega (arith, found c .0, found c .1, start c .pre .1)
 
 add-t12 : tie.Need-add-t12
-add-t12 c = omega (arith, as-found _ _ (c .before .before .before .named .ensures) (c .before .from .given .1) .1, c .before .before .before .before .before .before .pre .1)
+add-t12 c = omega (arith, found c .1, start c .pre .1)
 
 enum-told : tie.Need-enum-told
 enum-told c = search needs
@@ -34,15 +44,15 @@ add-t14 : tie.Need-add-t14
 add-t14 c = search needs
 
 returns : tie.Need-returns
-returns c =
-    let a = c .before .before .before .before .before .before .args in
-    in-change (a .plan .now) (a .said .now) (a .k) _ _ (as-found _ _ (c .before .before .before .named .ensures) (c .before .from .given .1))
+returns c = let a = start c .args in in-change (a .plan .now) (a .said .now) (a .k) _ _ (found c)
 
 returns-2 : tie.Need-returns-2
 returns-2 c =
     let a = c .before .before .before .before .before .before .before .args in
+    let nowhere = as-found _ _ (c .before .before .before .before .named .ensures) (c .before .before .enum-told .given .1) in
     let s = c .before .seek .ensures in
-    in-strip (a .plan .now) (a .said .now) (a .k) _ _ (as-found _ _ (c .before .before .before .before .named .ensures) (c .before .before .enum-told .given .1)) (s .0) (s .1) (c .end .ensures .0) (omega (arith, c .end .ensures)) (omega (arith, c .end .ensures))
+    let e = c .end .ensures in
+    in-strip (a .plan .now) (a .said .now) (a .k) _ _ nowhere (s .0) (s .1) (e .0) (e .1 .0) (e .1 .1)
 
 pub stands-spec : {M : Type 1} → statement M
 stands-spec =
