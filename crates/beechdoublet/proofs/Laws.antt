@@ -9,7 +9,7 @@ use native.Mathlib.Omega.{arith}
 use lib.Dec.{eqb, ltb, leb}
 use lib.ListN.{length, getD}
 use lib.Seq.{ext-getD}
-use borrow.Author.Tests.{eq-eqb, ne-eqb, eqb-true, eqb-false, lt-ltb, leb-true}
+use borrow.Author.Tests.{eq-eqb, ne-eqb, eqb-true, eqb-false, lt-ltb, le-ltb, ltb-true, ltb-false, leb-true}
 use Rattle.shape.specs.declared.Clock.{Clock}
 use Rattle.aerodromes.specs.declared.Aerodrome.{Aerodrome}
 use Rattle.kinds.specs.declared.MessageType.{MessageType}
@@ -41,7 +41,7 @@ use Rattle.asked.specs.declared.Asked.the-variants.{InStrip, InChange, Refused 
 use Rattle.asked.specs.Asking.{rankOf, standsIn, standsAs, fieldAs, flightAs, isChange, typeAs, readAs, askedOf}
 use Rattle.beechdoublet.specs.declared.Handed.{Handed}
 use Rattle.beechdoublet.specs.declared.Handed.the-variants.{Held, NoState}
-use Rattle.beechdoublet.specs.Numbers.{typeNumber, readNumber, readNumbers, updateNumber, updateNumbers, askedNumber, askedNumbers}
+use Rattle.beechdoublet.specs.Numbers.{typeNumber, readNumber, readNumbers, updateNumber, updateNumbers, askedNumber, askedNumbers, askedWhole}
 use Rattle.beechdoublet.specs.Handed.{arrivedNumbers, stateNumbers, kept, minuteOf, byteOf, stateOf, agree, handedAs, updateAs, stateAs, askedAs}
 use Rattle.beechdoublet.specs.Laws.{wasRead, wasTaken, wasShown, Numbered, Told}
 
@@ -246,6 +246,14 @@ asked-one (NotShown number field place) (InStrip from to) e = let z : _≡_ {A =
 asked-one (NotShown number field place) (InChange from to) e = let z : _≡_ {A = ℕ} 0 2 = cc in absurd (omega arith)
 asked-one (NotShown number field place) (NotShown number′ field′ place′) e = cc
 
+-- an 8 for the number asked has it as its field, over 255 too
+pub asked-whole : (asked : ℕ) → askedWhole asked (NotShown 8 (byteOf asked) 0) ≡ NotShown 8 asked 0
+asked-whole asked = go (ltb asked 256) refl
+  where
+    go : (b : Bool) → ltb asked 256 ≡ b → askedWhole asked (NotShown 8 (byteOf asked) 0) ≡ NotShown 8 asked 0
+    go true e = rw (e, le-ltb 255 asked (omega (arith, ltb-true asked 256 e)))
+    go false e = rw (e, lt-ltb 255 asked (omega (arith, ltb-false asked 256 e)))
+
 place-told : (o : Option ℕ) (plan said : List ℕ) (k : ℕ) → Told (standsIn o plan said k)
 place-told (some at) plan said k = tt
 place-told none plan said k = tt
@@ -317,6 +325,7 @@ pub update-determined : (u : Updated) (ns out : List ℕ) (r r′ : ℕ) (a a′
     → (r ≡ r′) × (a ≡ a′) × (s ≡ s′) × (o ≡ o′)
 update-determined u ns out r r′ a a′ s s′ o o′ p q = (p .0 ∙ sym (q .0), p .1 ∙ sym (q .1), p .2 ∙ sym (q .2), p .3 ∙ sym (q .3))
 
-pub asked-determined : (x : Asked) (more : Type 0) (r r′ : ℕ) (a a′ : List ℕ) → (r ≡ askedNumber x) × (a ≡ askedNumbers x) × more
-    → (r′ ≡ askedNumber x) × (a′ ≡ askedNumbers x) × more → (r ≡ r′) × (a ≡ a′)
-asked-determined x more r r′ a a′ p q = (p .0 ∙ sym (q .0), p .1 ∙ sym (q .1))
+pub asked-determined : (asked : ℕ) (x : Asked) (more : Type 0) (r r′ : ℕ) (a a′ : List ℕ)
+    → (r ≡ askedNumber x) × (a ≡ askedNumbers (askedWhole asked x)) × more
+    → (r′ ≡ askedNumber x) × (a′ ≡ askedNumbers (askedWhole asked x)) × more → (r ≡ r′) × (a ≡ a′)
+asked-determined asked x more r r′ a a′ p q = (p .0 ∙ sym (q .0), p .1 ∙ sym (q .1))

@@ -94,7 +94,7 @@ abbrev pub stateAs : Updated → List ℕ → List ℕ
 stateAs (Accepted held n) ns = stateNumbers (held .state)
 stateAs (Refused number field place) ns = ns
 
--- THE FIELD IN FORCE OF SUCH A STRIP: 15 where the numbers are no state. A number over 255 is asked for as 0, which is no field's
+-- THE FIELD IN FORCE OF SUCH A STRIP: 15 where the numbers are no state. A number over 255 is asked for as 0, which is no field's either
 
 abbrev pub askedAs : Handed → List ℕ → List ℕ → ℕ → Asked
 askedAs (Held held) strip chg number = askedOf strip (held .state) chg (byteOf number)

@@ -1,7 +1,9 @@
 -- An answer as plain numbers, for callers in other languages (include/beechdoublet.h gives each number its name). Assumes nothing.
 use Prim.Native.Nat.{ℕ}
 use mathlib.Core.Path.{_≡_, refl}
+use mathlib.Core.Bool.{_&&_, cond}
 use mathlib.Core.List.{List, [], _∷_}
+use lib.Dec.{eqb, ltb}
 use Rattle.alphabet.specs.Text.{bytes}
 use Rattle.kinds.specs.declared.MessageType.{MessageType}
 use Rattle.kinds.specs.declared.MessageType.the-variants.{Fpl, Chg, Cnl, Dla, Dep, Arr, Rqp, Rqs, Spl}
@@ -57,6 +59,15 @@ askedNumbers (InStrip from to) = 0 ∷ 0 ∷ 0 ∷ 1 ∷ from ∷ to ∷ []
 askedNumbers (InChange from to) = 0 ∷ 0 ∷ 0 ∷ 2 ∷ from ∷ to ∷ []
 askedNumbers (NotShown number field place) = number ∷ field ∷ place ∷ 0 ∷ 0 ∷ 0 ∷ []
 
+-- the answer with the number asked whole: one over 255 is asked for as 0, and an 8 for it has the number as it was asked
+abbrev pub fieldTold : ℕ → ℕ → ℕ → ℕ
+fieldTold asked number field = cond (ltb 255 asked && (eqb number 8 && eqb field 0)) asked field
+
+abbrev pub askedWhole : ℕ → Asked → Asked
+askedWhole asked (InStrip from to) = InStrip from to
+askedWhole asked (InChange from to) = InChange from to
+askedWhole asked (NotShown number field place) = NotShown number (fieldTold asked number field) place
+
 -- EXAMPLES, computed: the three messages of the listing (27 bytes accepted as a CNL; 7 in field 13 at 10; 5 in field 3 at 0), and an update
 listed : (readNumbers (ReadAs Cnl 27) ≡ 0 ∷ 0 ∷ 0 ∷ 3 ∷ 27 ∷ []) × (readNumbers (NotRead 7 13 10) ≡ 7 ∷ 13 ∷ 10 ∷ 0 ∷ 0 ∷ [])
     × (readNumbers (NotRead 5 3 0) ≡ 5 ∷ 3 ∷ 0 ∷ 0 ∷ 0 ∷ [])
@@ -68,3 +79,8 @@ offered = (refl, refl)
 asked : (askedNumbers (InStrip 21 27) ≡ 0 ∷ 0 ∷ 0 ∷ 1 ∷ 21 ∷ 27 ∷ []) × (askedNumbers (InChange 29 35) ≡ 0 ∷ 0 ∷ 0 ∷ 2 ∷ 29 ∷ 35 ∷ [])
     × (askedNumbers (NotShown 8 22 0) ≡ 8 ∷ 22 ∷ 0 ∷ 0 ∷ 0 ∷ 0 ∷ [])
 asked = (refl, refl, refl)
+
+-- 263, which ends like 7, and 22, which an entry of the CHG's has
+whole : (askedWhole 263 (NotShown 8 0 0) ≡ NotShown 8 263 0) × (askedWhole 263 (NotShown 8 22 31) ≡ NotShown 8 22 31)
+    × (askedWhole 22 (NotShown 8 22 0) ≡ NotShown 8 22 0) × (askedWhole 263 (NotShown 15 0 0) ≡ NotShown 15 0 0)
+whole = (refl, refl, refl, refl)

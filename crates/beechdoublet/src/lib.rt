@@ -4,7 +4,7 @@ ghost use mathlib.Core.List.{[], _∷_};
 ghost use lib.ListN.{length};
 ghost use Rattle.message.specs.Reading.{answerOf, outAfter};
 ghost use Rattle.asked.specs.Parts.{Shows};
-ghost use Rattle.beechdoublet.specs.Numbers.{typeNumber, readNumber, readNumbers, updateNumber, updateNumbers, askedNumber, askedNumbers};
+ghost use Rattle.beechdoublet.specs.Numbers.{typeNumber, readNumber, readNumbers, updateNumber, updateNumbers, askedNumber, askedNumbers, fieldTold, askedWhole};
 ghost use Rattle.beechdoublet.specs.Handed.{arrivedNumbers, stateNumbers, kept, departureOf, stateOf, agree, handedAs, soundAs, updateAs, outAs, stateAs, askedAs, contentAsked};
 use aerodromes::Aerodrome;
 use asked::Asked;
@@ -219,9 +219,25 @@ fn asked_of(strip: &[u8], h: Handed, chg: &[u8], number: u64) -> Asked
     }
 }
 
+// The field of a refusal. A number over 255 is asked for as 0, and an 8 for it has the number as it was asked.
+fn field_told(asked: u64, number: u8, field: u8) -> u64
+    ensures { λ r. ⌜ r ≡ fieldTold asked number field ⌝ }
+{
+    if asked <= 255 {
+        return field as u64;
+    }
+    if number != 8 {
+        return field as u64;
+    }
+    if field != 0 {
+        return field as u64;
+    }
+    asked
+}
+
 // Lays out where a field in force stands, and gives the answer's number.
-fn tell_asked(a: Asked, answer: &mut [u64; 6]) -> u8
-    ensures { λ r. ⌜ (r ≡ askedNumber a) × (now (answer .exit) ≡ askedNumbers a) ⌝ }
+fn tell_asked(a: Asked, asked: u64, answer: &mut [u64; 6]) -> u8
+    ensures { λ r. ⌜ (r ≡ askedNumber a) × (now (answer .exit) ≡ askedNumbers (askedWhole asked a)) ⌝ }
 {
     match a {
         Asked::InStrip { from, to } => {
@@ -237,7 +253,8 @@ fn tell_asked(a: Asked, answer: &mut [u64; 6]) -> u8
             field,
             place,
         } => {
-            *answer = [number as u64, field as u64, place as u64, 0, 0, 0];
+            let told = field_told(asked, number, field);
+            *answer = [number as u64, told, place as u64, 0, 0, 0];
             number
         }
     }
@@ -292,9 +309,9 @@ pub extern "C" fn beechdoublet_in_force(
     answer: &mut [u64; 6],
 ) -> u8
     ensures { λ r. ⌜ (r ≡ askedNumber (askedAs (handedAs (now (state .entry))) (now (strip .entry)) (now (chg .entry)) number))
-        × (now (answer .exit) ≡ askedNumbers (askedAs (handedAs (now (state .entry))) (now (strip .entry)) (now (chg .entry)) number))
+        × (now (answer .exit) ≡ askedNumbers (askedWhole number (askedAs (handedAs (now (state .entry))) (now (strip .entry)) (now (chg .entry)) number)))
         × Shows (askedAs (handedAs (now (state .entry))) (now (strip .entry)) (now (chg .entry)) number) (now (strip .entry)) (now (chg .entry))
         (contentAsked (now (strip .entry)) (now (chg .entry)) number) ⌝ }
 {
-    tell_asked(asked_of(strip, hand_in(state), chg, number), answer)
+    tell_asked(asked_of(strip, hand_in(state), chg, number), number, answer)
 }

@@ -1,7 +1,7 @@
 -- `beechdoublet::beechdoublet_in_force` meets its contract. Assumes nothing.
 use mathlib.Core.Path.{ap, subst, _∙_}
 use Rattle.asked.specs.Parts.{Shows}
-use Rattle.beechdoublet.specs.Numbers.{askedNumber, askedNumbers}
+use Rattle.beechdoublet.specs.Numbers.{askedNumber, askedNumbers, askedWhole}
 use Rattle.beechdoublet.specs.Handed.{askedAs, contentAsked}
 use borrow.Author.Needs.{needs}
 use Rattle.beechdoublet.proofs.beechdoublet_in_force.Statement.{statement}
@@ -23,7 +23,7 @@ returns c =
     let t = c .tell-asked .ensures in
     let e = q .0 ∙ ap (λ h. askedAs h (a .strip .now) (a .chg .now) (a .number)) (c .before .before .before .hand-in .ensures) in (
       t .0 ∙ ap askedNumber e,
-      t .1 ∙ ap askedNumbers e,
+      t .1 ∙ ap (λ x. askedNumbers (askedWhole (a .number) x)) e,
       subst (λ x. Shows x (a .strip .now) (a .chg .now) (contentAsked (a .strip .now) (a .chg .now) (a .number))) e (q .1),
     )
 
