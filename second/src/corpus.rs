@@ -19,9 +19,10 @@ pub struct Listed {
 }
 
 /// The lists of questions. The first begins before any strip is held.
-const QUESTIONS: [&str; 5] = [
+const QUESTIONS: [&str; 6] = [
     include_str!("../data/bad-strips.txt"),
     include_str!("../data/document-01.txt"),
+    include_str!("../data/document-01-further.txt"),
     include_str!("../data/decided.txt"),
     include_str!("../data/printed-messages.txt"),
     include_str!("../data/lines.txt"),
