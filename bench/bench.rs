@@ -8,12 +8,14 @@ mod beechdoublet;
 mod inputs;
 
 use std::hint::black_box;
-use std::time::Instant;
+use std::time::{Duration, Instant};
 
 use beechdoublet::{read, update, MOST};
 use inputs::{Offer, Set};
 
+/// So many rounds at least, and for so long: on a machine that others use too, only some rounds are undisturbed.
 const ROUNDS: usize = 15;
+const AT_LEAST: Duration = Duration::from_secs(2);
 
 /// The time of one round of each reader, in nanoseconds.
 struct Times {
@@ -36,7 +38,10 @@ fn timed(round: &mut dyn FnMut()) -> f64 {
 /// The least time of each reader's rounds, the two taking turns.
 fn measured(mut proved: impl FnMut(), mut second: impl FnMut()) -> Times {
     let mut least = Times { proved: f64::MAX, second: f64::MAX };
-    for _ in 0..ROUNDS {
+    let start = Instant::now();
+    let mut rounds = 0;
+    while rounds < ROUNDS || start.elapsed() < AT_LEAST {
+        rounds += 1;
         least.proved = least.proved.min(timed(&mut proved));
         least.second = least.second.min(timed(&mut second));
     }
