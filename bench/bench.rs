@@ -1,6 +1,6 @@
 //! The proved reader and the second reader on the same inputs, turn by turn in one run: how long each takes, and how many times as long.
 //!
-//! Of each set of inputs both readers' answers are compared first; the time of a set is the least of its rounds.
+//! Of each set of inputs both readers' answers are compared first; the times of a set are those of the round whose ratio is the median.
 #![cfg_attr(emulated, no_main)]
 
 #[path = "../examples/beechdoublet.rs"]
@@ -13,7 +13,7 @@ use std::time::{Duration, Instant};
 use beechdoublet::{read, update, MOST};
 use inputs::{Offer, Set};
 
-/// So many rounds at least, and for so long: on a machine that others use too, only some rounds are undisturbed.
+/// So many rounds at least, and for so long.
 const ROUNDS: usize = 15;
 const AT_LEAST: Duration = Duration::from_secs(2);
 
@@ -35,17 +35,16 @@ fn timed(round: &mut dyn FnMut()) -> f64 {
     start.elapsed().as_nanos() as f64
 }
 
-/// The least time of each reader's rounds, the two taking turns.
+/// The round whose ratio is the median. In a round the two readers run right behind one another, at the same speed of the machine for the most part;
+/// the least times of each, from different rounds, may be of different speeds where others use the machine too.
 fn measured(mut proved: impl FnMut(), mut second: impl FnMut()) -> Times {
-    let mut least = Times { proved: f64::MAX, second: f64::MAX };
     let start = Instant::now();
-    let mut rounds = 0;
-    while rounds < ROUNDS || start.elapsed() < AT_LEAST {
-        rounds += 1;
-        least.proved = least.proved.min(timed(&mut proved));
-        least.second = least.second.min(timed(&mut second));
+    let mut rounds = Vec::new();
+    while rounds.len() < ROUNDS || start.elapsed() < AT_LEAST {
+        rounds.push(Times { proved: timed(&mut proved), second: timed(&mut second) });
     }
-    least
+    rounds.sort_by(|a, b| a.ratio().total_cmp(&b.ratio()));
+    rounds.swap_remove(rounds.len() / 2)
 }
 
 /// Whether both readers give the same answer to a message.
