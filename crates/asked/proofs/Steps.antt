@@ -1,11 +1,11 @@
 -- The answers to a question for a field in force, as the code comes to them, and the bytes at the place given back. Assumes nothing.
 use Prim.Native.Nat.{ℕ, suc, _+_, _-_, _≤_}
-use mathlib.Core.Path.{_≡_, refl, sym, ap, ap₂, subst, _∙_}
-use mathlib.Core.Bool.{Bool, true, false, _&&_, cond}
+use mathlib.Core.Path.{_≡_, sym, ap, ap₂, subst, _∙_}
+use mathlib.Core.Bool.{Bool, true, false, cond}
 use mathlib.Core.List.{List}
 use mathlib.Core.Option.{Option}
 use native.Mathlib.Omega.{arith}
-use lib.Dec.{eqb, leb}
+use lib.Dec.{eqb}
 use lib.ListN.{length, take, drop, length-drop}
 use lib.Seq.{length-take-le, drop-drop, take-take}
 use borrow.Author.Tests.{eq-eqb, ne-eqb}
@@ -14,19 +14,19 @@ use Rattle.text.proofs.Tests.{same-eq}
 use Rattle.space.specs.Fields.{inner}
 use Rattle.space.specs.Hyphens.{behindHyphen}
 use Rattle.kinds.specs.declared.MessageType.{MessageType}
-use Rattle.kinds.specs.declared.MessageType.the-variants.{Chg}
-use Rattle.message.specs.declared.Answer.{Answer}
-use Rattle.message.specs.declared.Answer.the-variants.{Accepted as ReadAs, Refused as NotRead}
-use Rattle.message.specs.Reading.{spellingOf, answerOf}
-use Rattle.state.specs.declared.State.{State}
-use Rattle.state.specs.State.{sound}
+use Rattle.kinds.specs.declared.Role.the-variants.{Changes}
+use Rattle.message.specs.Reading.{spellingOf}
+use Rattle.state.specs.declared.Strip.{Strip}
+use Rattle.opening.specs.declared.Opening.{Opening}
+use Rattle.opening.specs.declared.Opening.the-variants.{Read, Refused as NotOpened}
+use Rattle.opening.specs.Opening.{openingOf}
 use Rattle.force.specs.declared.Found.the-variants.{At, Nowhere}
 use Rattle.force.specs.InForce.{inForce, placeOf, FoundIn}
 use Rattle.force.proofs.Walk.{in-chg, in-plan, place-at, drop-take}
-use Rattle.strip.specs.Updating.{canonicalPlan, differences, differs}
+use Rattle.strip.specs.Updating.{differences, differs}
 use Rattle.asked.specs.declared.Asked.{Asked}
 use Rattle.asked.specs.declared.Asked.the-variants.{InStrip, InChange, Refused}
-use Rattle.asked.specs.Asking.{rankOf, standsIn, standsAs, fieldAs, flightAs, isChange, typeAs, notReadAs, readAs, askedOf, shown, StandsAt}
+use Rattle.asked.specs.Asking.{rankOf, standsIn, standsAs, fieldAs, flightAs, isChange, typeAs, openedAs, askedOf, shown, StandsAt}
 use Rattle.asked.specs.Parts.{PartOf, PartBehind, Shows, ShowsText}
 
 -- WHERE IT STANDS, from the texts
@@ -67,14 +67,14 @@ module _ (plan said : List ℕ) (number : ℕ) where
   abbrev pub Told : Asked → Type 0
   Told r = (r ≡ flightAs plan said number) × ShowsText r plan said (inForce plan said (rankOf number))
 
-  by-differences : (b : Bool) → differs (differences Chg (split 45 plan) (split 45 said)) ≡ b
+  by-differences : (b : Bool) → differs (differences Changes (split 45 plan) (split 45 said)) ≡ b
       → flightAs plan said number ≡ cond b (Refused 12 0 0) (fieldAs plan said number)
   by-differences b e = ap (λ (x : Bool). cond x (Refused 12 0 0) (fieldAs plan said number)) e
 
-  pub other-flight : differs (differences Chg (split 45 plan) (split 45 said)) ≡ true → Told (Refused 12 0 0)
+  pub other-flight : differs (differences Changes (split 45 plan) (split 45 said)) ≡ true → Told (Refused 12 0 0)
   other-flight e = (sym (by-differences true e), tt)
 
-  module _ (same-flight : differs (differences Chg (split 45 plan) (split 45 said)) ≡ false) where
+  module _ (same-flight : differs (differences Changes (split 45 plan) (split 45 said)) ≡ false) where
     pub not-named : rankOf number ≡ 0 → Told (Refused 8 number 0)
     not-named z = (sym (by-differences false same-flight ∙ rw (eq-eqb (rankOf number) 0 z)), tt)
 
@@ -136,47 +136,27 @@ module _ (t : MessageType) (spelled strip chg : List ℕ) (number : ℕ) where
               (subst (λ (y : List ℕ). ShowsText r p y (inForce p y (rankOf number))) es (h .1))),
         )
 
--- 15, AND THE READING
+-- THE OPENING
 
-module _ (strip : List ℕ) (state : State) (chg : List ℕ) (number : ℕ) where
+module _ (strip : List ℕ) (held : Strip) (chg : List ℕ) (number : ℕ) where
   abbrev pub Whole : Asked → Type 0
-  Whole r = (r ≡ askedOf strip state chg number) × Shows r strip chg (inForce (inner strip) (inner chg) (rankOf number))
+  Whole r = (r ≡ askedOf strip held chg number) × Shows r strip chg (inForce (inner strip) (inner chg) (rankOf number))
 
-  by-tests : (a b : Bool) → sound state ≡ a → canonicalPlan strip ≡ b
-      → askedOf strip state chg number ≡ cond (a && b) (readAs (answerOf chg 1800) strip chg number) (Refused 15 0 0)
+  by-opening : (o : Opening) → openingOf strip held chg ≡ o → askedOf strip held chg number ≡ openedAs o strip chg number
   unfolding askedOf
-  by-tests a b e f = ap₂ (λ (x y : Bool). cond (x && y) (readAs (answerOf chg 1800) strip chg number) (Refused 15 0 0)) e f
+  by-opening o e = ap (λ (x : Opening). openedAs x strip chg number) e
 
-  pub unsound : sound state ≡ false → Whole (Refused 15 0 0)
-  unsound e = (sym (by-tests false (canonicalPlan strip) e refl), tt)
+  pub not-opened : (n field place : ℕ) → openingOf strip held chg ≡ NotOpened n field place → Whole (Refused n field place)
+  not-opened n field place e = (sym (by-opening (NotOpened n field place) e), tt)
 
-  module _ (is-sound : sound state ≡ true) where
-    pub no-plan : canonicalPlan strip ≡ false → Whole (Refused 15 0 0)
-    no-plan e = (sym (by-tests true false is-sound e), tt)
-
-    module _ (is-plan : canonicalPlan strip ≡ true) where
-      reading : (a : Answer) → answerOf chg 1800 ≡ a → askedOf strip state chg number ≡ readAs a strip chg number
-      reading a e = by-tests true true is-sound is-plan ∙ ap (λ (x : Answer). readAs x strip chg number) e
-
-      pub not-read : (n field place : ℕ) → answerOf chg 1800 ≡ NotRead n field place → (r : Asked) → r ≡ notReadAs n field place → Whole r
-      not-read n field place e r h = (h ∙ sym (reading (NotRead n field place) e), subst (λ (x : Asked). Shows x strip chg w) (sym h) (nothing (leb n 9)))
-        where
-          w : Word
-          w = inForce (inner strip) (inner chg) (rankOf number)
-
-          nothing : (b : Bool) → Shows (cond b (Refused n field place) (Refused 14 0 0)) strip chg w
-          nothing true = tt
-          nothing false = tt
-
-      pub was-read : (t : MessageType) (n : ℕ) → answerOf chg 1800 ≡ ReadAs t n → (spelled : List ℕ) → spelled ≡ spellingOf t chg
-          → (r : Asked) → Answered t spelled strip chg number r → Whole r
-      was-read t n e spelled s r h =
-          (h .0 ∙ ap (λ (x : List ℕ). typeAs t x strip chg number) s ∙ sym (reading (ReadAs t n) e), h .1)
+  pub was-opened : (t : MessageType) (n : ℕ) → openingOf strip held chg ≡ Read t n → (spelled : List ℕ) → spelled ≡ spellingOf t chg
+      → (r : Asked) → Answered t spelled strip chg number r → Whole r
+  was-opened t n e spelled s r h = (h .0 ∙ ap (λ (x : List ℕ). typeAs t x strip chg number) s ∙ sym (by-opening (Read t n) e), h .1)
 
 -- THE PART SHOWN
 
-module _ (strip : List ℕ) (state : State) (chg : List ℕ) (number : ℕ) {a r : Asked} (whole : Whole strip state chg number a) (is : a ≡ r) where
-  answer-is : askedOf strip state chg number ≡ r
+module _ (strip : List ℕ) (held : Strip) (chg : List ℕ) (number : ℕ) {a r : Asked} (whole : Whole strip held chg number a) (is : a ≡ r) where
+  answer-is : askedOf strip held chg number ≡ r
   answer-is = sym (whole .0) ∙ is
 
   pub shows-so : Shows r strip chg (inForce (inner strip) (inner chg) (rankOf number))
@@ -184,7 +164,7 @@ module _ (strip : List ℕ) (state : State) (chg : List ℕ) (number : ℕ) {a r
 
   pub part-shown : {A : Type 0} (sb : A) (sp : ℕ) (cb : A) (cp : ℕ) (w : Word) (block : A) (place : ℕ)
       → w ≡ shown r strip chg number → StandsAt r sb sp cb cp block place
-      → (w ≡ shown (askedOf strip state chg number) strip chg number) × StandsAt (askedOf strip state chg number) sb sp cb cp block place
+      → (w ≡ shown (askedOf strip held chg number) strip chg number) × StandsAt (askedOf strip held chg number) sb sp cb cp block place
   part-shown sb sp cb cp w block place b p = (
     b ∙ ap (λ (x : Asked). shown x strip chg number) (sym answer-is),
     subst (λ (x : Asked). StandsAt x sb sp cb cp block place) (sym answer-is) p,

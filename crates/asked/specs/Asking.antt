@@ -1,41 +1,44 @@
--- The field in force, as the desk asks for it (document 01, "The strip"): given strip, state, CHG and a field number, where that content
+-- The field in force, as the desk asks for it (document 01, "The strip"): given strip, its record, CHG and a field number, where that content
 -- stands, or the refusal. Assumes nothing.
 use Prim.Native.Nat.{ℕ, suc, _+_}
 use mathlib.Core.Path.{_≡_, refl}
-use mathlib.Core.Bool.{Bool, true, false, _&&_, cond}
+use mathlib.Core.Bool.{Bool, true, false, cond}
 use mathlib.Core.List.{List, []}
 use mathlib.Core.Option.{Option, none, some}
-use lib.Dec.{eqb, leb}
+use lib.Dec.{eqb}
 use lib.ListN.{length, take, drop}
 use Rattle.alphabet.specs.Text.{bytes}
 use Rattle.text.specs.Words.{Word, split, same}
 use Rattle.space.specs.Fields.{inner}
 use Rattle.space.specs.Hyphens.{behindHyphen}
 use Rattle.kinds.specs.declared.MessageType.{MessageType}
-use Rattle.kinds.specs.declared.MessageType.the-variants.{Fpl, Chg, Cnl, Dla, Dep, Arr, Rqp, Rqs, Spl}
+use Rattle.kinds.specs.declared.MessageType.the-variants.{Chg, Cnl}
+use Rattle.kinds.specs.declared.Role.{Role}
+use Rattle.kinds.specs.declared.Role.the-variants.{Files, Changes, Delays, Cancels, Departs, Arrives, Neither}
+use Rattle.kinds.specs.Kinds.{roleOf, plan7, plan8, plan9, plan10, plan13, plan15, plan16, plan18}
 use Rattle.forms.specs.Field22.{labels}
-use Rattle.message.specs.declared.Answer.{Answer}
-use Rattle.message.specs.declared.Answer.the-variants.{Accepted as ReadAs, Refused as NotRead}
-use Rattle.message.specs.Reading.{spellingOf, answerOf}
-use Rattle.state.specs.declared.State.{State}
-use Rattle.state.specs.State.{sound}
+use Rattle.message.specs.Reading.{spellingOf}
+use Rattle.state.specs.declared.Strip.{Strip}
+use Rattle.opening.specs.declared.Opening.{Opening}
+use Rattle.opening.specs.declared.Opening.the-variants.{Read, Refused as NotOpened}
+use Rattle.opening.specs.Opening.{openingOf}
 use Rattle.force.specs.InForce.{inForce, namedBy, namedAt, placeOf}
-use Rattle.strip.specs.Updating.{most, canonicalPlan, differences, differs}
+use Rattle.strip.specs.Updating.{differences, differs}
 use Rattle.asked.specs.declared.Asked.{Asked}
 use Rattle.asked.specs.declared.Asked.the-variants.{InStrip, InChange, Refused}
 
--- THE NUMBER ASKED: the eight that an entry may name, by their ranks; any other has none
+-- THE NUMBER ASKED: the eight that an entry may name have as ranks their places in an FPL; any other has none
 
 abbrev pub rankOf : ℕ → ℕ
 rankOf n =
-    cond (eqb n 7) 1
-    (cond (eqb n 8) 2
-    (cond (eqb n 9) 3
-    (cond (eqb n 10) 4
-    (cond (eqb n 13) 5
-    (cond (eqb n 15) 6
-    (cond (eqb n 16) 7
-    (cond (eqb n 18) 8 0)))))))
+    cond (eqb n 7) plan7
+    (cond (eqb n 8) plan8
+    (cond (eqb n 9) plan9
+    (cond (eqb n 10) plan10
+    (cond (eqb n 13) plan13
+    (cond (eqb n 15) plan15
+    (cond (eqb n 16) plan16
+    (cond (eqb n 18) plan18 0)))))))
 
 -- WHERE IT STANDS: a content in force begins at this place of its text, and a text begins one byte behind its message
 
@@ -46,7 +49,7 @@ standsIn none plan said k = InStrip (suc (placeOf plan k)) (suc (placeOf plan k)
 abbrev pub standsAs : List ℕ → List ℕ → ℕ → Asked
 standsAs plan said k = standsIn (namedAt said k) plan said k
 
--- THE ANSWER: 15, 1 to 9, 14, 17, 12, 8
+-- THE ANSWER: 15, 1 to 9 and 14 as the strip is opened, 14, 17, 12, 8
 
 -- 8, with the number asked as its field
 abbrev pub fieldAs : List ℕ → List ℕ → ℕ → Asked
@@ -54,18 +57,19 @@ fieldAs plan said number = cond (eqb (rankOf number) 0) (Refused 8 number 0) (st
 
 -- 12: the message is for another flight
 abbrev pub flightAs : List ℕ → List ℕ → ℕ → Asked
-flightAs plan said number = cond (differs (differences Chg (split 45 plan) (split 45 said))) (Refused 12 0 0) (fieldAs plan said number)
+flightAs plan said number = cond (differs (differences Changes (split 45 plan) (split 45 said))) (Refused 12 0 0) (fieldAs plan said number)
+
+abbrev pub changes : Role → Bool
+changes Changes = true
+changes Files = false
+changes Delays = false
+changes Cancels = false
+changes Departs = false
+changes Arrives = false
+changes Neither = false
 
 abbrev pub isChange : MessageType → Bool
-isChange Chg = true
-isChange Fpl = false
-isChange Cnl = false
-isChange Dla = false
-isChange Dep = false
-isChange Arr = false
-isChange Rqp = false
-isChange Rqs = false
-isChange Spl = false
+isChange t = changes (roleOf t)
 
 -- 14: it is no CHG; 17: it is not its own spelling
 unfoldable pub typeAs : MessageType → List ℕ → List ℕ → List ℕ → ℕ → Asked
@@ -74,17 +78,12 @@ typeAs t spelled strip chg number =
     (cond (same spelled chg) (flightAs (inner strip) (inner chg) number) (Refused 17 0 0))
     (Refused 14 0 0)
 
--- 1 to 9, in the message as sent; an FPL that leaves a field unexplained is no CHG
-abbrev pub notReadAs : ℕ → ℕ → ℕ → Asked
-notReadAs number field place = cond (leb number 9) (Refused number field place) (Refused 14 0 0)
+abbrev pub openedAs : Opening → List ℕ → List ℕ → ℕ → Asked
+openedAs (NotOpened n field place) strip chg number = Refused n field place
+openedAs (Read t n) strip chg number = typeAs t (spellingOf t chg) strip chg number
 
-abbrev pub readAs : Answer → List ℕ → List ℕ → ℕ → Asked
-readAs (NotRead n field place) strip chg number = notReadAs n field place
-readAs (ReadAs t n) strip chg number = typeAs t (spellingOf t chg) strip chg number
-
-unfoldable pub askedOf : List ℕ → State → List ℕ → ℕ → Asked
-askedOf strip state chg number =
-    cond (sound state && canonicalPlan strip) (readAs (answerOf chg most) strip chg number) (Refused 15 0 0)
+unfoldable pub askedOf : List ℕ → Strip → List ℕ → ℕ → Asked
+askedOf strip held chg number = openedAs (openingOf strip held chg) strip chg number
 
 -- THE PART SHOWN
 

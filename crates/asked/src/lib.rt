@@ -2,13 +2,14 @@
 ghost use mathlib.Core.Path.{_≡_};
 ghost use Prim.Native.Nat.{_≤_};
 ghost use lib.ListN.{length};
-ghost use Rattle.asked.specs.Asking.{rankOf, isChange, standsAs, flightAs, typeAs, notReadAs, askedOf, shown, StandsAt};
+ghost use Rattle.asked.specs.Asking.{rankOf, isChange, standsAs, flightAs, typeAs, askedOf, shown, StandsAt};
 ghost use Rattle.force.specs.InForce.{inForce};
 ghost use Rattle.space.specs.Fields.{inner};
 ghost use Rattle.asked.specs.Parts.{Shows, ShowsText};
 use force::Found;
 use kinds::MessageType;
-use message::Answer;
+use kinds::Role;
+use opening::Opening;
 use state::Strip;
 
 // Where the content stands, from its first byte to behind its last, or the refusal.
@@ -23,14 +24,14 @@ fn rank_of(number: u8) -> usize
     ensures { λ r. ⌜ r ≡ rankOf number ⌝ }
 {
     match number {
-        7 => 1,
-        8 => 2,
-        9 => 3,
-        10 => 4,
-        13 => 5,
-        15 => 6,
-        16 => 7,
-        18 => 8,
+        7 => kinds::PLAN_7,
+        8 => kinds::PLAN_8,
+        9 => kinds::PLAN_9,
+        10 => kinds::PLAN_10,
+        13 => kinds::PLAN_13,
+        15 => kinds::PLAN_15,
+        16 => kinds::PLAN_16,
+        18 => kinds::PLAN_18,
         _ => 0,
     }
 }
@@ -38,16 +39,14 @@ fn rank_of(number: u8) -> usize
 fn is_change(t: MessageType) -> bool
     ensures { λ r. ⌜ r ≡ isChange t ⌝ }
 {
-    match t {
-        MessageType::Chg => true,
-        MessageType::Fpl => false,
-        MessageType::Cnl => false,
-        MessageType::Dla => false,
-        MessageType::Dep => false,
-        MessageType::Arr => false,
-        MessageType::Rqp => false,
-        MessageType::Rqs => false,
-        MessageType::Spl => false,
+    match t.role() {
+        Role::Changes => true,
+        Role::Files => false,
+        Role::Delays => false,
+        Role::Cancels => false,
+        Role::Departs => false,
+        Role::Arrives => false,
+        Role::Neither => false,
     }
 }
 
@@ -80,7 +79,7 @@ fn ask_texts(plan: &[u8], said: &[u8], number: u8) -> Asked
     ensures { λ r. ⌜ r ≡ flightAs (now (plan .entry)) (now (said .entry)) number ⌝ }
     ensures { λ r. ⌜ ShowsText r (now (plan .entry)) (now (said .entry)) (inForce (now (plan .entry)) (now (said .entry)) (rankOf number)) ⌝ }
 {
-    if strip::differences_in(MessageType::Chg, plan, said).any() {
+    if strip::differences_in(Role::Changes, plan, said).any() {
         return Asked::Refused {
             number: 12,
             field: 0,
@@ -96,24 +95,6 @@ fn ask_texts(plan: &[u8], said: &[u8], number: u8) -> Asked
         };
     }
     stands(plan, said, k)
-}
-
-// A message that was not read: its own number where that is 1 to 9, otherwise 14.
-fn not_read(number: u8, field: u8, place: usize) -> Asked
-    ensures { λ r. ⌜ r ≡ notReadAs number field place ⌝ }
-{
-    if number <= 9 {
-        return Asked::Refused {
-            number,
-            field,
-            place,
-        };
-    }
-    Asked::Refused {
-        number: 14,
-        field: 0,
-        place: 0,
-    }
 }
 
 // Numbers 14 and 17 of a message that was read and is spelled so, and what its text gives.
@@ -143,38 +124,28 @@ fn ask_read(t: MessageType, spelled: &[u8], strip: &[u8], chg: &[u8], number: u8
 
 // Where the content of a field in force stands: in the CHG if an entry names it, otherwise in the strip.
 pub fn ask(strip: &[u8], held: Strip, chg: &[u8], number: u8) -> Asked
-    ensures { λ r. ⌜ r ≡ askedOf (now (strip .entry)) (held .state) (now (chg .entry)) number ⌝ }
+    ensures { λ r. ⌜ r ≡ askedOf (now (strip .entry)) held (now (chg .entry)) number ⌝ }
     ensures { λ r. ⌜ Shows r (now (strip .entry)) (now (chg .entry)) (inForce (inner (now (strip .entry))) (inner (now (chg .entry))) (rankOf number)) ⌝ }
 {
-    if !held.is_sound() {
-        return Asked::Refused {
-            number: 15,
-            field: 0,
-            place: 0,
-        };
-    }
-    if !strip::is_canonical_plan(strip) {
-        return Asked::Refused {
-            number: 15,
-            field: 0,
-            place: 0,
-        };
-    }
     let mut scratch = [0u8; 1800];
-    match message::read(chg, &mut scratch) {
-        Answer::Refused {
+    match opening::open_strip(strip, held, chg, &mut scratch) {
+        Opening::Refused {
             number: n,
             field,
             place,
-        } => not_read(n, field, place),
-        Answer::Accepted(t, n) => ask_read(t, &scratch[..n], strip, chg, number),
+        } => Asked::Refused {
+            number: n,
+            field,
+            place,
+        },
+        Opening::Read(t, n) => ask_read(t, &scratch[..n], strip, chg, number),
     }
 }
 
 // Shows the content of a field in force, as a part of the CHG or of the strip; a refusal shows an empty part at the strip's start.
 pub fn in_force<'a>(strip: &'a [u8], held: Strip, chg: &'a [u8], number: u8) -> &'a [u8]
-    ensures { λ r. ⌜ now r ≡ shown (askedOf (now (strip .entry)) (held .state) (now (chg .entry)) number) (now (strip .entry)) (now (chg .entry)) number ⌝ }
-    ensures { λ r. ⌜ StandsAt (askedOf (now (strip .entry)) (held .state) (now (chg .entry)) number)
+    ensures { λ r. ⌜ now r ≡ shown (askedOf (now (strip .entry)) held (now (chg .entry)) number) (now (strip .entry)) (now (chg .entry)) number ⌝ }
+    ensures { λ r. ⌜ StandsAt (askedOf (now (strip .entry)) held (now (chg .entry)) number)
         (strip .entry .ptr .0) (strip .entry .ptr .1) (chg .entry .ptr .0) (chg .entry .ptr .1) (r .ptr .0) (r .ptr .1) ⌝ }
 {
     match ask(strip, held, chg, number) {

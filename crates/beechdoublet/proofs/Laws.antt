@@ -1,6 +1,6 @@
 -- Numbers lose nothing: two answers or two states with the same numbers are the same, and a state comes back from its numbers. The number 0 is
 -- an acceptance's alone. Assumes nothing.
-use Prim.Native.Nat.{ℕ, zero, suc, _+_, _≤_, _<_}
+use Prim.Native.Nat.{ℕ, zero, suc, _+_, _-_, _≤_, _<_}
 use mathlib.Core.Path.{_≡_, refl, sym, ap, subst, subst⁻¹, _∙_}
 use mathlib.Core.Bool.{Bool, true, false, _&&_, cond, false≢true}
 use mathlib.Core.List.{List, [], _∷_}
@@ -13,7 +13,10 @@ use borrow.Author.Tests.{eq-eqb, ne-eqb, eqb-true, eqb-false, lt-ltb, le-ltb, lt
 use Rattle.shape.specs.declared.Clock.{Clock}
 use Rattle.aerodromes.specs.declared.Aerodrome.{Aerodrome}
 use Rattle.kinds.specs.declared.MessageType.{MessageType}
-use Rattle.kinds.specs.declared.MessageType.the-variants.{Fpl, Chg, Cnl, Dla, Dep, Arr, Rqp, Rqs, Spl}
+use Rattle.kinds.specs.declared.MessageType.the-variants.{Fpl}
+use Rattle.kinds.specs.declared.Role.the-variants.{Changes}
+use Rattle.kinds.specs.Kinds.{nameOf, typesRead}
+use Rattle.kinds.proofs.Names.{name-one, each}
 use Rattle.message.specs.declared.Answer.{Answer}
 use Rattle.message.specs.declared.Answer.the-variants.{Accepted as ReadAs, Refused as NotRead}
 use Rattle.message.specs.Reading.{spellingOf, answerOf, outAfter}
@@ -24,21 +27,23 @@ use Rattle.state.specs.declared.State.{State}
 use Rattle.state.specs.declared.State.the-variants.{Filed, Departed, Arrived, Cancelled}
 use Rattle.text.specs.Words.{all, split, same}
 use Rattle.space.specs.Fields.{inner}
-use Rattle.text.proofs.Tests.{both}
+use Rattle.text.proofs.Tests.{both, same-eq}
 use Rattle.alphabet.specs.Alphabet.{letter}
 use Rattle.aerodromes.specs.Asked.{fourBytes}
-use Rattle.state.specs.State.{sound}
+use Rattle.state.specs.State.{soundState, sound}
 use Rattle.state.specs.declared.Strip.{Strip}
 use Rattle.strip.specs.declared.Updated.{Updated}
 use Rattle.strip.specs.declared.Updated.the-variants.{Accepted, Refused}
-use Rattle.strip.specs.Updating.{most, canonicalPlan, differences, differs, updateOf}
+use Rattle.opening.specs.declared.Opening.the-variants.{Refused as NotOpened}
+use Rattle.opening.specs.Opening.{most, canonicalPlan, readAs, openingOf}
+use Rattle.strip.specs.Updating.{differences, differs, updateOf}
 use Rattle.force.specs.InForce.{namedAt}
 use Rattle.history.specs.Demand3.{Cause, not-proper, not-read, not-fit, no-type, another-flight, not-allowed, unexplained, too-long, no-room}
 use Rattle.history.proofs.Causes.{Took, Verdict, verdict, refused-cause}
 use Rattle.history.proofs.Demand3.{took-proper}
 use Rattle.asked.specs.declared.Asked.{Asked}
 use Rattle.asked.specs.declared.Asked.the-variants.{InStrip, InChange, Refused as NotShown}
-use Rattle.asked.specs.Asking.{rankOf, standsIn, standsAs, fieldAs, flightAs, isChange, typeAs, readAs, askedOf}
+use Rattle.asked.specs.Asking.{rankOf, standsIn, standsAs, fieldAs, flightAs, isChange, typeAs, openedAs, askedOf}
 use Rattle.beechdoublet.specs.declared.Handed.{Handed}
 use Rattle.beechdoublet.specs.declared.Handed.the-variants.{Held, NoState}
 use Rattle.beechdoublet.specs.Numbers.{typeNumber, readNumber, readNumbers, updateNumber, updateNumbers, askedNumber, askedNumbers, askedWhole}
@@ -48,34 +53,18 @@ use Rattle.beechdoublet.specs.Laws.{wasRead, wasTaken, wasShown, Numbere
 -- THE TYPES
 
 abbrev typeOf : ℕ → MessageType
-typeOf n =
-    cond (eqb n 1) Fpl (cond (eqb n 2) Chg (cond (eqb n 3) Cnl (cond (eqb n 4) Dla (cond (eqb n 5) Dep
-    (cond (eqb n 6) Arr (cond (eqb n 7) Rqp (cond (eqb n 8) Rqs Spl)))))))
+typeOf n = getD typesRead (n - 1) Fpl
 
 type-back : (t : MessageType) → typeOf (typeNumber t) ≡ t
-type-back Fpl = refl
-type-back Chg = refl
-type-back Cnl = refl
-type-back Dla = refl
-type-back Dep = refl
-type-back Arr = refl
-type-back Rqp = refl
-type-back Rqs = refl
-type-back Spl = refl
+unfolding typesRead
+type-back t = name-one _ t (same-eq _ _ (each (λ u. same (nameOf (typeOf (typeNumber u))) (nameOf u)) refl t))
 
 pub type-one : (t u : MessageType) → typeNumber t ≡ typeNumber u → t ≡ u
 type-one t u e = sym (type-back t) ∙ ap typeOf e ∙ type-back u
 
 type-some : (t : MessageType) → 1 ≤ typeNumber t
-type-some Fpl = omega arith
-type-some Chg = omega arith
-type-some Cnl = omega arith
-type-some Dla = omega arith
-type-some Dep = omega arith
-type-some Arr = omega arith
-type-some Rqp = omega arith
-type-some Rqs = omega arith
-type-some Spl = omega arith
+unfolding typesRead
+type-some t = leb-true 1 (typeNumber t) (each (λ u. leb 1 (typeNumber u)) refl t)
 
 -- READING
 
@@ -146,7 +135,7 @@ agree-at (suc k) xs ys h i l = go (λ p. agree-at k xs ys (b .0) i p) (eqb i k) 
     go ih true e = subst⁻¹ (λ j. getD xs j 0 ≡ getD ys j 0) (eqb-true i k e) (eqb-true (getD xs k 0) (getD ys k 0) (b .1))
     go ih false e = ih (omega (arith, eqb-false i k e))
 
-state-meant : (s : State) → sound s ≡ true → stateOf (stateNumbers s) ≡ s
+state-meant : (s : State) → soundState s ≡ true → stateOf (stateNumbers s) ≡ s
 state-meant Filed h = refl
 state-meant (Departed t) h = ap Departed (minute-kept t h)
 state-meant (Arrived (Known d) a t) h =
@@ -166,9 +155,9 @@ state-meant (Arrived Unknown a t) h =
     rw (minute-kept t (q .1), letter-kept (a .0) (r .0), letter-kept (a .1) (u .0), letter-kept (a .2) (v .0), letter-kept (a .3) (w .0))
 state-meant Cancelled h = refl
 
-pub handed-back : (s : State) → sound s ≡ true → handedAs (stateNumbers s) ≡ Held (record { state = s })
+pub handed-back : (held : Strip) → sound held ≡ true → handedAs (stateNumbers (held .state)) ≡ Held held
 unfolding handedAs
-handed-back s h = rw (state-meant s h, same-agree 8 (stateNumbers s))
+handed-back held h = rw (state-meant (held .state) h, same-agree 8 (stateNumbers (held .state)))
 
 -- and only from its numbers: eight numbers that are taken for a state are that state's own
 pub handed-only : (ns : List ℕ) → length ns ≡ 8 → (held : Strip) → handedAs ns ≡ Held held → stateNumbers (held .state) ≡ ns
@@ -186,7 +175,7 @@ handed-only ns long held e = go (agree 8 (stateNumbers (stateOf ns)) ns) refl e
 
 -- AN UPDATE
 
-caused : (strip : List ℕ) (s : State) (m : List ℕ) (room number field place : ℕ) → Cause strip s m room number field place → 1 ≤ number
+caused : (strip : List ℕ) (s : Strip) (m : List ℕ) (room number field place : ℕ) → Cause strip s m room number field place → 1 ≤ number
 caused strip s m room number field place (not-proper h) = omega arith
 caused strip s m room number field place (not-read p q l) = refused-number m 1800 number field place q .0
 caused strip s m room number field place (not-fit p q) = omega arith
@@ -200,12 +189,12 @@ caused strip s m room number field place (no-room k u l h) = omega arith
 -- a refusal has a number
 pub update-numbered : (h : Handed) (strip m : List ℕ) (room : ℕ) → Numbered (updateAs h strip m room)
 update-numbered NoState strip m room = omega arith
-update-numbered (Held held) strip m room = go (updateOf strip (held .state) m room) refl
+update-numbered (Held held) strip m room = go (updateOf strip held m room) refl
   where
-    go : (u : Updated) → updateOf strip (held .state) m room ≡ u → Numbered u
+    go : (u : Updated) → updateOf strip held m room ≡ u → Numbered u
     go (Accepted next n) e = tt
     go (Refused number field place) e =
-        caused strip (held .state) m room number field place (refused-cause strip (held .state) m room number field place e)
+        caused strip held m room number field place (refused-cause strip held m room number field place e)
 
 -- 0 is given back exactly where the message is accepted
 pub update-zero : (h : Handed) (strip m : List ℕ) (room : ℕ) → eqb (updateNumber (updateAs h strip m room)) 0 ≡ wasTaken (updateAs h strip m room)
@@ -226,12 +215,12 @@ update-one ns (Refused number field place) (Accepted b k) hu hv e f = let z : nu
 update-one ns (Refused number field place) (Refused number′ field′ place′) hu hv e f = cc
 
 -- what an accepted message leaves can be handed in again
-pub next-handed : (ns strip m : List ℕ) (room : ℕ) (held next : Strip) (n : ℕ) → updateOf strip (held .state) m room ≡ Accepted next n
-    → handedAs (stateAs (updateOf strip (held .state) m room) ns) ≡ Held next
+pub next-handed : (ns strip m : List ℕ) (room : ℕ) (held next : Strip) (n : ℕ) → updateOf strip held m room ≡ Accepted next n
+    → handedAs (stateAs (updateOf strip held m room) ns) ≡ Held next
 next-handed ns strip m room held next n e =
-    let k : Took strip (held .state) m room next n = subst (Verdict strip (held .state) m room) e (verdict strip (held .state) m room) in
+    let k : Took strip held m room next n = subst (Verdict strip held m room) e (verdict strip held m room) in
     ap (λ (u : Updated). handedAs (stateAs u ns)) e
-    ∙ handed-back (next .state) (took-proper strip (held .state) m room next n k .state-sound)
+    ∙ handed-back next (took-proper strip held m room next n k .held-sound)
 
 -- THE FIELD IN FORCE
 
@@ -266,7 +255,7 @@ field-told plan said number = go (eqb (rankOf number) 0)
     go false = place-told (namedAt said (rankOf number)) plan said (rankOf number)
 
 flight-told : (plan said : List ℕ) (number : ℕ) → Told (flightAs plan said number)
-flight-told plan said number = go (differs (differences Chg (split 45 plan) (split 45 said)))
+flight-told plan said number = go (differs (differences Changes (split 45 plan) (split 45 said)))
   where
     go : (b : Bool) → Told (cond b (NotShown 12 0 0) (fieldAs plan said number))
     go true = omega arith
@@ -281,24 +270,21 @@ type-told t spelled strip chg number = go (isChange t) (same spelled chg)
     go true false = omega arith
     go false b = omega arith
 
-read-told : (strip chg : List ℕ) (number : ℕ) → Told (readAs (answerOf chg 1800) strip chg number)
-read-told strip chg number = go (answerOf chg 1800) refl
+read-told : (strip chg : List ℕ) (number : ℕ) (a : Answer) → answerOf chg most ≡ a → Told (openedAs (readAs a) strip chg number)
+read-told strip chg number (ReadAs t n) e = type-told t (spellingOf t chg) strip chg number
+read-told strip chg number (NotRead n field place) e = pick (leb n 9)
   where
-    go : (a : Answer) → answerOf chg 1800 ≡ a → Told (readAs a strip chg number)
-    go (ReadAs t n) e = type-told t (spellingOf t chg) strip chg number
-    go (NotRead n field place) e = pick (leb n 9)
-      where
-        pick : (b : Bool) → Told (cond b (NotShown n field place) (NotShown 14 0 0))
-        pick true = refused-number chg 1800 n field place e .0
-        pick false = omega arith
+    pick : (b : Bool) → Told (openedAs (cond b (NotOpened n field place) (NotOpened 14 0 0)) strip chg number)
+    pick true = refused-number chg most n field place e .0
+    pick false = omega arith
 
 pub asked-told : (h : Handed) (strip chg : List ℕ) (number : ℕ) → Told (askedAs h strip chg number)
-unfolding askedOf
+unfolding askedOf openingOf
 asked-told NoState strip chg number = omega arith
-asked-told (Held held) strip chg number = go (sound (held .state) && canonicalPlan strip)
+asked-told (Held held) strip chg number = go (sound held && canonicalPlan strip)
   where
-    go : (b : Bool) → Told (cond b (readAs (answerOf chg most) strip chg (byteOf number)) (NotShown 15 0 0))
-    go true = read-told strip chg (byteOf number)
+    go : (b : Bool) → Told (openedAs (cond b (readAs (answerOf chg most)) (NotOpened 15 0 0)) strip chg (byteOf number))
+    go true = read-told strip chg (byteOf number) (answerOf chg most) refl
     go false = omega arith
 
 -- 0 is given back exactly where the field is shown

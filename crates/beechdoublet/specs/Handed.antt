@@ -77,17 +77,17 @@ handedAs ns = cond (agree 8 (stateNumbers (stateOf ns)) ns) (Held (record { stat
 
 -- whether a strip may be handed in with these numbers
 abbrev pub soundAs : Handed → Bool
-soundAs (Held held) = sound (held .state)
+soundAs (Held held) = sound held
 soundAs NoState = false
 
 -- AN UPDATE OF A STRIP WITH SUCH NUMBERS: 15 where they are no state. The numbers afterwards are those of the new state, or as they were
 
 abbrev pub updateAs : Handed → List ℕ → List ℕ → ℕ → Updated
-updateAs (Held held) strip m room = updateOf strip (held .state) m room
+updateAs (Held held) strip m room = updateOf strip held m room
 updateAs NoState strip m room = Refused 15 0 0
 
 abbrev pub outAs : Handed → List ℕ → List ℕ → List ℕ → List ℕ
-outAs (Held held) strip m out = outAfter strip (held .state) m out
+outAs (Held held) strip m out = outAfter strip held m out
 outAs NoState strip m out = out
 
 abbrev pub stateAs : Updated → List ℕ → List ℕ
@@ -97,7 +97,7 @@ stateAs (Refused number field place) ns = ns
 -- THE FIELD IN FORCE OF SUCH A STRIP: 15 where the numbers are no state. A number over 255 is asked for as 0, which is no field's either
 
 abbrev pub askedAs : Handed → List ℕ → List ℕ → ℕ → Asked
-askedAs (Held held) strip chg number = askedOf strip (held .state) chg (byteOf number)
+askedAs (Held held) strip chg number = askedOf strip held chg (byteOf number)
 askedAs NoState strip chg number = NotShown 15 0 0
 
 -- the content that stands there

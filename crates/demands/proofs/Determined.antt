@@ -19,7 +19,7 @@ use Rattle.supplement.specs.Field19.{written19}
 use Rattle.kinds.specs.declared.Form.{Form}
 use Rattle.forms.specs.Forms.{rankIn, writtenOf}
 use Rattle.message.specs.declared.Answer.{Answer}
-use Rattle.state.specs.declared.State.{State}
+use Rattle.state.specs.declared.Strip.{Strip}
 use Rattle.force.specs.declared.Found.{Found}
 use Rattle.force.specs.declared.Found.the-variants.{At, Nowhere}
 use Rattle.force.specs.InForce.{inForce, namedAt, placeOf, Stands, FoundIn}
@@ -134,10 +134,10 @@ in-force-one plan chg k pb pp cb cp x y p q = go (namedAt chg k) (p .1) (q .1)
     go none u v = placed (x .0) (y .0) (x .1 .0) (y .1 .0) (x .1 .1) (y .1 .1) (p .0 ∙ sym (q .0)) (u .0 ∙ sym (v .0)) (u .1 ∙ sym (v .1))
 
 -- `asked::in_force`, from a strip and a CHG
-pub shown-one : {A : Type 0} (strip : List ℕ) (state : State) (chg : List ℕ) (number : ℕ) (sb : A) (sp : ℕ) (cb : A) (cp : ℕ)
+pub shown-one : {A : Type 0} (strip : List ℕ) (held : Strip) (chg : List ℕ) (number : ℕ) (sb : A) (sp : ℕ) (cb : A) (cp : ℕ)
     → Determines (List ℕ × (A × ℕ))
-    (λ r. (r .0 ≡ shown (askedOf strip state chg number) strip chg number) × StandsAt (askedOf strip state chg number) sb sp cb cp (r .1 .0) (r .1 .1))
-shown-one strip state chg number sb sp cb cp x y p q = go (askedOf strip state chg number) (p .1) (q .1)
+    (λ r. (r .0 ≡ shown (askedOf strip held chg number) strip chg number) × StandsAt (askedOf strip held chg number) sb sp cb cp (r .1 .0) (r .1 .1))
+shown-one strip held chg number sb sp cb cp x y p q = go (askedOf strip held chg number) (p .1) (q .1)
   where
     go : (a : Asked) → StandsAt a sb sp cb cp (x .1 .0) (x .1 .1) → StandsAt a sb sp cb cp (y .1 .0) (y .1 .1) → x ≡ y
     go (InStrip from to) u v = placed (x .0) (y .0) (x .1 .0) (y .1 .0) (x .1 .1) (y .1 .1) (p .0 ∙ sym (q .0)) (u .0 ∙ sym (v .0)) (u .1 ∙ sym (v .1))
@@ -145,15 +145,15 @@ shown-one strip state chg number sb sp cb cp x y p q = go (askedOf strip state c
     go (Refused n field place) u v = placed (x .0) (y .0) (x .1 .0) (y .1 .0) (x .1 .1) (y .1 .1) (p .0 ∙ sym (q .0)) (u .0 ∙ sym (v .0)) (u .1 ∙ sym (v .1))
 
 -- `asked::ask`: the answer, and what its place says of the bytes there
-pub ask-one : (strip : List ℕ) (state : State) (chg : List ℕ) (number : ℕ)
-    → Determines Asked (λ r. (r ≡ askedOf strip state chg number) × Shows r strip chg (inForce (inner strip) (inner chg) (rankOf number)))
-ask-one strip state chg number = bounded Asked (askedOf strip state chg number) (λ r. Shows r strip chg (inForce (inner strip) (inner chg) (rankOf number)))
+pub ask-one : (strip : List ℕ) (held : Strip) (chg : List ℕ) (number : ℕ)
+    → Determines Asked (λ r. (r ≡ askedOf strip held chg number) × Shows r strip chg (inForce (inner strip) (inner chg) (rankOf number)))
+ask-one strip held chg number = bounded Asked (askedOf strip held chg number) (λ r. Shows r strip chg (inForce (inner strip) (inner chg) (rankOf number)))
 
--- UPDATING: the answer with the state, and every byte of the output
+-- UPDATING: the answer with the record, and every byte of the output
 
-pub update-one : (strip : List ℕ) (state : State) (m out : List ℕ)
-    → Determines (Updated × List ℕ) (λ r. (r .0 ≡ updateOf strip state m (length out)) × (r .1 ≡ updatedOut strip state m out))
-update-one strip state m out = written Updated (updateOf strip state m (length out)) (updatedOut strip state m out)
+pub update-one : (strip : List ℕ) (held : Strip) (m out : List ℕ)
+    → Determines (Updated × List ℕ) (λ r. (r .0 ≡ updateOf strip held m (length out)) × (r .1 ≡ updatedOut strip held m out))
+update-one strip held m out = written Updated (updateOf strip held m (length out)) (updatedOut strip held m out)
 
 -- READING: the answer and every byte of the output
 

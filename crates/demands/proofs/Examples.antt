@@ -26,7 +26,8 @@ use Rattle.plan.specs.Unexplained.{unexplained}
 use Rattle.message.specs.Reading.{spellingOf, faultIn, countAs, answerOf}
 use Rattle.text.specs.Lent.{front}
 use Rattle.force.specs.InForce.{namedBy, namedAt}
-use Rattle.strip.specs.Updating.{canonicalPlan, updateOf, outAfter}
+use Rattle.opening.specs.Opening.{canonicalPlan, openingOf}
+use Rattle.strip.specs.Updating.{offeredAs, newStrip, updateOf, outAfter}
 use Rattle.asked.specs.Asking.{typeAs, askedOf}
 use Rattle.demands.specs.Examples.{Example, AllHold, ofFields, ofMessages, ofStrips, examples}
 
@@ -51,8 +52,8 @@ strips-hold : AllHold ofStrips
 unfolding answerOf countAs faultIn spellingOf outer parens parensFrom lettersFrom inAlphabet white text reduced reducedFrom standsForRun opens closes
     hyphens typeNamed typeRanked typesRead types formsOf planForms briefForms fits3 numbersFit fits7 fits8 fits9 countFits aircraftFits fits10
     valid10 present fits16plan fits15 starts speeds levels speedDigits levelDigits elementFits letters within radialFits indicators nameFits
-    pointFits fourLetters timed timeFits fitsIn unexplained hasKey labels fits22 fault22 canonicalPlan updateOf outAfter front namedBy namedAt
-    behindHyphen typeAs askedOf
+    pointFits fourLetters timed timeFits fitsIn unexplained hasKey labels fits22 fault22 canonicalPlan openingOf offeredAs newStrip updateOf outAfter front
+    namedBy namedAt behindHyphen typeAs askedOf
 strips-hold = ((refl, refl), (refl, (refl, tt)))
 
 pub examples-hold : AllHold examples

@@ -19,7 +19,7 @@ use Rattle.kinds.specs.declared.MessageType.{MessageType}
 use Rattle.kinds.specs.declared.MessageType.the-variants.{Cnl}
 use Rattle.message.specs.declared.Answer.the-variants.{Accepted, Refused}
 use Rattle.message.specs.Reading.{answerOf, spellingOf}
-use Rattle.state.specs.declared.State.the-variants.{Filed}
+use Rattle.state.specs.State.{justFiled}
 use Rattle.strip.specs.declared.Updated.the-variants.{Accepted as Taken}
 use Rattle.strip.specs.Updating.{updateOf, outAfter}
 use Rattle.asked.specs.declared.Asked.{Asked}
@@ -61,9 +61,9 @@ Holds (noTime s) = clockFits (bytes s) ≡ false
 Holds (accepted s t w) = (answerOf (bytes s) 1800 ≡ Accepted t (length (bytes w))) × (spellingOf t (bytes s) ≡ bytes w)
 Holds (refused s number field place) = answerOf (bytes s) 1800 ≡ Refused number field place
 Holds (updated s m w) =
-    (updateOf (bytes s) Filed (bytes m) (length (bytes w)) ≡ Taken (record { state = Filed }) (length (bytes w)))
-    × (outAfter (bytes s) Filed (bytes m) (replicate (length (bytes w)) 0) ≡ bytes w)
-Holds (asked s m number a) = askedOf (bytes s) Filed (bytes m) number ≡ a
+    (updateOf (bytes s) justFiled (bytes m) (length (bytes w)) ≡ Taken justFiled (length (bytes w)))
+    × (outAfter (bytes s) justFiled (bytes m) (replicate (length (bytes w)) 0) ≡ bytes w)
+Holds (asked s m number a) = askedOf (bytes s) justFiled (bytes m) number ≡ a
 
 abbrev pub AllHold : List Example → Type 0
 AllHold [] = Unit

@@ -16,13 +16,13 @@ use Rattle.message.specs.declared.Answer.{Answer}
 use Rattle.message.specs.declared.Answer.the-variants.{Accepted as ReadAs, Refused as NotRead}
 use Rattle.message.specs.Reading.{isPlan, spellingOf, answerOf, writtenAs, outAfter}
 use Rattle.message.proofs.Reached.{accepted-taken}
-use Rattle.state.specs.declared.State.the-variants.{Filed}
 use Rattle.state.specs.declared.Strip.{Strip}
+use Rattle.state.specs.State.{justFiled}
 use Rattle.strip.specs.declared.Updated.{Updated}
 use Rattle.strip.specs.declared.Updated.the-variants.{Accepted, Refused}
 use Rattle.strip.specs.Updating.{updateOf, outAfter as newAfter}
 use Rattle.history.specs.Demand3.{Board, putAs, updater, offered, offeredAll}
-use Rattle.history.proofs.Strip.{is-plan}
+use Rattle.message.proofs.Plans.{plan-type}
 use Rattle.history.proofs.Causes.{accepted-fits}
 use Rattle.desk.specs.declared.Held.{Held}
 use Rattle.desk.specs.declared.Held.the-variants.{Nothing, Flight}
@@ -47,16 +47,16 @@ module _ (buffer m after : List ℕ) (wide : length buffer ≡ 1800) where
     filed-strip p w =
         ap (λ (s : List ℕ). take n s) (w ∙ ap (λ (a : Answer). writtenAs a m buffer) e)
         ∙ take-at (spellingOf t m) (drop (length (spellingOf t m)) buffer) n (sym (accepted-taken t m (length buffer) n e .long))
-        ∙ ap (λ (u : MessageType). spellingOf u m) (is-plan t p)
+        ∙ ap (λ (u : MessageType). spellingOf u m) (plan-type t p)
 
-    pub filed : isPlan t ≡ true → after ≡ outAfter m buffer → Offering Nothing buffer m (Accepted (record { state = Filed }) n) after
+    pub filed : isPlan t ≡ true → after ≡ outAfter m buffer → Offering Nothing buffer m (Accepted justFiled n) after
     filed p w =
         let k = accepted-taken t m (length buffer) n e in
-        let told : filingAs (answerOf m 1800) ≡ Accepted (record { state = Filed }) n = ap filingAs (rw wide at e) ∙ rw p in
+        let told : filingAs (answerOf m 1800) ≡ Accepted justFiled n = ap filingAs (rw wide at e) ∙ rw p in
         record {
           answer-is = sym told;
           board-is =
-              ap (λ (s : List ℕ). some (record { strip = s; state = Filed })) (filed-strip p w) ∙ sym (ap (λ (u : Updated). filedBy u m) told);
+              ap (λ (s : List ℕ). some (record { strip = s; held = justFiled })) (filed-strip p w) ∙ sym (ap (λ (u : Updated). filedBy u m) told);
           in-room = omega (arith, k .long, k .fits);
         }
 
@@ -64,37 +64,37 @@ module _ (buffer m after : List ℕ) (wide : length buffer ≡ 1800) where
 
 module _ (held : Strip) (n : ℕ) (buffer m after : List ℕ) where
   abbrev board : Board
-  board = record { strip = take n buffer; state = held .state }
+  board = record { strip = take n buffer; held = held }
 
   -- the board after an update's answer
-  answered : (u : Updated) → updateOf (take n buffer) (held .state) m 1800 ≡ u
-      → some (putAs (updateOf (take n buffer) (held .state) m 1800) (newAfter (take n buffer) (held .state) m lent) board)
-      ≡ some (putAs u (newAfter (take n buffer) (held .state) m lent) board)
-  answered u e = ap (λ (v : Updated). some (putAs v (newAfter (take n buffer) (held .state) m lent) board)) e
+  answered : (u : Updated) → updateOf (take n buffer) held m 1800 ≡ u
+      → some (putAs (updateOf (take n buffer) held m 1800) (newAfter (take n buffer) held m lent) board)
+      ≡ some (putAs u (newAfter (take n buffer) held m lent) board)
+  answered u e = ap (λ (v : Updated). some (putAs v (newAfter (take n buffer) held m lent) board)) e
 
   -- a refusal leaves the strip
-  pub refused : (number field place : ℕ) → n ≤ 1800 → updateOf (take n buffer) (held .state) m 1800 ≡ Refused number field place → after ≡ buffer
+  pub refused : (number field place : ℕ) → n ≤ 1800 → updateOf (take n buffer) held m 1800 ≡ Refused number field place → after ≡ buffer
       → Offering (Flight held n) buffer m (Refused number field place) after
   refused number field place h e w =
       record {
         answer-is = sym e;
-        board-is = ap (λ (s : List ℕ). some (record { strip = take n s; state = held .state })) w ∙ sym (answered (Refused number field place) e);
+        board-is = ap (λ (s : List ℕ). some (record { strip = take n s; held = held })) w ∙ sym (answered (Refused number field place) e);
         in-room = h;
       }
 
   -- an accepted piece's new strip stands in its place
-  pub taken : (next : Strip) (k : ℕ) (new : List ℕ) → updateOf (take n buffer) (held .state) m 1800 ≡ Accepted next k
-      → new ≡ newAfter (take n buffer) (held .state) m lent → length new ≡ 1800 → after ≡ front (take k new) buffer
+  pub taken : (next : Strip) (k : ℕ) (new : List ℕ) → updateOf (take n buffer) held m 1800 ≡ Accepted next k
+      → new ≡ newAfter (take n buffer) held m lent → length new ≡ 1800 → after ≡ front (take k new) buffer
       → Offering (Flight held n) buffer m (Accepted next k) after
   unfolding front
   taken next k new e q l w =
-      let h : k ≤ 1800 = accepted-fits (take n buffer) (held .state) m 1800 next k e in
+      let h : k ≤ 1800 = accepted-fits (take n buffer) held m 1800 next k e in
       record {
         answer-is = sym e;
         board-is =
-            ap (λ (s : List ℕ). some (record { strip = take k s; state = next .state })) w
-            ∙ ap (λ (s : List ℕ). some (record { strip = s; state = next .state })) (take-at (take k new) _ k (length-take-le k new (omega arith)))
-            ∙ ap (λ (s : List ℕ). some (record { strip = take k s; state = next .state })) q
+            ap (λ (s : List ℕ). some (record { strip = take k s; held = next })) w
+            ∙ ap (λ (s : List ℕ). some (record { strip = s; held = next })) (take-at (take k new) _ k (length-take-le k new (omega arith)))
+            ∙ ap (λ (s : List ℕ). some (record { strip = take k s; held = next })) q
             ∙ sym (answered (Accepted next k) e);
         in-room = h;
       }

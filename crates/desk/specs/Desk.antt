@@ -11,7 +11,8 @@ use Rattle.kinds.specs.declared.MessageType.the-variants.{Fpl, Cnl}
 use Rattle.message.specs.declared.Answer.{Answer}
 use Rattle.message.specs.declared.Answer.the-variants.{Accepted as ReadAs, Refused as NotRead}
 use Rattle.message.specs.Reading.{isPlan, answerOf}
-use Rattle.state.specs.declared.State.the-variants.{Filed, Cancelled}
+use Rattle.state.specs.declared.State.the-variants.{Cancelled}
+use Rattle.state.specs.State.{justFiled}
 use Rattle.strip.specs.declared.Updated.{Updated}
 use Rattle.strip.specs.declared.Updated.the-variants.{Accepted, Refused}
 use Rattle.strip.specs.Updating.{updateOf}
@@ -19,12 +20,12 @@ use Rattle.history.specs.Demand3.{Board, Offer, updater, offered, filedAs}
 use Rattle.desk.specs.declared.Held.{Held}
 use Rattle.desk.specs.declared.Held.the-variants.{Nothing, Flight}
 
--- THE BOARD: nothing, or a strip with its state
+-- THE BOARD: nothing, or a strip with its record
 
 -- as the program keeps it: the strip in the first bytes of a buffer
 abbrev pub boardIn : Held → List ℕ → Option Board
 boardIn Nothing buffer = none
-boardIn (Flight held n) buffer = some (record { strip = take n buffer; state = held .state })
+boardIn (Flight held n) buffer = some (record { strip = take n buffer; held = held })
 
 abbrev pub InRoom : Held → Type 0
 InRoom Nothing = Unit
@@ -33,12 +34,12 @@ InRoom (Flight held n) = n ≤ 1800
 -- THE ANSWER: before there is a strip an accepted FPL is filed, and another type is not fit; once there is one, each piece is offered to it
 
 abbrev pub filingAs : Answer → Updated
-filingAs (ReadAs t n) = cond (isPlan t) (Accepted (record { state = Filed }) n) (Refused 14 0 0)
+filingAs (ReadAs t n) = cond (isPlan t) (Accepted justFiled n) (Refused 14 0 0)
 filingAs (NotRead number field place) = Refused number field place
 
 abbrev pub answerTo : Option Board → List ℕ → Updated
 answerTo none m = filingAs (answerOf m 1800)
-answerTo (some b) m = updateOf (b .strip) (b .state) m 1800
+answerTo (some b) m = updateOf (b .strip) (b .held) m 1800
 
 -- WHAT IT HOLDS AFTERWARDS
 
@@ -74,10 +75,10 @@ pub record Offering (before : Held) (buffer piece : List ℕ) (answer : Updated)
 
 -- EXAMPLES, computed
 
-in-front : boardIn (Flight (record { state = Cancelled }) 5) (bytes "(FPL)-0)") ≡ some (record { strip = bytes "(FPL)"; state = Cancelled })
+in-front : boardIn (Flight (record { state = Cancelled }) 5) (bytes "(FPL)-0)") ≡ some (record { strip = bytes "(FPL)"; held = record { state = Cancelled } })
 in-front = refl
 
 -- before there is a strip, only an FPL is fit
-first : (filingAs (ReadAs Fpl 70) ≡ Accepted (record { state = Filed }) 70) × (filingAs (ReadAs Cnl 27) ≡ Refused 14 0 0)
+first : (filingAs (ReadAs Fpl 70) ≡ Accepted justFiled 70) × (filingAs (ReadAs Cnl 27) ≡ Refused 14 0 0)
     × (filingAs (NotRead 7 13 10) ≡ Refused 7 13 10)
 first = (refl, refl, refl)

@@ -16,7 +16,7 @@ use Rattle.text.proofs.Tests.{both, and-both, all-drop}
 use Rattle.text.proofs.Joined.{split-join}
 use Rattle.shape.specs.Field.{Field}
 use Rattle.kinds.specs.declared.MessageType.the-variants.{Chg}
-use Rattle.kinds.specs.Kinds.{entries, briefForms, formsOf}
+use Rattle.kinds.specs.Kinds.{entries, briefForms, formsOf, firstEntry}
 use Rattle.records.specs.Records.{fitAll}
 use Rattle.forms.specs.Field22.{whichOf, fits22}
 use Rattle.forms.specs.Forms.{fieldOf}
@@ -31,7 +31,7 @@ fields-same : (f g : ℕ → Word) → ((i : ℕ) → f i ≡ g i) → (j n : �
 fields-same f g h j zero = refl
 fields-same f g h j (suc n) = ap₂ (λ (w : Word) (ws : List Word). w ∷ ws) (h j) (fields-same f g h (suc j) n)
 
-fields-are : (cs : List Word) (j n : ℕ) → j + n ≡ length cs → fieldsFrom (λ i. getD cs i []) j n ≡ drop j cs
+pub fields-are : (cs : List Word) (j n : ℕ) → j + n ≡ length cs → fieldsFrom (λ i. getD cs i []) j n ≡ drop j cs
 fields-are cs j zero h = sym (none-left cs j (omega arith))
   where
     none-left : (l : List Word) (i : ℕ) → length l ≤ i → drop i l ≡ []
@@ -173,9 +173,9 @@ fit-behind [] gs cs h = h
 fit-behind (f ∷ fs) gs [] h = absurd (false≢true h)
 fit-behind (f ∷ fs) gs (c ∷ cs) h = fit-behind fs gs cs (both (f .fits c) (fitAll (fs ++ gs) cs) h .1)
 
-pub chg-named : (n : ℕ) (cs : List Word) → fitAll (map fieldOf (formsOf Chg n)) cs ≡ true → allNamed (drop 5 cs) ≡ true
+pub chg-named : (n : ℕ) (cs : List Word) → fitAll (map fieldOf (formsOf Chg n)) cs ≡ true → allNamed (drop firstEntry cs) ≡ true
 unfolding formsOf briefForms
-chg-named n cs h = entries-named (n - 5) (drop 5 cs) (fit-behind (map fieldOf briefForms) (map fieldOf (entries (n - 5))) cs h)
+chg-named n cs h = entries-named (n - 5) (drop firstEntry cs) (fit-behind (map fieldOf briefForms) (map fieldOf (entries (n - 5))) cs h)
 
 ranks-of-entries : (n : ℕ) (es : List Word) → n ≡ length es → ranksIn (entries n) es ≡ ranksOf es
 ranks-of-entries zero [] h = refl
@@ -183,7 +183,7 @@ ranks-of-entries zero (e ∷ es) h = absurd (omega arith)
 ranks-of-entries (suc n) [] h = absurd (omega arith)
 ranks-of-entries (suc n) (e ∷ es) h = ap (λ (ks : List ℕ). whichOf e ∷ ks) (ranks-of-entries n es (omega arith))
 
-pub chg-ranks : (n : ℕ) (cs : List Word) → n ≡ length cs → ranksIn (formsOf Chg n) cs ≡ ranksOf (drop 5 cs)
+pub chg-ranks : (n : ℕ) (cs : List Word) → n ≡ length cs → ranksIn (formsOf Chg n) cs ≡ ranksOf (drop firstEntry cs)
 unfolding formsOf briefForms
 chg-ranks n [] h = refl
 chg-ranks n (a ∷ []) h = refl
@@ -211,6 +211,9 @@ getD-free [] j h = refl
 getD-free (w ∷ ws) zero h = both (free 45 w) (all (free 45) ws) h .0
 getD-free (w ∷ ws) (suc j) h = getD-free ws j (both (free 45 w) (all (free 45) ws) h .1)
 
+pub field-free : (s : List ℕ) (j : ℕ) → free 45 (fieldAt s j) ≡ true
+field-free s j = getD-free (split 45 s) j (pieces-free s)
+
 lookup-free : (k : ℕ) (es : List Word) (w : Word) → all (free 45) es ≡ true → free 45 w ≡ true → free 45 (Option·getD (lookup k es) w) ≡ true
 lookup-free k [] w h f = f
 lookup-free k (e ∷ es) w h f = go (lookup-free k es w (p .1) f) (eqb (whichOf e) k)
@@ -226,17 +229,14 @@ pub in-force-free : (plan chg : List ℕ) (k : ℕ) → free 45 (inForce plan ch
 unfolding namedBy
 in-force-free plan chg k = go (eqb k 0)
   where
-    own : free 45 (fieldAt plan k) ≡ true
-    own = getD-free (split 45 plan) k (pieces-free plan)
-
     go : (b : Bool) → free 45 (Option·getD (cond b none (lookup k (entriesOf chg))) (fieldAt plan k)) ≡ true
-    go true = own
-    go false = lookup-free k (entriesOf chg) (fieldAt plan k) (all-drop (free 45) 5 (split 45 chg) (pieces-free chg)) own
+    go true = field-free plan k
+    go false = lookup-free k (entriesOf chg) (fieldAt plan k) (all-drop (free 45) firstEntry (split 45 chg) (pieces-free chg)) (field-free plan k)
 
 fields-free : (f : ℕ → Word) → ((i : ℕ) → free 45 (f i) ≡ true) → (j n : ℕ) → all (free 45) (fieldsFrom f j n) ≡ true
 fields-free f h j zero = refl
 fields-free f h j (suc n) = and-both (free 45 (f j)) (all (free 45) (fieldsFrom f (suc j) n)) (h j) (fields-free f h (suc j) n)
 
-pub amended-cut : (plan chg : List ℕ) → split 45 (join 45 (amendedBy plan chg)) ≡ amendedBy plan chg
-amended-cut plan chg =
-    split-join 45 (inForce plan chg 0) (fieldsFrom (inForce plan chg) 1 8) (fields-free (inForce plan chg) (in-force-free plan chg) 0 9)
+-- so nine fields that are joined are cut into themselves
+pub nine-cut : (f : ℕ → Word) → ((i : ℕ) → free 45 (f i) ≡ true) → split 45 (join 45 (fieldsFrom f 0 9)) ≡ fieldsFrom f 0 9
+nine-cut f h = split-join 45 (f 0) (fieldsFrom f 1 8) (fields-free f h 0 9)

@@ -1,65 +1,26 @@
 -- The walk to a field and over a CHG's entries, hyphen by hyphen, and what is found there. Assumes nothing.
 use Prim.Native.Nat.{ℕ, zero, suc, _+_, _-_, _<_, _≤_}
 use mathlib.Core.Path.{_≡_, refl, sym, ap, subst, _∙_}
-use mathlib.Core.Bool.{Bool, true, false}
+use mathlib.Core.Bool.{false}
 use mathlib.Core.List.{List, [], _∷_}
 use mathlib.Core.Option.{Option, some, Option·getD}
 use native.Mathlib.Omega.{arith}
-use native.Mathlib.Nat.{zero-add, add-zero}
-use native.Mathlib.Numerals.{add-one}
-use lib.Dec.{ltb, eqb}
-use lib.ListN.{length, take, drop, getD, length-drop}
-use lib.Seq.{take-nil, drop-nil, drop-drop, getD-drop, length-take-le}
-use borrow.Author.Tests.{ltb-true, ltb-false, eq-eqb, ne-eqb}
-use Rattle.text.specs.Words.{Word, split, after, upTo, before, behind}
+use lib.Dec.{eqb}
+use lib.ListN.{length, take, drop, length-drop}
+use lib.Seq.{take-nil, drop-drop, length-take-le}
+use borrow.Author.Tests.{eq-eqb, ne-eqb}
+use Rattle.text.specs.Words.{Word, split, upTo, before, behind}
 use Rattle.text.specs.Places.{Stepped}
-use Rattle.text.proofs.Index.{drop-end, split-at, split-cut, after-here, after-end, piece}
+use Rattle.text.proofs.Index.{split-at, after-here, after-end, piece}
 use Rattle.space.specs.Hyphens.{behindHyphen}
+use Rattle.message.proofs.Nth.{cut-at, field-at}
+use Rattle.kinds.specs.Kinds.{firstEntry}
 use Rattle.forms.specs.Field22.{labels, whichOf}
 use Rattle.force.specs.declared.Found.{Found}
 use Rattle.force.specs.declared.Found.the-variants.{At, Nowhere}
 use Rattle.force.specs.InForce.{entriesOf, lookup, lookupAt, namedBy, namedAt, fieldAt, inForce, placeOf, Stands, FoundIn}
 
 -- TO A FIELD
-
-nothing-behind : (j : ℕ) → behindHyphen j [] ≡ []
-unfolding behindHyphen
-nothing-behind zero = refl
-nothing-behind (suc j) = nothing-behind j
-
--- at the end of a text every further field is there
-pub hyphen-end : (s u : List ℕ) (at left : ℕ) → length s ≤ at → behindHyphen left (drop at s) ≡ u → drop at s ≡ u
-hyphen-end s u at left h e =
-    drop-end s at h ∙ sym (nothing-behind left) ∙ ap (behindHyphen left) (sym (drop-end s at h)) ∙ e
-
--- whatever takes no fields and one empty field alike takes the fields from the j-th on as those that stand behind the j-th hyphen
-module _ {A : Type 0} (G : List Word → A) (alike : G [] ≡ G ([] ∷ [])) where
-  pub cut-at : (j : ℕ) (s : List ℕ) → G (drop j (split 45 s)) ≡ G (split 45 (behindHyphen j s))
-  unfolding behindHyphen
-  cut-at zero s = refl
-  cut-at (suc j) s = go (cut-at j (behind 45 s)) (ltb (upTo 45 s) (length s)) refl
-    where
-      go : G (drop j (split 45 (behind 45 s))) ≡ G (split 45 (behindHyphen j (behind 45 s)))
-          → (b : Bool) → ltb (upTo 45 s) (length s) ≡ b → G (drop (suc j) (split 45 s)) ≡ G (split 45 (behindHyphen j (behind 45 s)))
-      go ih true p =
-          let cut : split 45 s ≡ before 45 s ∷ split 45 (behind 45 s)
-          = split-cut 45 s
-          ∙ ap (λ (l : List Word). before 45 s ∷ l)
-          (after-here 45 s (upTo 45 s) (ltb-true (upTo 45 s) (length s) p) ∙ ap (λ (k : ℕ). split 45 (drop k s)) (add-one (upTo 45 s))) in
-          ap (λ (l : List Word). G (drop (suc j) l)) cut ∙ ih
-      go ih false p =
-          let far : length s ≤ upTo 45 s = ltb-false (upTo 45 s) (length s) p in
-          let further : length s ≤ suc (upTo 45 s) = omega arith in
-          let cut : split 45 s ≡ before 45 s ∷ []
-          = split-cut 45 s ∙ ap (λ (l : List Word). before 45 s ∷ l) (after-end 45 s (upTo 45 s) far) in
-          ap (λ (l : List Word). G (drop (suc j) l)) cut ∙ ap G (drop-nil {A = Word} j) ∙ alike
-          ∙ ap (λ (t : List ℕ). G (split 45 t)) (sym (ap (behindHyphen j) (drop-end s (suc (upTo 45 s)) further) ∙ nothing-behind j))
-
-pub field-at : (j : ℕ) (s : List ℕ) → fieldAt s j ≡ before 45 (behindHyphen j s)
-field-at j s =
-    ap (λ (i : ℕ). getD (split 45 s) i []) (sym (add-zero j)) ∙ sym (getD-drop j (split 45 s) 0 [])
-    ∙ cut-at (λ (l : List Word). getD l 0 []) refl j s
-    ∙ ap (λ (l : List Word). getD l 0 []) (split-cut 45 (behindHyphen j s))
 
 pub place-at : (j at : ℕ) (s : List ℕ) → at ≤ length s → drop at s ≡ behindHyphen j s → at ≡ placeOf s j
 place-at j at s h d = omega (arith, ap length d, length-drop at s)
@@ -81,16 +42,16 @@ module _ (k : ℕ) (some-rank : 0 < k) where
 pub record Seeking (chg : List ℕ) (k at : ℕ) : Type 0 where
   pub inside : at ≤ length chg
   pub content : lookup k (split 45 (drop at chg)) ≡ lookup k (entriesOf chg)
-  pub place : lookupAt k at (split 45 (drop at chg)) ≡ lookupAt k (placeOf chg 5) (entriesOf chg)
+  pub place : lookupAt k at (split 45 (drop at chg)) ≡ lookupAt k (placeOf chg firstEntry) (entriesOf chg)
 
-pub seeking-starts : {chg : List ℕ} {k at : ℕ} → 0 < k → at ≤ length chg → drop at chg ≡ behindHyphen 5 chg → Seeking chg k at
+pub seeking-starts : {chg : List ℕ} {k at : ℕ} → 0 < k → at ≤ length chg → drop at chg ≡ behindHyphen firstEntry chg → Seeking chg k at
 seeking-starts {chg} {k} {at} h l d =
     record {
       inside = l;
-      content = ap (λ (t : List ℕ). lookup k (split 45 t)) d ∙ sym (cut-at (lookup k) (contents-alike k h) 5 chg);
+      content = ap (λ (t : List ℕ). lookup k (split 45 t)) d ∙ sym (cut-at (lookup k) (contents-alike k h) firstEntry chg);
       place =
-          ap (λ (t : List ℕ). lookupAt k at (split 45 t)) d ∙ sym (cut-at (lookupAt k at) (places-alike k h at) 5 chg)
-          ∙ ap (λ (i : ℕ). lookupAt k i (entriesOf chg)) (place-at 5 at chg l d);
+          ap (λ (t : List ℕ). lookupAt k at (split 45 t)) d ∙ sym (cut-at (lookupAt k at) (places-alike k h at) firstEntry chg)
+          ∙ ap (λ (i : ℕ). lookupAt k i (entriesOf chg)) (place-at firstEntry at chg l d);
     }
 
 pub drop-take : (b n : ℕ) (l : List ℕ) → b ≤ n → drop b (take n l) ≡ take (n - b) (drop b l)

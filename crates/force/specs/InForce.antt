@@ -12,6 +12,7 @@ use Rattle.alphabet.specs.Text.{bytes}
 use Rattle.text.specs.Words.{Word, split, behind, all}
 use Rattle.space.specs.Hyphens.{behindHyphen}
 use Rattle.sent.specs.Sent.{messageOf}
+use Rattle.kinds.specs.Kinds.{firstEntry}
 use Rattle.forms.specs.Field22.{labels, whichOf}
 use Rattle.force.specs.declared.Found.{Found}
 use Rattle.force.specs.declared.Found.the-variants.{At, Nowhere}
@@ -19,7 +20,7 @@ use Rattle.force.specs.declared.Found.the-variants.{At, Nowhere}
 -- THE ENTRIES of a CHG stand behind its fields 3, 7, 13, 16 and 18
 
 abbrev pub entriesOf : List ℕ → List Word
-entriesOf chg = drop 5 (split 45 chg)
+entriesOf chg = drop firstEntry (split 45 chg)
 
 -- the content behind the oblique of the first entry that names the field of rank k
 abbrev pub lookup : ℕ → List Word → Option Word
@@ -59,7 +60,7 @@ lookupAt k at [] = none
 lookupAt k at (e ∷ es) = cond (eqb (whichOf e) k) (some (at + (length e - length (behind 47 e)))) (lookupAt k (at + suc (length e)) es)
 
 unfoldable pub namedAt : List ℕ → ℕ → Option ℕ
-namedAt chg k = cond (eqb k 0) none (lookupAt k (placeOf chg 5) (entriesOf chg))
+namedAt chg k = cond (eqb k 0) none (lookupAt k (placeOf chg firstEntry) (entriesOf chg))
 
 -- a part begins in the CHG, at the content that names the field, or in the plan; `block` and `place` say where each slice begins
 abbrev pub Stands : {A : Type 0} → Option ℕ → ℕ → (plan-block : A) (plan-place : ℕ) (chg-block : A) (chg-place : ℕ) (block : A) (place : ℕ) → Type 0

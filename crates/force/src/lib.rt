@@ -17,24 +17,15 @@ pub enum Found {
 pub fn seek(s: &[u8], j: usize) -> Cursor
     ensures { λ r. ⌜ (r .at ≤ length (now (s .entry))) × (drop (r .at) (now (s .entry)) ≡ behindHyphen j (now (s .entry))) ⌝ }
 {
-    let mut c = Cursor { at: 0 };
-    let mut left = j;
-    while left > 0 {
-        if c.at == s.len() {
-            return c;
-        }
-        c = c.next(s, b'-');
-        left -= 1;
-    }
-    c
+    message::onward(s, Cursor { at: 0 }, j)
 }
 
-// The content of the first entry that names the field of rank k. The entries stand behind a CHG's five fields.
+// The content of the first entry that names the field of rank k.
 fn find_entry(chg: &[u8], k: usize) -> Found
     requires { ⌜ 0 < k ⌝ }
     ensures { λ r. ⌜ FoundIn (now (chg .entry)) k r ⌝ }
 {
-    let mut c = seek(chg, 5);
+    let mut c = seek(chg, kinds::FIRST_ENTRY);
     loop {
         let at = c.at;
         let e = c.end(chg, b'-');

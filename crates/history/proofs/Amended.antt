@@ -6,10 +6,10 @@ use mathlib.Core.List.{List, [], _∷_, _++_, map}
 use mathlib.Core.Option.{Option, none, some, Option·getD}
 use native.Mathlib.Omega.{arith}
 use lib.Dec.{eqb}
-use lib.ListN.{length, take, drop, getD, set, take-append-drop}
+use lib.ListN.{length, take, drop, getD, take-append-drop}
 use borrow.Author.Tests.{eqb-true, eqb-false, eq-eqb, ne-eqb}
 use Rattle.alphabet.specs.Text.{bytes}
-use Rattle.text.specs.Words.{Word, before, behind, all, same, rank}
+use Rattle.text.specs.Words.{Word, split, before, behind, all, same, rank}
 use Rattle.text.proofs.Tests.{both, and-both, same-eq, same-self}
 use Rattle.shape.specs.Field.{Field}
 use Rattle.shape.specs.Time.{clockHours, timeFits}
@@ -20,32 +20,30 @@ use Rattle.aerodromes.proofs.Aerodromes.{timed-four, timed-time, cut-aerodrome,
 use Rattle.other.specs.Field18.{field18}
 use Rattle.records.specs.Records.{fitAll}
 use Rattle.kinds.specs.declared.MessageType.{MessageType}
-use Rattle.kinds.specs.declared.MessageType.the-variants.{Fpl, Chg, Cnl, Dla, Dep, Arr, Rqp, Rqs, Spl}
-use Rattle.kinds.specs.Kinds.{formsOf, planForms, briefForms, entries}
+use Rattle.kinds.specs.declared.MessageType.the-variants.{Fpl}
+use Rattle.kinds.specs.declared.Role.{Role}
+use Rattle.kinds.specs.declared.Role.the-variants.{Files, Changes, Delays, Cancels, Departs, Arrives, Neither}
+use Rattle.kinds.specs.declared.Form.{Form}
+use Rattle.kinds.specs.declared.Form.the-variants.{Field22}
+use Rattle.kinds.specs.Kinds.{roleOf, formsOf, planForms, plan13, brief13, firstEntry}
+use Rattle.kinds.proofs.Roles.{formCode, form-one}
 use Rattle.forms.specs.Field22.{labels, labelOf, named as namedFields, fieldNamed, whichOf, fits22}
 use Rattle.forms.specs.Forms.{fieldOf}
 use Rattle.forms.proofs.Field22.{fitting}
 use Rattle.forms.proofs.Labels.{label-ranked, ranked-label}
 use Rattle.message.specs.Reading.{unexplainedIn}
 use Rattle.message.specs.Message.{fieldsOf}
-use Rattle.message.proofs.Valid.{Fitting, fitting-length}
+use Rattle.message.proofs.Valid.{Fitting}
 use Rattle.force.specs.InForce.{lookup, namedBy, fieldsFrom}
-use Rattle.strip.specs.Updating.{plan, said, amended}
+use Rattle.force.proofs.Laws.{fields-are}
+use Rattle.strip.specs.Updating.{amended}
 use Rattle.history.specs.History.{Part, placeFor, numberFor, within, planIn, nine, Told, named, givenBy, withTold}
 use Rattle.history.specs.History.Part.{heading, identification, rules, aircraft, equipment, aerodrome, offBlock, route, destination, other}
 
 -- A LIST OF FIELDS BY THEIR PLACES
 
-from-shift : (g : ℕ → Word) (j n : ℕ) → fieldsFrom (λ k. g (suc k)) j n ≡ fieldsFrom g (suc j) n
-from-shift g j zero = refl
-from-shift g j (suc n) = ap (λ (ws : List Word). g (suc j) ∷ ws) (from-shift g (suc j) n)
-
-from-places : (cs : List Word) → cs ≡ fieldsFrom (λ k. getD cs k []) 0 (length cs)
-from-places [] = refl
-from-places (c ∷ cs) = ap (λ (ws : List Word). c ∷ ws) (from-places cs ∙ from-shift (λ k. getD (c ∷ cs) k []) 0 (length cs))
-
 pub nine-places : (cs : List Word) → length cs ≡ 9 → cs ≡ fieldsFrom (λ k. getD cs k []) 0 9
-nine-places cs e = from-places cs ∙ ap (fieldsFrom (λ k. getD cs k []) 0) e
+nine-places cs e = sym (fields-are cs 0 9 (sym e))
 
 pub fit-at : (d : Field) (fs : List Field) (cs : List Word) → fitAll fs cs ≡ true → (i : ℕ) → i < length fs → getD fs i d .fits (getD cs i []) ≡ true
 fit-at d [] cs e i l = absurd (omega arith)
@@ -63,13 +61,6 @@ fit-from d g (f ∷ fs) j h =
   where
     shifted : (i : ℕ) → getD fs i d .fits (g (j + suc i)) ≡ true → getD fs i d .fits (g (suc j + i)) ≡ true
     shifted i e = let z : j + suc i ≡ suc j + i = omega arith in subst (λ (k : ℕ). getD fs i d .fits (g k) ≡ true) z e
-
-fit-behind : (i : ℕ) (fs : List Field) (cs : List Word) → fitAll fs cs ≡ true → fitAll (drop i fs) (drop i cs) ≡ true
-fit-behind zero fs cs e = e
-fit-behind (suc i) [] [] e = refl
-fit-behind (suc i) [] (c ∷ cs) e = absurd (false≢true e)
-fit-behind (suc i) (f ∷ fs) [] e = absurd (false≢true e)
-fit-behind (suc i) (f ∷ fs) (c ∷ cs) e = fit-behind i fs cs (both (f .fits c) (fitAll fs cs) e .1)
 
 -- THE NINE FIELDS OF AN FPL: field 3, and those that an entry can name
 
@@ -97,20 +88,17 @@ nine-fit cs f g h q u =
       explains = eq-eqb (unexplainedIn (fieldsFrom g 0 9)) 0 u;
     }
 
--- ENTRIES
+-- ENTRIES: a list of forms that are all entries
 
-entries-fit : (k : ℕ) (es : List Word) → fitAll (map fieldOf (entries k)) es ≡ true → all fits22 es ≡ true
-entries-fit zero [] e = refl
-entries-fit zero (w ∷ es) e = absurd (false≢true e)
-entries-fit (suc k) [] e = refl
-entries-fit (suc k) (w ∷ es) e =
-    let h = both (fits22 w) (fitAll (map fieldOf (entries k)) es) e in
-    and-both (fits22 w) (all fits22 es) (h .0) (entries-fit k es (h .1))
-
--- behind a CHG's first five fields
-pub change-entries : (n : ℕ) (ds : List Word) → Fitting Chg n ds → all fits22 (drop 5 ds) ≡ true
-unfolding formsOf briefForms
-change-entries n ds f = entries-fit (n - 5) (drop 5 ds) (fit-behind 5 (fieldsOf Chg n) ds (f .fit))
+pub entries-fit : (fs : List Form) (es : List Word) → all (λ f. eqb (formCode f) (formCode Field22)) fs ≡ true → fitAll (map fieldOf fs) es ≡ true
+    → all fits22 es ≡ true
+entries-fit [] [] k e = refl
+entries-fit [] (w ∷ es) k e = absurd (false≢true e)
+entries-fit (f ∷ fs) [] k e = refl
+entries-fit (f ∷ fs) (w ∷ es) k e =
+    let j = both (eqb (formCode f) (formCode Field22)) (all (λ f. eqb (formCode f) (formCode Field22)) fs) k in
+    let h = both (fieldOf f .fits w) (fitAll (map fieldOf fs) es) e in
+    and-both (fits22 w) (all fits22 es) (ap (λ (g : Form). fieldOf g .fits w) (sym (form-one f Field22 (j .0))) ∙ h .0) (entries-fit fs es (j .1) (h .1))
 
 -- an entry's content fits the field that it names
 lookup-fits : (k : ℕ) (es : List Word) → all fits22 es ≡ true → (w : Word) → lookup k es ≡ some w → fieldNamed k .fits w ≡ true
@@ -201,29 +189,24 @@ module _ (a b : Word) (p : fits13 a ≡ true) (q : fits13 b ≡ true) where
 
 -- THE FIELDS AFTER A MESSAGE of contents ds, by their places
 
-abbrev after : MessageType → List Word → List Word → ℕ → Word
-after Chg cs ds k = Option·getD (cond (eqb k 0) none (lookup k (drop 5 ds))) (getD cs k [])
-after Dla cs ds k = cond (eqb k 5) (take 4 (getD cs 5 []) ++ drop 4 (getD ds 2 [])) (getD cs k [])
-after Cnl cs ds k = getD cs k []
-after Dep cs ds k = getD cs k []
-after Arr cs ds k = getD cs k []
-after Fpl cs ds k = getD cs k []
-after Rqp cs ds k = getD cs k []
-after Rqs cs ds k = getD cs k []
-after Spl cs ds k = getD cs k []
+abbrev after : Role → List Word → List Word → ℕ → Word
+after Changes cs ds k = Option·getD (cond (eqb k 0) none (lookup k (drop firstEntry ds))) (getD cs k [])
+after Delays cs ds k = cond (eqb k 5) (take 4 (getD cs plan13 []) ++ drop 4 (getD ds brief13 [])) (getD cs k [])
+after Cancels cs ds k = getD cs k []
+after Departs cs ds k = getD cs k []
+after Arrives cs ds k = getD cs k []
+after Files cs ds k = getD cs k []
+after Neither cs ds k = getD cs k []
 
-amended-after : (t : MessageType) (strip m : List ℕ) → length (plan strip) ≡ 9 → amended t strip m ≡ fieldsFrom (after t (plan strip) (said t m)) 0 9
+amended-after : (role : Role) (plan text : List ℕ) → amended role plan text ≡ fieldsFrom (after role (split 45 plan) (split 45 text)) 0 9
 unfolding namedBy
-amended-after Chg strip m e = refl
-amended-after Dla strip m e =
-    ap (λ (cs : List Word). set cs 5 (take 4 (getD (plan strip) 5 []) ++ drop 4 (getD (said Dla m) 2 []))) (nine-places (plan strip) e)
-amended-after Cnl strip m e = nine-places (plan strip) e
-amended-after Dep strip m e = nine-places (plan strip) e
-amended-after Arr strip m e = nine-places (plan strip) e
-amended-after Fpl strip m e = nine-places (plan strip) e
-amended-after Rqp strip m e = nine-places (plan strip) e
-amended-after Rqs strip m e = nine-places (plan strip) e
-amended-after Spl strip m e = nine-places (plan strip) e
+amended-after Changes plan text = refl
+amended-after Delays plan text = refl
+amended-after Cancels plan text = refl
+amended-after Departs plan text = refl
+amended-after Arrives plan text = refl
+amended-after Files plan text = refl
+amended-after Neither plan text = refl
 
 nine-parts : (g : ℕ → Word) → nine (λ f. within f (g (placeFor f))) ≡ fieldsFrom g 0 9
 nine-parts g = ap (λ (w : Word). g 0 ∷ g 1 ∷ g 2 ∷ g 3 ∷ g 4 ∷ w ∷ g 6 ∷ g 7 ∷ g 8 ∷ []) (take-append-drop 4 (g 5))
@@ -245,100 +228,97 @@ pub nine-plan : (cs : List Word) → length cs ≡ 9 → nine (planIn cs) ≡ cs
 nine-plan cs e = nine-parts (λ k. getD cs k []) ∙ sym (nine-places cs e)
 
 -- what is asked of the message's contents
-pub record Sayings (t : MessageType) (ds : List Word) : Type 0 where
-  pub entries-right : t ≡ Chg → all fits22 (drop 5 ds) ≡ true
-  pub time-right : t ≡ Dla → fits13 (getD ds 2 []) ≡ true
+pub record Sayings (role : Role) (ds : List Word) : Type 0 where
+  pub entries-right : role ≡ Changes → all fits22 (drop firstEntry ds) ≡ true
+  pub time-right : role ≡ Delays → fits13 (getD ds brief13 []) ≡ true
 
 module _ (cs ds : List Word) (f : Fitting Fpl 9 cs) where
-  thirteen : fits13 (getD cs 5 []) ≡ true
-  thirteen = plan-fit cs f 5 (omega arith)
+  thirteen : fits13 (getD cs plan13 []) ≡ true
+  thirteen = plan-fit cs f plan13 (omega arith)
 
-  part-after : (t : MessageType) → Sayings t ds → (p : Part) → within p (after t cs ds (placeFor p)) ≡ Option·getD (givenBy t ds p) (planIn cs p)
-  part-after Chg s p = changed-part p (drop 5 ds) (s .entries-right refl) (getD cs (placeFor p) [])
-  part-after Dla s heading = refl
-  part-after Dla s identification = refl
-  part-after Dla s rules = refl
-  part-after Dla s aircraft = refl
-  part-after Dla s equipment = refl
-  part-after Dla s aerodrome = retimed-aerodrome (getD cs 5 []) (getD ds 2 []) thirteen (s .time-right refl)
-  part-after Dla s offBlock = retimed-time (getD cs 5 []) (getD ds 2 []) thirteen (s .time-right refl)
-  part-after Dla s route = refl
-  part-after Dla s destination = refl
-  part-after Dla s other = refl
-  part-after Cnl s p = refl
-  part-after Dep s p = refl
-  part-after Arr s p = refl
-  part-after Fpl s p = refl
-  part-after Rqp s p = refl
-  part-after Rqs s p = refl
-  part-after Spl s p = refl
+  part-after : (role : Role) → Sayings role ds → (p : Part) → within p (after role cs ds (placeFor p)) ≡ Option·getD (givenBy role ds p) (planIn cs p)
+  part-after Changes s p = changed-part p (drop firstEntry ds) (s .entries-right refl) (getD cs (placeFor p) [])
+  part-after Delays s heading = refl
+  part-after Delays s identification = refl
+  part-after Delays s rules = refl
+  part-after Delays s aircraft = refl
+  part-after Delays s equipment = refl
+  part-after Delays s aerodrome = retimed-aerodrome (getD cs plan13 []) (getD ds brief13 []) thirteen (s .time-right refl)
+  part-after Delays s offBlock = retimed-time (getD cs plan13 []) (getD ds brief13 []) thirteen (s .time-right refl)
+  part-after Delays s route = refl
+  part-after Delays s destination = refl
+  part-after Delays s other = refl
+  part-after Cancels s p = refl
+  part-after Departs s p = refl
+  part-after Arrives s p = refl
+  part-after Files s p = refl
+  part-after Neither s p = refl
 
-  changed-fit : all fits22 (drop 5 ds) ≡ true → (i : ℕ) → i < 9 → getD planFields i field18 .fits (after Chg cs ds i) ≡ true
+  changed-fit : all fits22 (drop firstEntry ds) ≡ true → (i : ℕ) → i < 9 → getD planFields i field18 .fits (after Changes cs ds i) ≡ true
   changed-fit a zero l = plan-fit cs f 0 l
   changed-fit a (suc i) l =
-      ap (λ (b : Bool). getD planFields (suc i) field18 .fits (Option·getD (cond b none (lookup (suc i) (drop 5 ds))) (getD cs (suc i) [])))
+      ap (λ (b : Bool). getD planFields (suc i) field18 .fits (Option·getD (cond b none (lookup (suc i) (drop firstEntry ds))) (getD cs (suc i) [])))
       (ne-eqb (suc i) 0 (λ z. omega arith))
-      ∙ go (lookup (suc i) (drop 5 ds)) refl
+      ∙ go (lookup (suc i) (drop firstEntry ds)) refl
     where
-      go : (o : Option Word) → lookup (suc i) (drop 5 ds) ≡ o → getD planFields (suc i) field18 .fits (Option·getD o (getD cs (suc i) [])) ≡ true
+      go : (o : Option Word) → lookup (suc i) (drop firstEntry ds) ≡ o → getD planFields (suc i) field18 .fits (Option·getD o (getD cs (suc i) [])) ≡ true
       go none q = plan-fit cs f (suc i) l
       go (some w) q =
           let z : suc i - 1 ≡ i = omega arith in
-          subst (λ (k : ℕ). getD namedFields k field18 .fits w ≡ true) z (lookup-fits (suc i) (drop 5 ds) a w q)
+          subst (λ (k : ℕ). getD namedFields k field18 .fits w ≡ true) z (lookup-fits (suc i) (drop firstEntry ds) a w q)
 
-  delayed-fit : fits13 (getD ds 2 []) ≡ true → (i : ℕ) → i < 9 → getD planFields i field18 .fits (after Dla cs ds i) ≡ true
+  delayed-fit : fits13 (getD ds brief13 []) ≡ true → (i : ℕ) → i < 9 → getD planFields i field18 .fits (after Delays cs ds i) ≡ true
   delayed-fit a i l = go (eqb i 5) refl
     where
       w : Word
-      w = take 4 (getD cs 5 []) ++ drop 4 (getD ds 2 [])
+      w = take 4 (getD cs plan13 []) ++ drop 4 (getD ds brief13 [])
 
       go : (b : Bool) → eqb i 5 ≡ b → getD planFields i field18 .fits (cond b w (getD cs i [])) ≡ true
-      go true q = subst (λ (k : ℕ). getD planFields k field18 .fits w ≡ true) (sym (eqb-true i 5 q)) (retimed-fits (getD cs 5 []) (getD ds 2 []) thirteen a)
+      go true q = subst (λ (k : ℕ). getD planFields k field18 .fits w ≡ true) (sym (eqb-true i 5 q)) (retimed-fits (getD cs plan13 []) (getD ds brief13 []) thirteen a)
       go false q = plan-fit cs f i l
 
-  after-fit : (t : MessageType) → Sayings t ds → (i : ℕ) → i < 9 → getD planFields i field18 .fits (after t cs ds i) ≡ true
-  after-fit Chg s i l = changed-fit (s .entries-right refl) i l
-  after-fit Dla s i l = delayed-fit (s .time-right refl) i l
-  after-fit Cnl s i l = plan-fit cs f i l
-  after-fit Dep s i l = plan-fit cs f i l
-  after-fit Arr s i l = plan-fit cs f i l
-  after-fit Fpl s i l = plan-fit cs f i l
-  after-fit Rqp s i l = plan-fit cs f i l
-  after-fit Rqs s i l = plan-fit cs f i l
-  after-fit Spl s i l = plan-fit cs f i l
+  after-fit : (role : Role) → Sayings role ds → (i : ℕ) → i < 9 → getD planFields i field18 .fits (after role cs ds i) ≡ true
+  after-fit Changes s i l = changed-fit (s .entries-right refl) i l
+  after-fit Delays s i l = delayed-fit (s .time-right refl) i l
+  after-fit Cancels s i l = plan-fit cs f i l
+  after-fit Departs s i l = plan-fit cs f i l
+  after-fit Arrives s i l = plan-fit cs f i l
+  after-fit Files s i l = plan-fit cs f i l
+  after-fit Neither s i l = plan-fit cs f i l
 
-  after-first : (t : MessageType) → after t cs ds 0 ≡ getD cs 0 []
-  after-first Chg = refl
-  after-first Dla = refl
-  after-first Cnl = refl
-  after-first Dep = refl
-  after-first Arr = refl
-  after-first Fpl = refl
-  after-first Rqp = refl
-  after-first Rqs = refl
-  after-first Spl = refl
+  after-first : (role : Role) → after role cs ds 0 ≡ getD cs 0 []
+  after-first Changes = refl
+  after-first Delays = refl
+  after-first Cancels = refl
+  after-first Departs = refl
+  after-first Arrives = refl
+  after-first Files = refl
+  after-first Neither = refl
 
-  module _ (t : MessageType) (s : Sayings t ds) where
+  module _ (t : MessageType) (s : Sayings (roleOf t) ds) where
+    abbrev role-told : Role
+    role-told = roleOf t
+
     abbrev said-to : Told
     said-to = record { type = t; fields = ds }
 
-    after-nine : fieldsFrom (after t cs ds) 0 9 ≡ nine (withTold (planIn cs) said-to)
-    after-nine = sym (nine-parts (after t cs ds)) ∙ ap nine (fun-ext (λ p. part-after t s p))
+    after-nine : fieldsFrom (after role-told cs ds) 0 9 ≡ nine (withTold (planIn cs) said-to)
+    after-nine = sym (nine-parts (after role-told cs ds)) ∙ ap nine (fun-ext (λ p. part-after role-told s p))
 
     -- the contents of the amended plan fit
     pub amended-fits : unexplainedIn (nine (withTold (planIn cs) said-to)) ≡ 0 → Fitting Fpl 9 (nine (withTold (planIn cs) said-to))
     amended-fits u =
         subst (Fitting Fpl 9) after-nine
-        (nine-fit cs f (after t cs ds) (after-fit t s) (after-first t) (ap unexplainedIn after-nine ∙ u))
+        (nine-fit cs f (after role-told cs ds) (after-fit role-told s) (after-first role-told) (ap unexplainedIn after-nine ∙ u))
 
     -- and they are what the update makes
-    pub amended-nine : (strip m : List ℕ) → plan strip ≡ cs → said t m ≡ ds → amended t strip m ≡ nine (withTold (planIn cs) said-to)
-    amended-nine strip m p q =
-        amended-after t strip m (ap length p ∙ fitting-length Fpl 9 cs f)
-        ∙ ap₂ (λ (x y : List Word). fieldsFrom (after t x y) 0 9) p q
+    pub amended-nine : (plan text : List ℕ) → split 45 plan ≡ cs → split 45 text ≡ ds → amended role-told plan text ≡ nine (withTold (planIn cs) said-to)
+    amended-nine plan text p q =
+        amended-after role-told plan text
+        ∙ ap₂ (λ (x y : List Word). fieldsFrom (after role-told x y) 0 9) p q
         ∙ after-nine
 
     -- a part of the amended plan is cut from its contents
     pub amended-part : (p : Part) → planIn (nine (withTold (planIn cs) said-to)) p ≡ withTold (planIn cs) said-to p
     amended-part p =
-        ap (λ (ws : List Word). planIn ws p) (sym after-nine) ∙ ap (within p) (place-after (after t cs ds) p) ∙ part-after t s p
+        ap (λ (ws : List Word). planIn ws p) (sym after-nine) ∙ ap (within p) (place-after (after role-told cs ds) p) ∙ part-after role-told s p

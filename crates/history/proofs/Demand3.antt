@@ -12,6 +12,7 @@ use Rattle.text.specs.Words.{Word}
 use Rattle.text.specs.Lent.{front}
 use Rattle.sent.specs.Sent.{messageOf, contents}
 use Rattle.kinds.specs.declared.MessageType.the-variants.{Fpl}
+use Rattle.kinds.specs.Kinds.{roleOf}
 use Rattle.message.specs.declared.Answer.{Answer}
 use Rattle.message.specs.declared.Answer.the-variants.{Accepted as ReadAs}
 use Rattle.message.specs.Reading.{countOf, answerOf, unexplainedIn}
@@ -22,12 +23,12 @@ use Rattle.state.specs.declared.State.{State}
 use Rattle.state.specs.declared.State.the-variants.{Filed}
 use Rattle.state.specs.declared.Departure.the-variants.{Unknown}
 use Rattle.state.specs.declared.Strip.{Strip}
-use Rattle.state.specs.State.{sound, nextOf}
+use Rattle.state.specs.State.{justFiled, sound, nextState}
 use Rattle.state.proofs.Laws.{next-sound}
 use Rattle.strip.specs.declared.Updated.{Updated}
 use Rattle.strip.specs.declared.Updated.the-variants.{Accepted, Refused}
-use Rattle.strip.specs.Updating.{typeRead, newStrip, writtenAs, updateOf, outAfter}
-use Rattle.history.specs.History.{Part, Plan, planIn, nine, spelled, Told, given, withTold, departs, becomes, planBy, departureBy, stateBy}
+use Rattle.strip.specs.Updating.{newStrip, typeRead, stripAfter, writtenAs, updateOf, outAfter}
+use Rattle.history.specs.History.{Part, Plan, planIn, nine, spelled, Told, given, withTold, departs, becomes, Left, planBy, departureBy, stateBy}
 use Rattle.history.specs.Demand3.{updater, Board, Offer, told, putAs, enteredAs, answered, offered, offeredAll, logAll}
 use Rattle.history.specs.Demand3.{Proper, allowed, planOn, amendedOn, Cause, Demand3, filedAs, Meets}
 use Rattle.history.specs.Demand3.Cause.{not-proper, not-read, not-fit, no-type, another-flight, not-allowed, unexplained, too-long, no-room}
@@ -38,7 +39,7 @@ use Rattle.history.proofs.Latest.{latest-left, state-moved}
 
 -- AN ACCEPTED MESSAGE
 
-module _ (strip : List ℕ) (s : State) (m : List ℕ) (room : ℕ) (held : Strip) (n : ℕ) (k : Took strip s m room held n) where
+module _ (strip : List ℕ) (s : Strip) (m : List ℕ) (room : ℕ) (held : Strip) (n : ℕ) (k : Took strip s m room held n) where
   fits : Fitting (k .passes .type) (countOf m) (contents m)
   fits = read-fitting strip s m room (k .passes .proper) (k .passes .type) (k .passes .long) (k .passes .read)
 
@@ -62,22 +63,24 @@ module _ (strip : List ℕ) (s : State) (m : List ℕ) (room : ℕ) (held : Stri
       ∙ sym (ap (λ (p : Plan). p f) e)
 
   -- the state is sound
-  took-sound : sound (held .state) ≡ true
+  took-sound : sound held ≡ true
   took-sound =
       ap sound (k .moved)
-      ∙ next-sound s (event (k .passes .type) (contents m)) (k .passes .proper .state-sound) (event-sound (k .passes .type) (countOf m) (contents m) fits)
+      ∙ next-sound s (event (roleOf (k .passes .type)) (contents m)) (k .passes .proper .held-sound)
+      (event-sound (k .passes .type) (countOf m) (contents m) fits (roleOf (k .passes .type)) refl)
 
   -- an accepted update leaves a canonical accepted FPL and a sound state
-  pub took-proper : Proper (spelled (amendedOn strip m)) (held .state)
-  took-proper = strip-proper (nine (amendedOn strip m)) took-fits (k .short) (held .state) took-sound
+  pub took-proper : Proper (spelled (amendedOn strip m)) held
+  took-proper = strip-proper (nine (amendedOn strip m)) took-fits (k .short) held took-sound
 
   -- whose plan is the amended one
   pub took-plan : (f : Part) → planOn (spelled (amendedOn strip m)) f ≡ amendedOn strip m f
   took-plan f = ap (λ (cs : List Word). planIn cs f) (strip-contents (nine (amendedOn strip m)) took-fits) ∙ took-part f
 
-  took-new : newStrip (typeRead (answerOf m 1800)) strip m ≡ spelled (amendedOn strip m)
+  took-new : stripAfter (typeRead (answerOf m 1800)) strip m ≡ spelled (amendedOn strip m)
+  unfolding newStrip
   took-new =
-      ap (λ (r : Answer). newStrip (typeRead r) strip m) (k .passes .read)
+      ap (λ (r : Answer). stripAfter (typeRead r) strip m) (k .passes .read)
       ∙ ap messageOf (amended-on strip s m room (k .passes .proper) (k .passes .type) (k .passes .long) (k .passes .read) (k .passes .fit))
 
   -- and it is written: as many bytes as the answer says
@@ -102,14 +105,14 @@ module _ (strip : List ℕ) (s : State) (m : List ℕ) (room : ℕ) (held : Stri
 -- WHAT STANDS BY A LOG
 
 pub record Stands (filed : Plan) (b : Board) (log : List Told) : Type 0 where
-  pub proper : Proper (b .strip) (b .state)
+  pub proper : Proper (b .strip) (b .held)
   pub plan-is : (f : Part) → planOn (b .strip) f ≡ planBy filed log f
-  pub state-is : b .state ≡ stateBy log
+  pub state-is : b .held .state ≡ stateBy log
 
 -- the strip is the spelling of the history's plan
 pub stands-spelled : (filed : Plan) (b : Board) (log : List Told) → Stands filed b log → b .strip ≡ spelled (planBy filed log)
 stands-spelled filed b log k =
-    let p = proper-stripped (b .strip) (b .state) (k .proper) in
+    let p = proper-stripped (b .strip) (b .held) (k .proper) in
     p .spelt
     ∙ ap messageOf (sym (nine-plan (contents (b .strip)) (fitting-length Fpl 9 (contents (b .strip)) (p .fits))))
     ∙ ap spelled (fun-ext (λ f. k .plan-is f))
@@ -117,31 +120,31 @@ stands-spelled filed b log k =
 module _ (filed : Plan) where
   -- one accepted message more
   took-stands : (b : Board) (log : List Told) (m : List ℕ) (room : ℕ) (held : Strip) (n : ℕ) (w : List ℕ) → Stands filed b log
-      → (k : Took (b .strip) (b .state) m room held n) → w ≡ spelled (amendedOn (b .strip) m)
-      → Stands filed (record { strip = w; state = held .state }) (told m ∷ log)
+      → (k : Took (b .strip) (b .held) m room held n) → w ≡ spelled (amendedOn (b .strip) m)
+      → Stands filed (record { strip = w; held = held }) (told m ∷ log)
   took-stands b log m room held n w h k e =
       record {
-        proper = subst (λ (x : List ℕ). Proper x (held .state)) (sym e) (took-proper (b .strip) (b .state) m room held n k);
+        proper = subst (λ (x : List ℕ). Proper x held) (sym e) (took-proper (b .strip) (b .held) m room held n k);
         plan-is = λ f.
             ap (λ (x : List ℕ). planOn x f) e
-            ∙ took-plan (b .strip) (b .state) m room held n k f
+            ∙ took-plan (b .strip) (b .held) m room held n k f
             ∙ ap (λ (v : List ℕ). Option·getD (given f (told m)) v) (h .plan-is f);
         state-is =
-            k .moved
-            ∙ ap (λ (x : State). nextOf x (event (k .passes .type) (contents m))) (h .state-is)
+            ap (λ (x : Strip). x .state) (k .moved)
+            ∙ ap (λ (x : State). nextState x (event (roleOf (k .passes .type)) (contents m))) (h .state-is)
             ∙ state-moved log (k .passes .type) (contents m) (ap (λ (x : State). allowed x (k .passes .type)) (sym (h .state-is)) ∙ k .passes .permits)
-            ∙ ap (λ (x : Told). stateBy (x ∷ log)) (sym (heard (b .strip) (b .state) m room held n k));
+            ∙ ap (λ (x : Told). stateBy (x ∷ log)) (sym (heard (b .strip) (b .held) m room held n k));
       }
 
   -- one offer more
-  stepped : (b : Board) (log : List Told) (o : Offer) → Stands filed b log → (u : Updated) → updateOf (b .strip) (b .state) (o .bytes) (length (o .lent)) ≡ u
-      → Stands filed (putAs u (outAfter (b .strip) (b .state) (o .bytes) (o .lent)) b) (enteredAs u (o .bytes) log)
+  stepped : (b : Board) (log : List Told) (o : Offer) → Stands filed b log → (u : Updated) → updateOf (b .strip) (b .held) (o .bytes) (length (o .lent)) ≡ u
+      → Stands filed (putAs u (outAfter (b .strip) (b .held) (o .bytes) (o .lent)) b) (enteredAs u (o .bytes) log)
   stepped b log o h (Accepted held n) e =
       let room = length (o .lent) in
-      let k : Took (b .strip) (b .state) (o .bytes) room held n
-      = subst (Verdict (b .strip) (b .state) (o .bytes) room) e (verdict (b .strip) (b .state) (o .bytes) room) in
-      took-stands b log (o .bytes) room held n (take n (outAfter (b .strip) (b .state) (o .bytes) (o .lent))) h k
-      (took-written (b .strip) (b .state) (o .bytes) room held n k (o .lent) e)
+      let k : Took (b .strip) (b .held) (o .bytes) room held n
+      = subst (Verdict (b .strip) (b .held) (o .bytes) room) e (verdict (b .strip) (b .held) (o .bytes) room) in
+      took-stands b log (o .bytes) room held n (take n (outAfter (b .strip) (b .held) (o .bytes) (o .lent))) h k
+      (took-written (b .strip) (b .held) (o .bytes) room held n k (o .lent) e)
   stepped b log o h (Refused number field place) e = h
 
   -- after any run the strip is the history's
@@ -160,7 +163,7 @@ filed-stands m room n e =
     let short : length (messageOf (contents m)) ≤ 1800
     = omega (arith, ap length spelt, k .long, accepted-shorter m room Fpl n e, reached-passed Fpl m (k .reached) .short) in
     record {
-      proper = subst (λ (w : List ℕ). Proper w Filed) (sym spelt) (strip-proper (contents m) f short Filed refl);
+      proper = subst (λ (w : List ℕ). Proper w justFiled) (sym spelt) (strip-proper (contents m) f short justFiled refl);
       plan-is = λ p. ap (λ (w : List ℕ). planOn w p) spelt ∙ ap (λ (cs : List Word). planIn cs p) (strip-contents (contents m) f);
       state-is = refl;
     }
@@ -168,7 +171,7 @@ filed-stands m room n e =
 -- THE THIRD DEMAND
 
 -- a refusal leaves the output
-pub refused-stays : (strip : List ℕ) (s : State) (m out : List ℕ) (number field place : ℕ) → updateOf strip s m (length out) ≡ Refused number field place
+pub refused-stays : (strip : List ℕ) (s : Strip) (m out : List ℕ) (number field place : ℕ) → updateOf strip s m (length out) ≡ Refused number field place
     → outAfter strip s m out ≡ out
 unfolding outAfter
 refused-stays strip s m out number field place e = ap (λ (u : Updated). writtenAs u strip m out) e
@@ -183,26 +186,23 @@ demand3 m room n e run =
     record {
       plan = planBy filed log;
       departure = departureBy log;
-      state = stateBy log;
+      held = b .held;
       strip-is = spelt;
-      state-is = h .state-is;
-      stays-proper =
-          subst (λ (w : List ℕ). Proper w (stateBy log)) spelt (subst (λ (x : State). Proper (b .strip) x) (h .state-is) (h .proper));
+      held-is = refl;
+      stays-proper = subst (λ (w : List ℕ). Proper w (b .held)) spelt (h .proper);
       parts = λ f. latest-left (given f) (filed f) log;
       departed = latest-left departs Unknown log;
-      stated = latest-left (becomes (departureBy log)) Filed log;
+      stated = subst (Left (becomes (departureBy log)) Filed log) (sym (h .state-is)) (latest-left (becomes (departureBy log)) Filed log);
       refused-cause = λ o number field place q.
-          subst (λ (w : List ℕ). Cause w (stateBy log) (o .bytes) (length (o .lent)) number field place) spelt
-          (subst (λ (x : State). Cause (b .strip) x (o .bytes) (length (o .lent)) number field place) (h .state-is)
-          (refused-cause (b .strip) (b .state) (o .bytes) (length (o .lent)) number field place q));
+          subst (λ (w : List ℕ). Cause w (b .held) (o .bytes) (length (o .lent)) number field place) spelt
+          (refused-cause (b .strip) (b .held) (o .bytes) (length (o .lent)) number field place q);
       cause-refused = λ o number field place c.
-          cause-refused (b .strip) (b .state) (o .bytes) (length (o .lent)) number field place
-          (subst (λ (w : List ℕ). Cause w (b .state) (o .bytes) (length (o .lent)) number field place) (sym spelt)
-          (subst (λ (x : State). Cause (spelled (planBy filed log)) x (o .bytes) (length (o .lent)) number field place) (sym (h .state-is)) c));
-      unchanged = λ o number field place q. refused-stays (b .strip) (b .state) (o .bytes) (o .lent) number field place q;
+          cause-refused (b .strip) (b .held) (o .bytes) (length (o .lent)) number field place
+          (subst (λ (w : List ℕ). Cause w (b .held) (o .bytes) (length (o .lent)) number field place) (sym spelt) c);
+      unchanged = λ o number field place q. refused-stays (b .strip) (b .held) (o .bytes) (o .lent) number field place q;
       behind-stays = λ o held k q.
-          took-behind (b .strip) (b .state) (o .bytes) (length (o .lent)) held k
-          (subst (Verdict (b .strip) (b .state) (o .bytes) (length (o .lent))) q (verdict (b .strip) (b .state) (o .bytes) (length (o .lent))))
+          took-behind (b .strip) (b .held) (o .bytes) (length (o .lent)) held k
+          (subst (Verdict (b .strip) (b .held) (o .bytes) (length (o .lent))) q (verdict (b .strip) (b .held) (o .bytes) (length (o .lent))))
           (o .lent) q;
     }
 
@@ -214,7 +214,7 @@ never-fifteen m room n e run o field place q = go (d .refused-cause o 15 field p
     d : Demand3 updater (contents m) (filedAs m) run
     d = demand3 m room n e run
 
-    go : {number f p : ℕ} → Cause (spelled (d .plan)) (d .state) (o .bytes) (length (o .lent)) number f p → number ≡ 15 → ⊥
+    go : {number f p : ℕ} → Cause (spelled (d .plan)) (d .held) (o .bytes) (length (o .lent)) number f p → number ≡ 15 → ⊥
     go (not-proper h) z = h (d .stays-proper)
     go (not-read p x l) z = omega (arith, l, z)
     go (not-fit p x) z = omega (arith, z)

@@ -26,7 +26,7 @@ use Rattle.message.proofs.Reached.{Reached, reached-accepted, unexplainedAs}
 use Rattle.message.proofs.Valid.{reached-passed}
 use Rattle.message.proofs.Answers.{OuterNumber, outer-number, FaultNumber, fault-numbers}
 use Rattle.message.proofs.Canonical.{accepted-shorter}
-use Rattle.history.proofs.Strip.{is-plan}
+use Rattle.message.proofs.Plans.{plan-type}
 
 module _ (m : List ℕ) where
   abbrev Late : Answer → Type 0
@@ -51,7 +51,7 @@ module _ (m : List ℕ) where
   plan-only t e = go (isPlan t) refl
     where
       go : (b : Bool) → isPlan t ≡ b → t ≡ Fpl
-      go true p = is-plan t p
+      go true p = plan-type t p
       go false p =
           let z : unexplainedAs t m ≡ 0 = ap (λ (b : Bool). cond b (unexplainedIn (contents m)) 0) p in
           absurd (eqb-false (unexplainedAs t m) 0 e z)

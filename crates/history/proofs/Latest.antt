@@ -8,11 +8,13 @@ use Rattle.text.specs.Words.{Word}
 use Rattle.aerodromes.specs.Asked.{aerodromeIn}
 use Rattle.aerodromes.specs.Field17.{record17}
 use Rattle.kinds.specs.declared.MessageType.{MessageType}
-use Rattle.kinds.specs.declared.MessageType.the-variants.{Fpl, Chg, Cnl, Dla, Dep, Arr, Rqp, Rqs, Spl}
+use Rattle.kinds.specs.declared.Role.{Role}
+use Rattle.kinds.specs.declared.Role.the-variants.{Files, Changes, Delays, Cancels, Departs, Arrives, Neither}
+use Rattle.kinds.specs.Kinds.{roleOf}
 use Rattle.state.specs.declared.Departure.{Departure}
 use Rattle.state.specs.declared.State.{State}
 use Rattle.state.specs.declared.State.the-variants.{Filed, Arrived}
-use Rattle.state.specs.State.{nextOf, departureOf}
+use Rattle.state.specs.State.{nextState, departureOf}
 use Rattle.history.specs.History.{Told, landing, departsBy, becomesBy, becomes, Left, latest, departureBy, stateBy}
 use Rattle.history.specs.History.Left.{as-filed, by}
 use Rattle.history.specs.Demand3.{allowed}
@@ -39,41 +41,39 @@ module _ {A : Type 0} (says : Told → Option A) (first : A) where
 
 -- THE STATE
 
--- where an ARR is allowed, the state has the time of the last accepted DEP: one more message, and a log
-known-by : (t : MessageType) (ds : List Word) (d : Departure) (st : Departure → State) → (allowed (st d) Arr ≡ true → departureOf (st d) ≡ d)
-    → allowed (Option·getD (becomesBy (Option·getD (departsBy t ds) d) t ds) (st (Option·getD (departsBy t ds) d))) Arr ≡ true
-    → departureOf (Option·getD (becomesBy (Option·getD (departsBy t ds) d) t ds) (st (Option·getD (departsBy t ds) d))) ≡ Option·getD (departsBy t ds) d
-known-by Chg ds d st ih h = ih h
-known-by Dla ds d st ih h = ih h
-known-by Cnl ds d st ih h = absurd (false≢true h)
-known-by Dep ds d st ih h = refl
-known-by Arr ds d st ih h = absurd (false≢true h)
-known-by Fpl ds d st ih h = ih h
-known-by Rqp ds d st ih h = ih h
-known-by Rqs ds d st ih h = ih h
-known-by Spl ds d st ih h = ih h
+-- where a message is allowed, the state has the time of the last accepted DEP: one more message, and a log
+known-by : (t : MessageType) (role : Role) (ds : List Word) (d : Departure) (st : Departure → State) → (allowed (st d) t ≡ true → departureOf (st d) ≡ d)
+    → allowed (Option·getD (becomesBy (Option·getD (departsBy role ds) d) role ds) (st (Option·getD (departsBy role ds) d))) t ≡ true
+    → departureOf (Option·getD (becomesBy (Option·getD (departsBy role ds) d) role ds) (st (Option·getD (departsBy role ds) d)))
+    ≡ Option·getD (departsBy role ds) d
+known-by t Changes ds d st ih h = ih h
+known-by t Delays ds d st ih h = ih h
+known-by t Cancels ds d st ih h = absurd (false≢true h)
+known-by t Departs ds d st ih h = refl
+known-by t Arrives ds d st ih h = absurd (false≢true h)
+known-by t Files ds d st ih h = ih h
+known-by t Neither ds d st ih h = ih h
 
-known : (log : List Told) → allowed (stateBy log) Arr ≡ true → departureOf (stateBy log) ≡ departureBy log
-known [] h = refl
-known (m ∷ log) h = known-by (m .type) (m .fields) (departureBy log) (λ d. latest (becomes d) Filed log) (known log) h
+known : (t : MessageType) (log : List Told) → allowed (stateBy log) t ≡ true → departureOf (stateBy log) ≡ departureBy log
+known t [] h = refl
+known t (m ∷ log) h = known-by t (roleOf (m .type)) (m .fields) (departureBy log) (λ d. latest (becomes d) Filed log) (known t log) h
 
-moved-by : (t : MessageType) (ds : List Word) (d : Departure) (st : Departure → State) → (t ≡ Arr → departureOf (st d) ≡ d)
-    → nextOf (st d) (event t ds) ≡ Option·getD (becomesBy (Option·getD (departsBy t ds) d) t ds) (st (Option·getD (departsBy t ds) d))
-moved-by Chg ds d st k = refl
-moved-by Dla ds d st k = refl
-moved-by Cnl ds d st k = refl
-moved-by Dep ds d st k = refl
-moved-by Arr ds d st k = ap (λ (x : Departure). Arrived x (aerodromeIn (landing ds)) (record17 (landing ds) .time)) (k refl)
-moved-by Fpl ds d st k = refl
-moved-by Rqp ds d st k = refl
-moved-by Rqs ds d st k = refl
-moved-by Spl ds d st k = refl
+moved-by : (role : Role) (ds : List Word) (d : Departure) (st : Departure → State) → departureOf (st d) ≡ d
+    → nextState (st d) (event role ds) ≡ Option·getD (becomesBy (Option·getD (departsBy role ds) d) role ds) (st (Option·getD (departsBy role ds) d))
+moved-by Changes ds d st k = refl
+moved-by Delays ds d st k = refl
+moved-by Cancels ds d st k = refl
+moved-by Departs ds d st k = refl
+moved-by Arrives ds d st k = ap (λ (x : Departure). Arrived x (aerodromeIn (landing ds)) (record17 (landing ds) .time)) k
+moved-by Files ds d st k = refl
+moved-by Neither ds d st k = refl
 
 -- where a message that is allowed leaves the state is what the log has with it
 pub state-moved : (log : List Told) (t : MessageType) (ds : List Word) → allowed (stateBy log) t ≡ true
-    → nextOf (stateBy log) (event t ds) ≡ stateBy (record { type = t; fields = ds } ∷ log)
+    → nextState (stateBy log) (event (roleOf t) ds) ≡ stateBy (record { type = t; fields = ds } ∷ log)
 state-moved log t ds h =
-    moved-by t ds (departureBy log) (λ d. latest (becomes d) Filed log) (λ e. known log (ap (allowed (stateBy log)) (sym e) ∙ h))
+    moved-by (roleOf t) ds (departureBy log) (λ d. latest (becomes d) Filed log)
+    (known t log h)
 
 -- WHAT `Left` SAYS IS ONE VALUE
 

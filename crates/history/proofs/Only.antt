@@ -1,4 +1,4 @@
--- The third demand determines an updater's strips: any updater that meets it has, after every run, the strip and the state that the update has.
+-- The third demand determines an updater's strips: any updater that meets it has, after every run, the strip and the record that the update has.
 -- Assumes nothing.
 use Prim.Native.Nat.{ℕ}
 use mathlib.Core.Path.{_≡_, refl, sym, ap, ap₂, subst, _∙_}
@@ -13,10 +13,11 @@ use Rattle.state.specs.declared.Departure.{Departure}
 use Rattle.state.specs.declared.Departure.the-variants.{Unknown}
 use Rattle.state.specs.declared.State.{State}
 use Rattle.state.specs.declared.State.the-variants.{Filed}
+use Rattle.state.specs.declared.Strip.{Strip}
 use Rattle.strip.specs.declared.Updated.{Updated}
 use Rattle.strip.specs.declared.Updated.the-variants.{Accepted, Refused}
 use Rattle.strip.specs.Updating.{updateOf}
-use Rattle.history.specs.History.{planIn, spelled, Told, departs, becomes, latest, planBy, stateBy}
+use Rattle.history.specs.History.{planIn, spelled, Told, departs, becomes, latest, planBy, heldBy}
 use Rattle.history.specs.Demand3.{Updater, updater, Board, Offer, told, enteredAs, answered, offered, offeredAll, logAll, Cause, filedAs, Meets}
 use Rattle.history.proofs.Causes.{refused-cause}
 use Rattle.history.proofs.Latest.{left-latest}
@@ -35,12 +36,14 @@ none-more [] = refl
 none-more (x ∷ run) = ap (λ (r : List Offer). x ∷ r) (none-more run)
 
 module _ (m : List ℕ) (room n : ℕ) (e : answerOf m room ≡ ReadAs Fpl n) where
-  meets-state : (U : Updater) → Meets U → (run : List Offer) → offeredAll U (filedAs m) run .state ≡ stateBy (logAll U (filedAs m) [] run)
-  meets-state U h run =
+  meets-held : (U : Updater) → Meets U → (run : List Offer) → offeredAll U (filedAs m) run .held ≡ heldBy (logAll U (filedAs m) [] run)
+  meets-held U h run =
       let d = h m room n e run in
       let log = logAll U (filedAs m) [] run in
-      d .state-is ∙ left-latest (becomes (d .departure)) Filed log (d .state) (d .stated)
-      ∙ ap (λ (x : Departure). latest (becomes x) Filed log) (left-latest departs Unknown log (d .departure) (d .departed))
+      d .held-is
+      ∙ ap {B = Strip} (λ (x : State). record { state = x })
+      (left-latest (becomes (d .departure)) Filed log (d .held .state) (d .stated)
+      ∙ ap (λ (x : Departure). latest (becomes x) Filed log) (left-latest departs Unknown log (d .departure) (d .departed)))
 
   module _ (U : Updater) (h : Meets U) where
     abbrev SameLog : List Offer → Type 0
@@ -52,8 +55,8 @@ module _ (m : List ℕ) (room n : ℕ) (e : answerOf m room ≡ ReadAs Fpl n) wh
         ∙ ap (λ (log : List Told). spelled (planBy (planIn (contents m)) log)) q
         ∙ sym (meets-strip updater demand3 m room n e run)
 
-    same-state : (run : List Offer) → SameLog run → offeredAll U (filedAs m) run .state ≡ offeredAll updater (filedAs m) run .state
-    same-state run q = meets-state U h run ∙ ap stateBy q ∙ sym (meets-state updater demand3 run)
+    same-held : (run : List Offer) → SameLog run → offeredAll U (filedAs m) run .held ≡ offeredAll updater (filedAs m) run .held
+    same-held run q = meets-held U h run ∙ ap heldBy q ∙ sym (meets-held updater demand3 run)
 
     module _ (run : List Offer) (o : Offer) (q : SameLog run) where
       abbrev theirs : Board
@@ -62,17 +65,17 @@ module _ (m : List ℕ) (room n : ℕ) (e : answerOf m room ≡ ReadAs Fpl n) wh
       abbrev ours : Board
       ours = offeredAll updater (filedAs m) run
 
-      same-update : updateOf (theirs .strip) (theirs .state) (o .bytes) (length (o .lent)) ≡ updateOf (ours .strip) (ours .state) (o .bytes) (length (o .lent))
-      same-update = ap₂ (λ (w : List ℕ) (x : State). updateOf w x (o .bytes) (length (o .lent))) (same-strip run q) (same-state run q)
+      same-update : updateOf (theirs .strip) (theirs .held) (o .bytes) (length (o .lent)) ≡ updateOf (ours .strip) (ours .held) (o .bytes) (length (o .lent))
+      same-update = ap₂ (λ (w : List ℕ) (x : Strip). updateOf w x (o .bytes) (length (o .lent))) (same-strip run q) (same-held run q)
 
       -- it refuses what the update refuses
       also-refused : (number field place : ℕ) → answered updater ours o ≡ Refused number field place → answered U theirs o ≡ Refused number field place
       also-refused number field place r =
           let d = h m room n e run in
           d .cause-refused o number field place
-          (subst (λ (w : List ℕ). Cause w (d .state) (o .bytes) (length (o .lent)) number field place) (d .strip-is)
-          (subst (λ (x : State). Cause (theirs .strip) x (o .bytes) (length (o .lent)) number field place) (d .state-is)
-          (refused-cause (theirs .strip) (theirs .state) (o .bytes) (length (o .lent)) number field place (same-update ∙ r))))
+          (subst (λ (w : List ℕ). Cause w (d .held) (o .bytes) (length (o .lent)) number field place) (d .strip-is)
+          (subst (λ (x : Strip). Cause (theirs .strip) x (o .bytes) (length (o .lent)) number field place) (d .held-is)
+          (refused-cause (theirs .strip) (theirs .held) (o .bytes) (length (o .lent)) number field place (same-update ∙ r))))
 
       entered-same : (u v : Updated) → answered U theirs o ≡ u → answered updater ours o ≡ v
           → enteredAs u (o .bytes) (logAll U (filedAs m) [] run) ≡ enteredAs v (o .bytes) (logAll updater (filedAs m) [] run)
@@ -95,9 +98,9 @@ module _ (m : List ℕ) (room n : ℕ) (e : answerOf m room ≡ ReadAs Fpl n) wh
     pub same-log : (run : List Offer) → SameLog run
     same-log run = same-from run [] refl
 
-    -- after every run: the same strip, the same state
+    -- after every run: the same strip, the same record
     pub only-one : (run : List Offer) → offeredAll U (filedAs m) run ≡ offeredAll updater (filedAs m) run
-    only-one run = λ i. record { strip = same-strip run (same-log run) i; state = same-state run (same-log run) i }
+    only-one run = λ i. record { strip = same-strip run (same-log run) i; held = same-held run (same-log run) i }
 
     -- and the same refusals
     pub only-refusals : (run : List Offer) (o : Offer) (number field place : ℕ)

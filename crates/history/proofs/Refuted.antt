@@ -11,11 +11,12 @@ use Rattle.sent.specs.Sent.{contents}
 use Rattle.kinds.specs.declared.MessageType.the-variants.{Fpl}
 use Rattle.message.specs.declared.Answer.the-variants.{Accepted as ReadAs}
 use Rattle.message.specs.Reading.{spellingOf, faultIn, countAs, answerOf}
-use Rattle.state.specs.declared.State.{State}
-use Rattle.state.specs.declared.State.the-variants.{Filed}
+use Rattle.state.specs.declared.Strip.{Strip}
+use Rattle.state.specs.State.{justFiled}
+use Rattle.opening.specs.Opening.{canonicalPlan, openingOf}
 use Rattle.strip.specs.declared.Updated.{Updated}
 use Rattle.strip.specs.declared.Updated.the-variants.{Accepted, Refused}
-use Rattle.strip.specs.Updating.{canonicalPlan, updateOf, outAfter}
+use Rattle.strip.specs.Updating.{newStrip, offeredAs, updateOf, outAfter}
 use Rattle.history.specs.History.{planIn, spelled, given, planBy}
 use Rattle.history.specs.Demand3.{Updater, Offer, offeredAll, logAll, answered, Cause, filedAs, Meets}
 use Rattle.history.specs.Slips.{refusesAll, doesNothing, copies, firstEntry, firstMessage, matchesAfter, depOverwrites, searches}
@@ -57,13 +58,13 @@ module _ (U : Updater) (h : Meets U) (m : List ℕ) (room n : ℕ) (e : answerOf
 
   -- and it refuses only what the update refuses
   pub meets-refused : (o : Offer) (number field place : ℕ) → answered U (offeredAll U (filedAs m) run) o ≡ Refused number field place
-      → updateOf (offeredAll U (filedAs m) run .strip) (offeredAll U (filedAs m) run .state) (o .bytes) (length (o .lent)) ≡ Refused number field place
+      → updateOf (offeredAll U (filedAs m) run .strip) (offeredAll U (filedAs m) run .held) (o .bytes) (length (o .lent)) ≡ Refused number field place
   meets-refused o number field place q =
       let d = h m room n e run in
       let b = offeredAll U (filedAs m) run in
-      cause-refused (b .strip) (b .state) (o .bytes) (length (o .lent)) number field place
-      (subst (λ (w : List ℕ). Cause w (b .state) (o .bytes) (length (o .lent)) number field place) (sym (d .strip-is))
-      (subst (λ (x : State). Cause (spelled (d .plan)) x (o .bytes) (length (o .lent)) number field place) (sym (d .state-is))
+      cause-refused (b .strip) (b .held) (o .bytes) (length (o .lent)) number field place
+      (subst (λ (w : List ℕ). Cause w (b .held) (o .bytes) (length (o .lent)) number field place) (sym (d .strip-is))
+      (subst (λ (x : Strip). Cause (spelled (d .plan)) x (o .bytes) (length (o .lent)) number field place) (sym (d .held-is))
       (d .refused-cause o number field place q)))
 
 abbrev pub accepts : Updated → Bool
@@ -80,11 +81,12 @@ again = record { bytes = bytes "(CHG-ABC12-EHAM0930-EDDF-0-8/VS)"; lent = replic
 
 -- ONE THAT REFUSES ALL
 
-change-taken : accepts (updateOf (filedAs filing .strip) Filed change 75) ≡ true
+change-taken : accepts (updateOf (filedAs filing .strip) justFiled change 75) ≡ true
 unfolding answerOf countAs faultIn spellingOf outer parens parensFrom lettersFrom inAlphabet white text reduced reducedFrom standsForRun opens closes
     hyphens typeNamed typeRanked typesRead types formsOf planForms briefForms fits3 numbersFit fits7 fits8 fits9 countFits aircraftFits fits10
     valid10 present fits16plan fits15 starts speeds levels speedDigits levelDigits elementFits letters within radialFits indicators nameFits
-    pointFits fourLetters timed timeFits fitsIn unexplained hasKey labels fits22 fault22 canonicalPlan updateOf namedBy outAfter front
+    pointFits fourLetters timed timeFits fitsIn unexplained hasKey labels fits22 fault22 canonicalPlan openingOf offeredAs updateOf namedBy newStrip outAfter
+    front
 change-taken = refl
 
 pub refuses-all-fails : (number field place : ℕ) → Meets (refusesAll number field place) → ⊥
@@ -98,7 +100,8 @@ nothing-left : getD (offeredAll doesNothing (filedAs filing) (changing ∷ []) .
 unfolding answerOf countAs faultIn spellingOf outer parens parensFrom lettersFrom inAlphabet white text reduced reducedFrom standsForRun opens closes
     hyphens typeNamed typeRanked typesRead types formsOf planForms briefForms fits3 numbersFit fits7 fits8 fits9 countFits aircraftFits fits10
     valid10 present fits16plan fits15 starts speeds levels speedDigits levelDigits elementFits letters within radialFits indicators nameFits
-    pointFits fourLetters timed timeFits fitsIn unexplained hasKey labels fits22 fault22 canonicalPlan updateOf namedBy outAfter front
+    pointFits fourLetters timed timeFits fitsIn unexplained hasKey labels fits22 fault22 canonicalPlan openingOf offeredAs updateOf namedBy newStrip outAfter
+    front
 nothing-left = refl
 
 pub does-nothing-fails : Meets doesNothing → ⊥
@@ -113,7 +116,8 @@ copied-byte : (getD (offeredAll copies (filedAs filing) (changing ∷ []) .strip
 unfolding answerOf countAs faultIn spellingOf outer parens parensFrom lettersFrom inAlphabet white text reduced reducedFrom standsForRun opens closes
     hyphens typeNamed typeRanked typesRead types formsOf planForms briefForms fits3 numbersFit fits7 fits8 fits9 countFits aircraftFits fits10
     valid10 present fits16plan fits15 starts speeds levels speedDigits levelDigits elementFits letters within radialFits indicators nameFits
-    pointFits fourLetters timed timeFits fitsIn unexplained hasKey labels fits22 fault22 canonicalPlan updateOf namedBy outAfter front
+    pointFits fourLetters timed timeFits fitsIn unexplained hasKey labels fits22 fault22 canonicalPlan openingOf offeredAs updateOf namedBy newStrip outAfter
+    front
 copied-byte = (refl, refl)
 
 pub copies-fails : Meets copies → ⊥
@@ -129,7 +133,8 @@ entry-byte : (getD (offeredAll firstEntry (filedAs filing) (changing ∷ []) .st
 unfolding answerOf countAs faultIn spellingOf outer parens parensFrom lettersFrom inAlphabet white text reduced reducedFrom standsForRun opens closes
     hyphens typeNamed typeRanked typesRead types formsOf planForms briefForms fits3 numbersFit fits7 fits8 fits9 countFits aircraftFits fits10
     valid10 present fits16plan fits15 starts speeds levels speedDigits levelDigits elementFits letters within radialFits indicators nameFits
-    pointFits fourLetters timed timeFits fitsIn unexplained hasKey labels fits22 fault22 canonicalPlan updateOf namedBy outAfter front
+    pointFits fourLetters timed timeFits fitsIn unexplained hasKey labels fits22 fault22 canonicalPlan openingOf offeredAs updateOf namedBy newStrip outAfter
+    front
 entry-byte = (refl, refl)
 
 pub first-entry-fails : Meets firstEntry → ⊥
@@ -145,7 +150,8 @@ message-byte : (getD (offeredAll (firstMessage filing) (filedAs filing) (changin
 unfolding answerOf countAs faultIn spellingOf outer parens parensFrom lettersFrom inAlphabet white text reduced reducedFrom standsForRun opens closes
     hyphens typeNamed typeRanked typesRead types formsOf planForms briefForms fits3 numbersFit fits7 fits8 fits9 countFits aircraftFits fits10
     valid10 present fits16plan fits15 starts speeds levels speedDigits levelDigits elementFits letters within radialFits indicators nameFits
-    pointFits fourLetters timed timeFits fitsIn unexplained hasKey labels fits22 fault22 canonicalPlan updateOf namedBy outAfter front
+    pointFits fourLetters timed timeFits fitsIn unexplained hasKey labels fits22 fault22 canonicalPlan openingOf offeredAs updateOf namedBy newStrip outAfter
+    front
 message-byte = (refl, refl)
 
 pub first-message-fails : Meets (firstMessage filing) → ⊥
@@ -159,12 +165,13 @@ first-message-fails h =
 abbrev retiming : Offer
 retiming = record { bytes = bytes "(CHG-ABC12-EHAM0930-EDDF-0-13/EHAM1000)"; lent = replicate 75 0 }
 
-retiming-taken : (accepts (updateOf (filedAs filing .strip) Filed (retiming .bytes) 75) ≡ true)
+retiming-taken : (accepts (updateOf (filedAs filing .strip) justFiled (retiming .bytes) 75) ≡ true)
     × (answered matchesAfter (filedAs filing) retiming ≡ Refused 12 0 0)
 unfolding answerOf countAs faultIn spellingOf outer parens parensFrom lettersFrom inAlphabet white text reduced reducedFrom standsForRun opens closes
     hyphens typeNamed typeRanked typesRead types formsOf planForms briefForms fits3 numbersFit fits7 fits8 fits9 countFits aircraftFits fits10
     valid10 present fits16plan fits15 starts speeds levels speedDigits levelDigits elementFits letters within radialFits indicators nameFits
-    pointFits fourLetters timed timeFits fitsIn unexplained hasKey labels fits22 fault22 canonicalPlan updateOf namedBy outAfter front
+    pointFits fourLetters timed timeFits fitsIn unexplained hasKey labels fits22 fault22 canonicalPlan openingOf offeredAs updateOf namedBy newStrip outAfter
+    front
 retiming-taken = (refl, refl)
 
 pub matches-after-fails : Meets matchesAfter → ⊥
@@ -182,7 +189,8 @@ time-byte : (getD (offeredAll depOverwrites (filedAs filing) (departing ∷ []) 
 unfolding answerOf countAs faultIn spellingOf outer parens parensFrom lettersFrom inAlphabet white text reduced reducedFrom standsForRun opens closes
     hyphens typeNamed typeRanked typesRead types formsOf planForms briefForms fits3 numbersFit fits7 fits8 fits9 countFits aircraftFits fits10
     valid10 present fits16plan fits15 starts speeds levels speedDigits levelDigits elementFits letters within radialFits indicators nameFits
-    pointFits fourLetters timed timeFits fitsIn unexplained hasKey labels fits22 fault22 canonicalPlan updateOf namedBy outAfter front
+    pointFits fourLetters timed timeFits fitsIn unexplained hasKey labels fits22 fault22 canonicalPlan openingOf offeredAs updateOf namedBy newStrip outAfter
+    front
 time-byte = (refl, refl)
 
 pub dep-overwrites-fails : Meets depOverwrites → ⊥
@@ -201,7 +209,8 @@ found-byte : (getD (offeredAll searches (filedAs filing) (rerouting ∷ []) .str
 unfolding answerOf countAs faultIn spellingOf outer parens parensFrom lettersFrom inAlphabet white text reduced reducedFrom standsForRun opens closes
     hyphens typeNamed typeRanked typesRead types formsOf planForms briefForms fits3 numbersFit fits7 fits8 fits9 countFits aircraftFits fits10
     valid10 present fits16plan fits15 starts speeds levels speedDigits levelDigits elementFits letters within radialFits indicators nameFits
-    pointFits fourLetters timed timeFits fitsIn unexplained hasKey labels fits22 fault22 canonicalPlan updateOf namedBy outAfter front
+    pointFits fourLetters timed timeFits fitsIn unexplained hasKey labels fits22 fault22 canonicalPlan openingOf offeredAs updateOf namedBy newStrip outAfter
+    front
     pairFits changes
 found-byte = (refl, refl)
 

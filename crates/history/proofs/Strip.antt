@@ -1,8 +1,8 @@
 -- A strip that a message may be offered to is the spelling of nine contents that fit, and they can be cut from it again; what an accepted
 -- message says are its contents. Assumes nothing.
-use Prim.Native.Nat.{ℕ, zero, suc, _-_, _≤_}
+use Prim.Native.Nat.{ℕ, _≤_}
 use mathlib.Core.Path.{_≡_, refl, sym, ap, subst, _∙_}
-use mathlib.Core.Bool.{Bool, true, false, _&&_, not, cond, false≢true}
+use mathlib.Core.Bool.{Bool, true, false, _&&_, _||_, not, false≢true}
 use mathlib.Core.List.{List}
 use native.Mathlib.Omega.{arith}
 use lib.Dec.{eqb}
@@ -14,18 +14,23 @@ use Rattle.space.specs.Fields.{inner}
 use Rattle.sent.specs.Sent.{messageOf, contents}
 use Rattle.sent.proofs.Sent.{sent-contents, spelling-stays}
 use Rattle.kinds.specs.declared.MessageType.{MessageType}
-use Rattle.kinds.specs.declared.MessageType.the-variants.{Fpl, Chg, Cnl, Dla, Dep, Arr, Rqp, Rqs, Spl}
+use Rattle.kinds.specs.declared.MessageType.the-variants.{Fpl}
+use Rattle.kinds.specs.declared.Role.{Role}
+use Rattle.kinds.specs.declared.Role.the-variants.{Files, Changes, Delays, Cancels, Departs, Arrives, Neither}
 use Rattle.kinds.specs.declared.Form.{Form}
-use Rattle.kinds.specs.Kinds.{formsOf, planForms, briefForms, requestForms, arrivalForms, divertedForms, entries, numberOf}
+use Rattle.kinds.specs.Kinds.{leastOf, greatestOf, roleOf, typesRead, formsOf, numberOf}
+use Rattle.kinds.specs.Kinds.{planForms, briefForms, requestForms, arrivalForms, divertedForms, supplementForms}
+use Rattle.kinds.proofs.Fields.{each-count}
 use Rattle.message.specs.declared.Answer.{Answer}
 use Rattle.message.specs.declared.Answer.the-variants.{Accepted as ReadAs, Refused as NotRead}
-use Rattle.message.specs.Reading.{countOf, isPlan, spellingOf, answerOf}
+use Rattle.message.specs.Reading.{countOf, spellingOf, answerOf}
+use Rattle.message.proofs.Plans.{plan-type}
 use Rattle.message.proofs.Written.{spelled-message, all-stay}
 use Rattle.message.proofs.Reached.{Reached, reached-accepted, accepted-taken}
 use Rattle.message.proofs.Valid.{Fitting, fitting-forms, fitting-length, fitting-some, fitting-tidy, fitting-reached, reached-fitting, reached-passed}
-use Rattle.state.specs.declared.State.{State}
+use Rattle.state.specs.declared.Strip.{Strip}
 use Rattle.state.specs.State.{sound}
-use Rattle.strip.specs.Updating.{most, readAsPlan, canonicalPlan, plan, said}
+use Rattle.opening.specs.Opening.{most, readAsPlan, canonicalPlan, textSaid}
 use Rattle.history.specs.Demand3.{Proper}
 
 -- CONTENTS THAT FIT are cut from their message again
@@ -41,38 +46,21 @@ cut-again t n cs f =
 abbrev kept : Form → Bool
 kept f = not (eqb (numberOf f) 19)
 
-entries-kept : (k : ℕ) → all kept (entries k) ≡ true
-entries-kept zero = refl
-entries-kept (suc k) = entries-kept k
+-- the types that file a plan or update it
+abbrev pub plain : Role → Bool
+plain Files = true
+plain Changes = true
+plain Delays = true
+plain Cancels = true
+plain Departs = true
+plain Arrives = true
+plain Neither = false
 
-abbrev pub plain : MessageType → Bool
-plain Spl = false
-plain Fpl = true
-plain Chg = true
-plain Cnl = true
-plain Dla = true
-plain Dep = true
-plain Arr = true
-plain Rqp = true
-plain Rqs = true
+plain-forms : (t : MessageType) (n : ℕ) → leastOf t ≤ n → n ≤ greatestOf t → plain (roleOf t) ≡ true → all kept (formsOf t n) ≡ true
+unfolding typesRead formsOf planForms briefForms requestForms arrivalForms divertedForms supplementForms
+plain-forms t n l g e = rw e at (each-count (λ u k. not (plain (roleOf u)) || all kept (formsOf u k)) refl t n l g)
 
-plain-forms : (t : MessageType) (n : ℕ) → plain t ≡ true → all kept (formsOf t n) ≡ true
-unfolding formsOf planForms briefForms requestForms arrivalForms divertedForms
-plain-forms Fpl n e = refl
-plain-forms Chg n e = entries-kept (n - 5)
-plain-forms Cnl n e = refl
-plain-forms Dla n e = refl
-plain-forms Dep n e = refl
-plain-forms Arr n e = go (eqb n 4)
-  where
-    go : (b : Bool) → all kept (cond b arrivalForms divertedForms) ≡ true
-    go true = refl
-    go false = refl
-plain-forms Rqp n e = refl
-plain-forms Rqs n e = refl
-plain-forms Spl n e = absurd (false≢true e)
-
-module _ (t : MessageType) (m : List ℕ) (p : plain t ≡ true) (r : Reached t m) where
+module _ (t : MessageType) (m : List ℕ) (p : plain (roleOf t) ≡ true) (r : Reached t m) where
   reached-fits : Fitting t (countOf m) (contents m)
   reached-fits = reached-fitting t m r
 
@@ -84,10 +72,10 @@ module _ (t : MessageType) (m : List ℕ) (p : plain t ≡ true) (r : Reached t 
       let some = fitting-some t (countOf m) (contents m) reached-fits in
       let even = forms ∙ sym long in
       spelled-message (formsOf t (countOf m)) (contents m) (omega (arith, even, some)) even
-      ∙ ap messageOf (all-stay (formsOf t (countOf m)) (contents m) even (plain-forms t (countOf m) p))
+      ∙ ap messageOf (all-stay (formsOf t (countOf m)) (contents m) even (plain-forms t (countOf m) (reached-fits .least) (reached-fits .most) p))
 
   -- what the message says
-  pub said-contents : said t m ≡ contents m
+  pub said-contents : split 45 (textSaid t m) ≡ contents m
   said-contents = ap (λ (w : List ℕ). split 45 (inner w)) plain-spelling ∙ cut-again t (countOf m) (contents m) reached-fits
 
 -- NINE CONTENTS THAT FIT make a strip
@@ -114,8 +102,8 @@ module _ (cs : List Word) (f : Fitting Fpl 9 cs) where
         let e = ap length strip-spelling in
         reached-accepted Fpl strip-of 1800 strip-reached (omega (arith, e, short)) ∙ ap (ReadAs Fpl) e
 
-    pub strip-proper : (s : State) → sound s ≡ true → Proper strip-of s
-    strip-proper s h = record { long = length strip-of; read = strip-read; canonical = strip-spelling; state-sound = h }
+    pub strip-proper : (s : Strip) → sound s ≡ true → Proper strip-of s
+    strip-proper s h = record { long = length strip-of; read = strip-read; canonical = strip-spelling; held-sound = h }
 
 -- and a strip that is read as an FPL, and is its own spelling, has such contents
 
@@ -130,7 +118,7 @@ pub record Stripped (strip : List ℕ) : Type 0 where
   pub spelt : strip ≡ messageOf (contents strip)
   pub short : length strip ≤ 1800
 
-pub proper-stripped : (strip : List ℕ) (s : State) → Proper strip s → Stripped strip
+pub proper-stripped : (strip : List ℕ) (s : Strip) → Proper strip s → Stripped strip
 proper-stripped strip s p =
     let k = accepted-taken Fpl strip 1800 (p .long) (p .read) in
     record {
@@ -141,18 +129,7 @@ proper-stripped strip s p =
 
 -- THE TEST of the update is the same
 
-pub is-plan : (t : MessageType) → isPlan t ≡ true → t ≡ Fpl
-is-plan Fpl e = refl
-is-plan Chg e = absurd (false≢true e)
-is-plan Cnl e = absurd (false≢true e)
-is-plan Dla e = absurd (false≢true e)
-is-plan Dep e = absurd (false≢true e)
-is-plan Arr e = absurd (false≢true e)
-is-plan Rqp e = absurd (false≢true e)
-is-plan Rqs e = absurd (false≢true e)
-is-plan Spl e = absurd (false≢true e)
-
-pub tested-proper : (strip : List ℕ) (s : State) → (sound s && canonicalPlan strip) ≡ true → Proper strip s
+pub tested-proper : (strip : List ℕ) (s : Strip) → (sound s && canonicalPlan strip) ≡ true → Proper strip s
 unfolding canonicalPlan
 tested-proper strip s e =
     let a = both (sound s) (canonicalPlan strip) e in
@@ -160,16 +137,16 @@ tested-proper strip s e =
     go (a .0) (same-eq (spellingOf Fpl strip) strip (b .1)) (answerOf strip most) refl (b .0)
   where
     go : sound s ≡ true → spellingOf Fpl strip ≡ strip → (r : Answer) → answerOf strip most ≡ r → readAsPlan r ≡ true → Proper strip s
-    go h c (ReadAs t n) q z = record { long = n; read = q ∙ ap (λ (u : MessageType). ReadAs u n) (is-plan t z); canonical = c; state-sound = h }
+    go h c (ReadAs t n) q z = record { long = n; read = q ∙ ap (λ (u : MessageType). ReadAs u n) (plan-type t z); canonical = c; held-sound = h }
     go h c (NotRead number field place) q z = absurd (false≢true z)
 
-pub proper-tested : (strip : List ℕ) (s : State) → Proper strip s → (sound s && canonicalPlan strip) ≡ true
+pub proper-tested : (strip : List ℕ) (s : Strip) → Proper strip s → (sound s && canonicalPlan strip) ≡ true
 unfolding canonicalPlan
 proper-tested strip s p =
     let c = ap (λ (w : List ℕ). same w strip) (p .canonical) ∙ same-self strip in
-    and-both (sound s) (canonicalPlan strip) (p .state-sound)
+    and-both (sound s) (canonicalPlan strip) (p .held-sound)
     (and-both (readAsPlan (answerOf strip most)) (same (spellingOf Fpl strip) strip) (ap readAsPlan (p .read)) c)
 
 -- the contents that the update cuts from a strip
-pub plan-contents : (strip : List ℕ) → Stripped strip → plan strip ≡ contents strip
-plan-contents strip k = ap plan (k .spelt) ∙ cut-again Fpl 9 (contents strip) (k .fits)
+pub plan-contents : (strip : List ℕ) → Stripped strip → split 45 (inner strip) ≡ contents strip
+plan-contents strip k = ap (λ (w : List ℕ). split 45 (inner w)) (k .spelt) ∙ cut-again Fpl 9 (contents strip) (k .fits)

@@ -8,7 +8,10 @@ use lib.ListN.{length, take, drop, getD}
 use Rattle.text.specs.Words.{Word, before}
 use Rattle.sent.specs.Sent.{contents}
 use Rattle.kinds.specs.declared.MessageType.{MessageType}
-use Rattle.kinds.specs.declared.MessageType.the-variants.{Fpl, Chg, Cnl, Dla, Dep, Arr, Rqp, Rqs, Spl}
+use Rattle.kinds.specs.declared.MessageType.the-variants.{Fpl}
+use Rattle.kinds.specs.declared.Role.{Role}
+use Rattle.kinds.specs.declared.Role.the-variants.{Files, Changes, Delays, Cancels, Departs, Arrives, Neither}
+use Rattle.kinds.specs.Kinds.{roleOf, brief7, brief13, brief16}
 use Rattle.message.specs.declared.Answer.{Answer}
 use Rattle.message.specs.declared.Answer.the-variants.{Accepted as ReadAs, Refused as NotRead}
 use Rattle.message.specs.Reading.{unexplainedIn, spellingOf, answerOf}
@@ -17,28 +20,28 @@ use Rattle.state.specs.declared.Departure.the-variants.{Unknown}
 use Rattle.state.specs.declared.State.{State}
 use Rattle.state.specs.declared.State.the-variants.{Filed, Departed, Arrived, Cancelled}
 use Rattle.state.specs.declared.Strip.{Strip}
-use Rattle.state.specs.State.{sound}
+use Rattle.state.specs.State.{justFiled, sound}
 use Rattle.strip.specs.declared.Updated.{Updated}
 use Rattle.strip.specs.declared.Updated.the-variants.{Accepted, Refused}
 use Rattle.strip.specs.Updating.{updateOf, outAfter}
 use Rattle.history.specs.History.{Part, Plan, planIn, nine, spelled, Told, given, withTold, departs, becomes, Left}
 use Rattle.history.specs.History.Part.{identification, aerodrome, offBlock, destination}
 
--- AN UPDATER: its answer to a strip, its state, a message and the output lent, and what it leaves in the output
+-- AN UPDATER: its answer to a strip, its record, a message and the output lent, and what it leaves in the output
 
 pub record Updater : Type 0 where
-  pub answer : List ℕ → State → List ℕ → List ℕ → Updated
-  pub output : List ℕ → State → List ℕ → List ℕ → List ℕ
+  pub answer : List ℕ → Strip → List ℕ → List ℕ → Updated
+  pub output : List ℕ → Strip → List ℕ → List ℕ → List ℕ
 
 -- the one that is proved of the code
 abbrev pub updater : Updater
-updater = record { answer = λ strip s m out. updateOf strip s m (length out); output = λ strip s m out. outAfter strip s m out }
+updater = record { answer = λ strip held m out. updateOf strip held m (length out); output = λ strip held m out. outAfter strip held m out }
 
--- A STRIP AND ITS STATE, and an offer: the message's bytes, and the output lent for the new strip
+-- A STRIP AND ITS RECORD, and an offer: the message's bytes, and the output lent for the new strip
 
 pub record Board : Type 0 where
   pub strip : List ℕ
-  pub state : State
+  pub held : Strip
 
 pub record Offer : Type 0 where
   pub bytes : List ℕ
@@ -53,7 +56,7 @@ abbrev pub told : List ℕ → Told
 told m = toldAs (answerOf m 1800) m
 
 abbrev pub putAs : Updated → List ℕ → Board → Board
-putAs (Accepted held n) out b = record { strip = take n out; state = held .state }
+putAs (Accepted held n) out b = record { strip = take n out; held = held }
 putAs (Refused number field place) out b = b
 
 abbrev pub enteredAs : Updated → List ℕ → List Told → List Told
@@ -62,10 +65,10 @@ enteredAs (Refused number field place) m log = log
 
 module _ (U : Updater) where
   abbrev pub answered : Board → Offer → Updated
-  answered b o = U .answer (b .strip) (b .state) (o .bytes) (o .lent)
+  answered b o = U .answer (b .strip) (b .held) (o .bytes) (o .lent)
 
   abbrev pub left : Board → Offer → List ℕ
-  left b o = U .output (b .strip) (b .state) (o .bytes) (o .lent)
+  left b o = U .output (b .strip) (b .held) (o .bytes) (o .lent)
 
   -- the strip after an offer: an accepted one's is what was written, as many bytes as the answer says
   abbrev pub offered : Board → Offer → Board
@@ -83,60 +86,57 @@ module _ (U : Updater) where
 -- THE CAUSES, which name nothing of the update
 
 -- 15: the strip is a canonical accepted FPL, and its state holds no time over 1,439 minutes and no aerodrome but of four letters
-pub record Proper (strip : List ℕ) (s : State) : Type 0 where
+pub record Proper (strip : List ℕ) (held : Strip) : Type 0 where
   pub long : ℕ
   pub read : answerOf strip 1800 ≡ ReadAs Fpl long
   pub canonical : spellingOf Fpl strip ≡ strip
-  pub state-sound : sound s ≡ true
+  pub held-sound : sound held ≡ true
 
 -- 14: the types that are fit for an update
-abbrev pub fitType : MessageType → Bool
-fitType Chg = true
-fitType Dla = true
-fitType Cnl = true
-fitType Dep = true
-fitType Arr = true
-fitType Fpl = false
-fitType Rqp = false
-fitType Rqs = false
-fitType Spl = false
+abbrev pub fitRole : Role → Bool
+fitRole Changes = true
+fitRole Delays = true
+fitRole Cancels = true
+fitRole Departs = true
+fitRole Arrives = true
+fitRole Files = false
+fitRole Neither = false
 
--- 12: what must equal the strip's. Of the message 7 and 13 are the second and third field; the fourth is 16, or in an ARR without it 17
+abbrev pub fitType : MessageType → Bool
+fitType t = fitRole (roleOf t)
+
+-- 12: what must equal the strip's; in an ARR without field 16, 17 stands in its place
 pub record ForThis (p : Plan) (m : Told) : Type 0 where
-  pub same-identification : before 47 (p identification) ≡ before 47 (getD (m .fields) 1 [])
-  pub same-aerodrome : p aerodrome ≡ take 4 (getD (m .fields) 2 [])
-  pub same-destination : take 4 (p destination) ≡ take 4 (getD (m .fields) 3 [])
+  pub same-identification : before 47 (p identification) ≡ before 47 (getD (m .fields) brief7 [])
+  pub same-aerodrome : p aerodrome ≡ take 4 (getD (m .fields) brief13 [])
+  pub same-destination : take 4 (p destination) ≡ take 4 (getD (m .fields) brief16 [])
 
 -- CHG, CNL and ARR must equal the off-block time too
-abbrev pub TimeToo : MessageType → Type 0 → Type 0
-TimeToo Chg P = P
-TimeToo Cnl P = P
-TimeToo Arr P = P
-TimeToo Dla P = Unit
-TimeToo Dep P = Unit
-TimeToo Fpl P = Unit
-TimeToo Rqp P = Unit
-TimeToo Rqs P = Unit
-TimeToo Spl P = Unit
+abbrev pub TimeToo : Role → Type 0 → Type 0
+TimeToo Changes P = P
+TimeToo Cancels P = P
+TimeToo Arrives P = P
+TimeToo Delays P = Unit
+TimeToo Departs P = Unit
+TimeToo Files P = Unit
+TimeToo Neither P = Unit
 
 abbrev pub Same : Plan → Told → Type 0
-Same p m = ForThis p m × TimeToo (m .type) (p offBlock ≡ drop 4 (getD (m .fields) 2 []))
+Same p m = ForThis p m × TimeToo (roleOf (m .type)) (p offBlock ≡ drop 4 (getD (m .fields) brief13 []))
 
 -- 13: allowed when filed; CHG and ARR when departed too
-abbrev pub whenDeparted : MessageType → Bool
-whenDeparted Chg = true
-whenDeparted Arr = true
-whenDeparted Dla = false
-whenDeparted Cnl = false
-whenDeparted Dep = false
-whenDeparted Fpl = false
-whenDeparted Rqp = false
-whenDeparted Rqs = false
-whenDeparted Spl = false
+abbrev pub whenDeparted : Role → Bool
+whenDeparted Changes = true
+whenDeparted Arrives = true
+whenDeparted Delays = false
+whenDeparted Cancels = false
+whenDeparted Departs = false
+whenDeparted Files = false
+whenDeparted Neither = false
 
 abbrev pub allowed : State → MessageType → Bool
 allowed Filed t = true
-allowed (Departed time) t = whenDeparted t
+allowed (Departed time) t = whenDeparted (roleOf t)
 allowed (Arrived d a time) t = false
 allowed Cancelled t = false
 
@@ -148,63 +148,63 @@ abbrev pub amendedOn : List ℕ → List ℕ → Plan
 amendedOn strip m = withTold (planOn strip) (told m)
 
 -- a message that is read, of a type that is fit, for this flight, allowed by the state: 15, 1 to 9, 14, 12 and 13 are passed
-pub record Passes (strip : List ℕ) (s : State) (m : List ℕ) : Type 0 where
-  pub proper : Proper strip s
+pub record Passes (strip : List ℕ) (held : Strip) (m : List ℕ) : Type 0 where
+  pub proper : Proper strip held
   pub type : MessageType
   pub long : ℕ
   pub read : answerOf m 1800 ≡ ReadAs type long
   pub fit : fitType type ≡ true
   pub for-this : Same (planOn strip) (told m)
-  pub permits : allowed s type ≡ true
+  pub permits : allowed (held .state) type ≡ true
 
 -- number, field and place of a refusal
-pub data Cause (strip : List ℕ) (s : State) (m : List ℕ) (room : ℕ) : ℕ → ℕ → ℕ → Type 0 where
-  not-proper : (Proper strip s → ⊥) → Cause strip s m room 15 0 0
-  not-read : Proper strip s → {number field place : ℕ} → answerOf m 1800 ≡ NotRead number field place → number ≤ 9
-      → Cause strip s m room number field place
+pub data Cause (strip : List ℕ) (held : Strip) (m : List ℕ) (room : ℕ) : ℕ → ℕ → ℕ → Type 0 where
+  not-proper : (Proper strip held → ⊥) → Cause strip held m room 15 0 0
+  not-read : Proper strip held → {number field place : ℕ} → answerOf m 1800 ≡ NotRead number field place → number ≤ 9
+      → Cause strip held m room number field place
   -- an FPL that leaves a field unexplained is of a type that is not fit
-  not-fit : Proper strip s → {field place : ℕ} → answerOf m 1800 ≡ NotRead 10 field place → Cause strip s m room 14 0 0
-  no-type : Proper strip s → {t : MessageType} {n : ℕ} → answerOf m 1800 ≡ ReadAs t n → fitType t ≡ false → Cause strip s m room 14 0 0
-  another-flight : Proper strip s → {t : MessageType} {n : ℕ} → answerOf m 1800 ≡ ReadAs t n → fitType t ≡ true
-      → (Same (planOn strip) (told m) → ⊥) → Cause strip s m room 12 0 0
-  not-allowed : Proper strip s → {t : MessageType} {n : ℕ} → answerOf m 1800 ≡ ReadAs t n → fitType t ≡ true
-      → Same (planOn strip) (told m) → allowed s t ≡ false → Cause strip s m room 13 0 0
-  unexplained : Passes strip s m → (unexplainedIn (nine (amendedOn strip m)) ≡ 0 → ⊥)
-      → Cause strip s m room 10 (unexplainedIn (nine (amendedOn strip m))) 0
-  too-long : Passes strip s m → unexplainedIn (nine (amendedOn strip m)) ≡ 0 → 1800 < length (spelled (amendedOn strip m))
-      → Cause strip s m room 16 0 0
-  no-room : Passes strip s m → unexplainedIn (nine (amendedOn strip m)) ≡ 0 → length (spelled (amendedOn strip m)) ≤ 1800
-      → room < length (spelled (amendedOn strip m)) → Cause strip s m room 11 0 0
+  not-fit : Proper strip held → {field place : ℕ} → answerOf m 1800 ≡ NotRead 10 field place → Cause strip held m room 14 0 0
+  no-type : Proper strip held → {t : MessageType} {n : ℕ} → answerOf m 1800 ≡ ReadAs t n → fitType t ≡ false → Cause strip held m room 14 0 0
+  another-flight : Proper strip held → {t : MessageType} {n : ℕ} → answerOf m 1800 ≡ ReadAs t n → fitType t ≡ true
+      → (Same (planOn strip) (told m) → ⊥) → Cause strip held m room 12 0 0
+  not-allowed : Proper strip held → {t : MessageType} {n : ℕ} → answerOf m 1800 ≡ ReadAs t n → fitType t ≡ true
+      → Same (planOn strip) (told m) → allowed (held .state) t ≡ false → Cause strip held m room 13 0 0
+  unexplained : Passes strip held m → (unexplainedIn (nine (amendedOn strip m)) ≡ 0 → ⊥)
+      → Cause strip held m room 10 (unexplainedIn (nine (amendedOn strip m))) 0
+  too-long : Passes strip held m → unexplainedIn (nine (amendedOn strip m)) ≡ 0 → 1800 < length (spelled (amendedOn strip m))
+      → Cause strip held m room 16 0 0
+  no-room : Passes strip held m → unexplainedIn (nine (amendedOn strip m)) ≡ 0 → length (spelled (amendedOn strip m)) ≤ 1800
+      → room < length (spelled (amendedOn strip m)) → Cause strip held m room 11 0 0
 
 -- THE DEMAND: an FPL was filed with these contents, and its strip was offered a run of messages
 
 pub record Demand3 (U : Updater) (filed : List Word) (start : Board) (run : List Offer) : Type 0 where
   pub plan : Plan
   pub departure : Departure
-  pub state : State
-  -- the strip, byte for byte, and its state
+  pub held : Strip
+  -- the strip, byte for byte, and its record
   pub strip-is : offeredAll U start run .strip ≡ spelled plan
-  pub state-is : offeredAll U start run .state ≡ state
-  -- a canonical accepted FPL and a sound state at every point, so 15 never comes
-  pub stays-proper : Proper (spelled plan) state
+  pub held-is : offeredAll U start run .held ≡ held
+  -- a canonical accepted FPL and a sound record at every point, so 15 never comes
+  pub stays-proper : Proper (spelled plan) held
   -- every part as the last accepted CHG or DLA that set it left it, or as filed; the state and the actual times
   pub parts : (f : Part) → Left (given f) (planIn filed f) (logAll U start [] run) (plan f)
   pub departed : Left departs Unknown (logAll U start [] run) departure
-  pub stated : Left (becomes departure) Filed (logAll U start [] run) state
+  pub stated : Left (becomes departure) Filed (logAll U start [] run) (held .state)
   -- the next message is refused exactly where there is a cause, and then nothing lent is changed
   pub refused-cause : (o : Offer) (number field place : ℕ) → answered U (offeredAll U start run) o ≡ Refused number field place
-      → Cause (spelled plan) state (o .bytes) (length (o .lent)) number field place
-  pub cause-refused : (o : Offer) (number field place : ℕ) → Cause (spelled plan) state (o .bytes) (length (o .lent)) number field place
+      → Cause (spelled plan) held (o .bytes) (length (o .lent)) number field place
+  pub cause-refused : (o : Offer) (number field place : ℕ) → Cause (spelled plan) held (o .bytes) (length (o .lent)) number field place
       → answered U (offeredAll U start run) o ≡ Refused number field place
   pub unchanged : (o : Offer) (number field place : ℕ) → answered U (offeredAll U start run) o ≡ Refused number field place
       → left U (offeredAll U start run) o ≡ o .lent
   -- and of an accepted one what lies behind the new strip stays
-  pub behind-stays : (o : Offer) (held : Strip) (n : ℕ) → answered U (offeredAll U start run) o ≡ Accepted held n
+  pub behind-stays : (o : Offer) (next : Strip) (n : ℕ) → answered U (offeredAll U start run) o ≡ Accepted next n
       → drop n (left U (offeredAll U start run) o) ≡ drop n (o .lent)
 
 -- an accepted FPL as a strip
 abbrev pub filedAs : List ℕ → Board
-filedAs m = record { strip = spellingOf Fpl m; state = Filed }
+filedAs m = record { strip = spellingOf Fpl m; held = justFiled }
 
 abbrev pub Meets : Updater → Type 0
 Meets U = (m : List ℕ) (room n : ℕ) → answerOf m room ≡ ReadAs Fpl n → (run : List Offer) → Demand3 U (contents m) (filedAs m) run

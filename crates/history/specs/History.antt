@@ -14,11 +14,15 @@ use Rattle.aerodromes.specs.Asked.{aerodromeIn}
 use Rattle.aerodromes.specs.Field13.{record13}
 use Rattle.aerodromes.specs.Field17.{record17}
 use Rattle.kinds.specs.declared.MessageType.{MessageType}
-use Rattle.kinds.specs.declared.MessageType.the-variants.{Fpl, Chg, Cnl, Dla, Dep, Arr, Rqp, Rqs, Spl}
+use Rattle.kinds.specs.declared.MessageType.the-variants.{Chg, Dla}
+use Rattle.kinds.specs.declared.Role.{Role}
+use Rattle.kinds.specs.declared.Role.the-variants.{Files, Changes, Delays, Cancels, Departs, Arrives, Neither}
+use Rattle.kinds.specs.Kinds.{roleOf, plan3, plan7, plan8, plan9, plan10, plan13, plan15, plan16, plan18, brief13, brief16, brief17, firstEntry}
 use Rattle.state.specs.declared.Departure.{Departure}
 use Rattle.state.specs.declared.Departure.the-variants.{Known, Unknown}
 use Rattle.state.specs.declared.State.{State}
 use Rattle.state.specs.declared.State.the-variants.{Filed, Departed, Arrived, Cancelled}
+use Rattle.state.specs.declared.Strip.{Strip}
 
 -- THE PARTS OF A PLAN that a message can set by themselves: its fields, and of field 13 the aerodrome and the off-block time
 
@@ -43,16 +47,16 @@ numberFor other = bytes "18"
 
 -- which of an FPL's nine fields that is, counted from 0
 abbrev pub placeFor : Part → ℕ
-placeFor heading = 0
-placeFor identification = 1
-placeFor rules = 2
-placeFor aircraft = 3
-placeFor equipment = 4
-placeFor aerodrome = 5
-placeFor offBlock = 5
-placeFor route = 6
-placeFor destination = 7
-placeFor other = 8
+placeFor heading = plan3
+placeFor identification = plan7
+placeFor rules = plan8
+placeFor aircraft = plan9
+placeFor equipment = plan10
+placeFor aerodrome = plan13
+placeFor offBlock = plan13
+placeFor route = plan15
+placeFor destination = plan16
+placeFor other = plan18
 
 -- the part's bytes of that field: field 13 is four letters and a time
 abbrev pub within : Part → Word → List ℕ
@@ -104,19 +108,17 @@ delayed route c = none
 delayed destination c = none
 delayed other c = none
 
-abbrev pub givenBy : MessageType → List Word → Part → Option (List ℕ)
-givenBy Chg cs f = named f (drop 5 cs)
-givenBy Dla cs f = delayed f (getD cs 2 [])
-givenBy Cnl cs f = none
-givenBy Dep cs f = none
-givenBy Arr cs f = none
-givenBy Fpl cs f = none
-givenBy Rqp cs f = none
-givenBy Rqs cs f = none
-givenBy Spl cs f = none
+abbrev pub givenBy : Role → List Word → Part → Option (List ℕ)
+givenBy Changes cs f = named f (drop firstEntry cs)
+givenBy Delays cs f = delayed f (getD cs brief13 [])
+givenBy Cancels cs f = none
+givenBy Departs cs f = none
+givenBy Arrives cs f = none
+givenBy Files cs f = none
+givenBy Neither cs f = none
 
 abbrev pub given : Part → Told → Option (List ℕ)
-given f m = givenBy (m .type) (m .fields) f
+given f m = givenBy (roleOf (m .type)) (m .fields) f
 
 -- the plan with what a message says put in
 abbrev pub withTold : Plan → Told → Plan
@@ -124,37 +126,33 @@ withTold p m = λ f. Option·getD (given f m) (p f)
 
 -- WHAT IT SAYS OF THE STATE: a DEP the departure time, CNL, DEP and ARR where the flight is
 
--- field 17 is the last of an ARR's four or five
+-- field 17 is the last of an ARR's four or five: of four it stands in the place of 16
 abbrev pub landing : List Word → Word
-landing cs = cond (eqb (length cs) 4) (getD cs 3 []) (getD cs 4 [])
+landing cs = cond (eqb (length cs) 4) (getD cs brief16 []) (getD cs brief17 [])
 
-abbrev pub departsBy : MessageType → List Word → Option Departure
-departsBy Dep cs = some (Known (record13 (getD cs 2 []) .time))
-departsBy Chg cs = none
-departsBy Dla cs = none
-departsBy Cnl cs = none
-departsBy Arr cs = none
-departsBy Fpl cs = none
-departsBy Rqp cs = none
-departsBy Rqs cs = none
-departsBy Spl cs = none
+abbrev pub departsBy : Role → List Word → Option Departure
+departsBy Departs cs = some (Known (record13 (getD cs brief13 []) .time))
+departsBy Changes cs = none
+departsBy Delays cs = none
+departsBy Cancels cs = none
+departsBy Arrives cs = none
+departsBy Files cs = none
+departsBy Neither cs = none
 
 abbrev pub departs : Told → Option Departure
-departs m = departsBy (m .type) (m .fields)
+departs m = departsBy (roleOf (m .type)) (m .fields)
 
-abbrev pub becomesBy : Departure → MessageType → List Word → Option State
-becomesBy d Cnl cs = some Cancelled
-becomesBy d Dep cs = some (Departed (record13 (getD cs 2 []) .time))
-becomesBy d Arr cs = some (Arrived d (aerodromeIn (landing cs)) (record17 (landing cs) .time))
-becomesBy d Chg cs = none
-becomesBy d Dla cs = none
-becomesBy d Fpl cs = none
-becomesBy d Rqp cs = none
-becomesBy d Rqs cs = none
-becomesBy d Spl cs = none
+abbrev pub becomesBy : Departure → Role → List Word → Option State
+becomesBy d Cancels cs = some Cancelled
+becomesBy d Departs cs = some (Departed (record13 (getD cs brief13 []) .time))
+becomesBy d Arrives cs = some (Arrived d (aerodromeIn (landing cs)) (record17 (landing cs) .time))
+becomesBy d Changes cs = none
+becomesBy d Delays cs = none
+becomesBy d Files cs = none
+becomesBy d Neither cs = none
 
 abbrev pub becomes : Departure → Told → Option State
-becomes d m = becomesBy d (m .type) (m .fields)
+becomes d m = becomesBy d (roleOf (m .type)) (m .fields)
 
 -- THE LAST THAT SAID SOMETHING. A log holds accepted messages, latest first.
 
@@ -178,6 +176,10 @@ departureBy log = latest departs Unknown log
 
 abbrev pub stateBy : List Told → State
 stateBy log = latest (becomes (departureBy log)) Filed log
+
+-- the record that goes with the strip
+abbrev pub heldBy : List Told → Strip
+heldBy log = record { state = stateBy log }
 
 -- EXAMPLES, computed
 

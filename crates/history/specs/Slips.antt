@@ -4,28 +4,30 @@ use Prim.Native.Nat.{ℕ, zero, suc}
 use mathlib.Core.Bool.{cond}
 use mathlib.Core.List.{List, [], _∷_, _++_}
 use mathlib.Core.Option.{Option, none, some, Option·getD}
-use lib.ListN.{length, take, drop, getD}
-use Rattle.text.specs.Words.{Word, same, before}
+use lib.ListN.{length, take, drop}
+use Rattle.text.specs.Words.{Word, split, same, before}
 use Rattle.text.specs.Lent.{front}
 use Rattle.space.specs.Fields.{inner}
 use Rattle.sent.specs.Sent.{messageOf, contents}
-use Rattle.kinds.specs.declared.MessageType.{MessageType}
-use Rattle.kinds.specs.declared.MessageType.the-variants.{Fpl, Chg, Cnl, Dla, Dep, Arr, Rqp, Rqs, Spl}
+use Rattle.kinds.specs.declared.Role.{Role}
+use Rattle.kinds.specs.declared.Role.the-variants.{Files, Changes, Delays, Cancels, Departs, Arrives, Neither}
+use Rattle.kinds.specs.Kinds.{roleOf}
 use Rattle.forms.specs.Field22.{labelOf}
 use Rattle.message.specs.Reading.{answerOf}
-use Rattle.force.specs.InForce.{fieldsFrom}
+use Rattle.force.specs.InForce.{fieldAt, fieldsFrom}
 use Rattle.strip.specs.declared.Updated.{Updated}
 use Rattle.strip.specs.declared.Updated.the-variants.{Accepted, Refused}
-use Rattle.strip.specs.Updating.{plan, said, differences, differs, amended, newStrip, updateOf, typeRead, outAfter}
+use Rattle.opening.specs.Opening.{textSaid}
+use Rattle.strip.specs.Updating.{differences, differs, amended, newStrip, updateOf, typeRead, outAfter}
 use Rattle.history.specs.Demand3.{Updater}
 
 -- one that refuses all, with whatever number, field and place
 abbrev pub refusesAll : ℕ → ℕ → ℕ → Updater
-refusesAll number field place = record { answer = λ strip s m out. Refused number field place; output = λ strip s m out. out }
+refusesAll number field place = record { answer = λ strip held m out. Refused number field place; output = λ strip held m out. out }
 
 -- one that does nothing: it writes nothing, whatever it answers
 abbrev pub doesNothing : Updater
-doesNothing = record { answer = λ strip s m out. updateOf strip s m (length out); output = λ strip s m out. out }
+doesNothing = record { answer = λ strip held m out. updateOf strip held m (length out); output = λ strip held m out. out }
 
 -- one that copies the strip and calls it amended
 abbrev pub copiedAs : Updated → List ℕ → Updated
@@ -39,8 +41,8 @@ copyAs (Refused number field place) strip out = out
 abbrev pub copies : Updater
 copies =
     record {
-      answer = λ strip s m out. copiedAs (updateOf strip s m (length out)) strip;
-      output = λ strip s m out. copyAs (updateOf strip s m (length out)) strip out;
+      answer = λ strip held m out. copiedAs (updateOf strip held m (length out)) strip;
+      output = λ strip held m out. copyAs (updateOf strip held m (length out)) strip out;
     }
 
 -- one that applies only the first entry: it leaves off what stands behind a message's sixth field
@@ -50,47 +52,47 @@ firstSix m = messageOf (take 6 (contents m))
 abbrev pub firstEntry : Updater
 firstEntry =
     record {
-      answer = λ strip s m out. updateOf strip s (firstSix m) (length out);
-      output = λ strip s m out. outAfter strip s (firstSix m) out;
+      answer = λ strip held m out. updateOf strip held (firstSix m) (length out);
+      output = λ strip held m out. outAfter strip held (firstSix m) out;
     }
 
 -- one that applies only the first message of a run: once the strip is no longer as filed it copies it
 abbrev pub firstMessage : List ℕ → Updater
 firstMessage filed =
     record {
-      answer = λ strip s m out. cond (same strip filed) (updateOf strip s m (length out)) (copiedAs (updateOf strip s m (length out)) strip);
-      output = λ strip s m out. cond (same strip filed) (outAfter strip s m out) (copyAs (updateOf strip s m (length out)) strip out);
+      answer = λ strip held m out. cond (same strip filed) (updateOf strip held m (length out)) (copiedAs (updateOf strip held m (length out)) strip);
+      output = λ strip held m out. cond (same strip filed) (outAfter strip held m out) (copyAs (updateOf strip held m (length out)) strip out);
     }
 
 -- one that matches a message against the plan as it is after the change
 abbrev pub matchesAfter : Updater
 matchesAfter =
     record {
-      answer = λ strip s m out.
+      answer = λ strip held m out.
           let t = typeRead (answerOf m 1800) in
-          cond (differs (differences t (amended t strip m) (said t m))) (Refused 12 0 0) (updateOf strip s m (length out));
-      output = λ strip s m out.
+          cond (differs (differences (roleOf t) (amended (roleOf t) (inner strip) (textSaid t m)) (split 45 (textSaid t m)))) (Refused 12 0 0) (updateOf strip held m (length out));
+      output = λ strip held m out.
           let t = typeRead (answerOf m 1800) in
-          cond (differs (differences t (amended t strip m) (said t m))) out (outAfter strip s m out);
+          cond (differs (differences (roleOf t) (amended (roleOf t) (inner strip) (textSaid t m)) (split 45 (textSaid t m)))) out (outAfter strip held m out);
     }
 
 -- one by which a DEP overwrites the off-block time, as a DLA does
-abbrev pub asDelay : MessageType → MessageType
-asDelay Dep = Dla
-asDelay Fpl = Fpl
-asDelay Chg = Chg
-asDelay Cnl = Cnl
-asDelay Dla = Dla
-asDelay Arr = Arr
-asDelay Rqp = Rqp
-asDelay Rqs = Rqs
-asDelay Spl = Spl
+abbrev pub asDelay : Role → Role
+asDelay Departs = Delays
+asDelay Files = Files
+asDelay Changes = Changes
+asDelay Delays = Delays
+asDelay Cancels = Cancels
+asDelay Arrives = Arrives
+asDelay Neither = Neither
 
 abbrev pub depOverwrites : Updater
 depOverwrites =
     record {
-      answer = λ strip s m out. updateOf strip s m (length out);
-      output = λ strip s m out. copyAs (updateOf strip s m (length out)) (newStrip (asDelay (typeRead (answerOf m 1800))) strip m) out;
+      answer = λ strip held m out. updateOf strip held m (length out);
+      output = λ strip held m out.
+          let t = typeRead (answerOf m 1800) in
+          copyAs (updateOf strip held m (length out)) (newStrip (asDelay (roleOf t)) (inner strip) (textSaid t m)) out;
     }
 
 -- one that finds a field by searching the text of the message for its number and an oblique
@@ -99,8 +101,8 @@ findText w [] = none
 findText w (b ∷ s) = cond (same (take (length w) (b ∷ s)) w) (some (before 45 (drop (length w) (b ∷ s)))) (findText w s)
 
 abbrev pub searchedFor : List ℕ → List ℕ → ℕ → Word
-searchedFor strip m zero = getD (plan strip) 0 []
-searchedFor strip m (suc k) = Option·getD (findText (labelOf (suc k) ++ (47 ∷ [])) (inner m)) (getD (plan strip) (suc k) [])
+searchedFor strip m zero = fieldAt (inner strip) 0
+searchedFor strip m (suc k) = Option·getD (findText (labelOf (suc k) ++ (47 ∷ [])) (inner m)) (fieldAt (inner strip) (suc k))
 
 abbrev pub searchedAs : List ℕ → List ℕ → List ℕ
 searchedAs strip m = messageOf (fieldsFrom (searchedFor strip m) 0 9)
@@ -108,6 +110,6 @@ searchedAs strip m = messageOf (fieldsFrom (searchedFor strip m) 0 9)
 abbrev pub searches : Updater
 searches =
     record {
-      answer = λ strip s m out. copiedAs (updateOf strip s m (length out)) (searchedAs strip m);
-      output = λ strip s m out. copyAs (updateOf strip s m (length out)) (searchedAs strip m) out;
+      answer = λ strip held m out. copiedAs (updateOf strip held m (length out)) (searchedAs strip m);
+      output = λ strip held m out. copyAs (updateOf strip held m (length out)) (searchedAs strip m) out;
     }

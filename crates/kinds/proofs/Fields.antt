@@ -1,27 +1,21 @@
--- The fields of the message types: the entries of a CHG, the first field, and as many forms as there are fields. Assumes nothing.
-use Prim.Native.Nat.{ℕ, zero, suc, _-_, _≤_}
+-- The fields of the message types: the entries of a CHG, as many forms as there are fields, and tests of every type and count. Assumes nothing.
+use Prim.Native.Nat.{ℕ, zero, suc, _+_, _-_, _≤_, _<_}
 use mathlib.Core.Path.{_≡_, refl, sym, ap, _∙_}
-use mathlib.Core.Bool.{Bool, true, false, cond}
+use mathlib.Core.Bool.{Bool, true, false}
 use mathlib.Core.List.{List, [], _∷_, _++_}
 use native.Mathlib.Omega.{arith}
-use borrow.Author.Tests.{eqb-true, eqb-false}
-use lib.Dec.{eqb}
-use lib.ListN.{length, getD, List·getD-eq-default}
-use Rattle.kinds.specs.Kinds.{leastOf, greatestOf, entries, formsOf, formAt}
+use borrow.Author.Tests.{eqb-true, eqb-false, leb-true}
+use lib.Dec.{eqb, leb}
+use lib.ListN.{length, getD, length-append, List·getD-eq-default}
+use Rattle.text.specs.Words.{all}
+use Rattle.text.proofs.Tests.{both}
+use Rattle.kinds.specs.Kinds.{leastOf, greatestOf, entries, formsOf, formAt, RowFor, typesRead}
 use Rattle.kinds.specs.Kinds.{planForms, briefForms, requestForms, arrivalForms, divertedForms, supplementForms}
 use Rattle.kinds.specs.declared.MessageType.{MessageType}
-use Rattle.kinds.specs.declared.MessageType.the-variants.{Fpl, Chg, Cnl, Dla, Dep, Arr, Rqp, Rqs, Spl}
+use Rattle.kinds.specs.declared.MessageType.the-variants.{Chg}
 use Rattle.kinds.specs.declared.Form.{Form}
 use Rattle.kinds.specs.declared.Form.the-variants.{Field3, Field22}
-
--- A PLACE that is none of 0 to 4, and then none of 5 to 8
-
-module _ (j : ℕ) where
-  pub from-five : (j ≡ 0 → ⊥) → (j ≡ 1 → ⊥) → (j ≡ 2 → ⊥) → (j ≡ 3 → ⊥) → (j ≡ 4 → ⊥) → 5 ≤ j
-  from-five a b c d e = omega arith
-
-  pub from-nine : 5 ≤ j → (j ≡ 5 → ⊥) → (j ≡ 6 → ⊥) → (j ≡ 7 → ⊥) → (j ≡ 8 → ⊥) → 9 ≤ j
-  from-nine h a b c d = omega arith
+use Rattle.kinds.proofs.Names.{each}
 
 -- ENTRIES
 
@@ -40,69 +34,50 @@ pub change-at : (n j : ℕ) → formAt Chg n j ≡ getD briefForms j Field22
 unfolding formAt formsOf
 change-at n j = entries-behind briefForms (n - 5) j
 
-pub entry-at : (n j : ℕ) → 5 ≤ j → formAt Chg n j ≡ Field22
-unfolding briefForms
-entry-at n j h = change-at n j ∙ List·getD-eq-default briefForms Field22 h
+-- as the code has a row: entries up to the tenth
+row-at : (fs : List Form) (k j : ℕ) → j < length (fs ++ entries k) → getD (fs ++ entries k) j Field3 ≡ getD fs j Field22
+row-at [] zero j h = absurd (omega arith)
+row-at [] (suc k) zero h = refl
+row-at [] (suc k) (suc j) h = row-at [] k j (omega arith)
+row-at (f ∷ fs) k zero h = refl
+row-at (f ∷ fs) k (suc j) h = row-at fs k j (omega arith)
 
-entries-length : (k : ℕ) → length (entries k) ≡ k
-entries-length zero = refl
-entries-length (suc k) = ap suc (entries-length k)
+pub row-of : (t : MessageType) (n : ℕ) (fs : List Form) (k : ℕ) → ((j : ℕ) → formAt t n j ≡ getD fs j Field22) → length (fs ++ entries k) ≡ 10
+    → RowFor t n (fs ++ entries k)
+row-of t n fs k e l j = (
+  λ h. row-at fs k j (omega (arith, l)) ∙ sym (e j),
+  λ h. sym (e j ∙ List·getD-eq-default fs Field22 {n = j} (omega (arith, l, length-append fs (entries k)))),
+)
 
 -- COUNTS
 
 pub least-some : (t : MessageType) → 4 ≤ leastOf t
-least-some Fpl = omega arith
-least-some Chg = omega arith
-least-some Cnl = omega arith
-least-some Dla = omega arith
-least-some Dep = omega arith
-least-some Arr = omega arith
-least-some Rqp = omega arith
-least-some Rqs = omega arith
-least-some Spl = omega arith
+unfolding typesRead
+least-some t = leb-true 4 (leastOf t) (each (λ u. leb 4 (leastOf u)) refl t)
 
-pub greatest-most : (t : MessageType) → greatestOf t ≤ 13
-greatest-most Fpl = omega arith
-greatest-most Chg = omega arith
-greatest-most Cnl = omega arith
-greatest-most Dla = omega arith
-greatest-most Dep = omega arith
-greatest-most Arr = omega arith
-greatest-most Rqp = omega arith
-greatest-most Rqs = omega arith
-greatest-most Spl = omega arith
+-- A TEST OF EVERY TYPE AND COUNT, computed, holds for a count that a type allows
 
--- of a message with a count that its type allows, there are as many forms as fields
+abbrev pub from : ℕ → ℕ → List ℕ
+from a zero = []
+from a (suc k) = a ∷ from (suc a) k
+
+test-from : (P : ℕ → Bool) (a k n : ℕ) → all P (from a k) ≡ true → a ≤ n → n < a + k → P n ≡ true
+test-from P a zero n h l g = absurd (omega arith)
+test-from P a (suc k) n h l g =
+    let b = both (P a) (all P (from (suc a) k)) h in
+    go (λ i. test-from P (suc a) k n (b .1) i (omega arith)) (b .0) (eqb a n) refl
+  where
+    go : (suc a ≤ n → P n ≡ true) → P a ≡ true → (b : Bool) → eqb a n ≡ b → P n ≡ true
+    go ih p true e = ap P (sym (eqb-true a n e)) ∙ p
+    go ih p false e = let d = eqb-false a n e in ih (omega arith)
+
+abbrev pub allCounts : (MessageType → ℕ → Bool) → MessageType → Bool
+allCounts P t = all (P t) (from (leastOf t) (suc (greatestOf t - leastOf t)))
+
+pub each-count : (P : MessageType → ℕ → Bool) → all (allCounts P) typesRead ≡ true → (t : MessageType) (n : ℕ) → leastOf t ≤ n → n ≤ greatestOf t → P t n ≡ true
+each-count P h t n l g = test-from (P t) (leastOf t) (suc (greatestOf t - leastOf t)) n (each (allCounts P) h t) l (omega arith)
+
+-- there are as many forms as fields
 pub forms-length : (t : MessageType) (n : ℕ) → leastOf t ≤ n → n ≤ greatestOf t → length (formsOf t n) ≡ n
-unfolding formsOf planForms briefForms requestForms arrivalForms divertedForms supplementForms
-forms-length Fpl n l g = omega arith
-forms-length Chg n l g = omega (arith, entries-length (n - 5))
-forms-length Cnl n l g = omega arith
-forms-length Dla n l g = omega arith
-forms-length Dep n l g = omega arith
-forms-length Arr n l g = go (eqb n 4) refl
-  where
-    go : (b : Bool) → eqb n 4 ≡ b → length (cond b arrivalForms divertedForms) ≡ n
-    go true e = sym (eqb-true n 4 e)
-    go false e = let h = eqb-false n 4 e in omega arith
-forms-length Rqp n l g = omega arith
-forms-length Rqs n l g = omega arith
-forms-length Spl n l g = omega arith
-
--- THE FIRST FIELD is field 3, whatever the type
-
-pub first-form : (t : MessageType) (n : ℕ) → formAt t n 0 ≡ Field3
-unfolding formAt formsOf planForms briefForms requestForms arrivalForms divertedForms supplementForms
-first-form Fpl n = refl
-first-form Chg n = refl
-first-form Cnl n = refl
-first-form Dla n = refl
-first-form Dep n = refl
-first-form Arr n = go (eqb n 4)
-  where
-    go : (b : Bool) → getD (cond b arrivalForms divertedForms) 0 Field22 ≡ Field3
-    go true = refl
-    go false = refl
-first-form Rqp n = refl
-first-form Rqs n = refl
-first-form Spl n = refl
+unfolding typesRead formsOf planForms briefForms requestForms arrivalForms divertedForms supplementForms
+forms-length t n l g = eqb-true (length (formsOf t n)) n (each-count (λ u k. eqb (length (formsOf u k)) k) refl t n l g)

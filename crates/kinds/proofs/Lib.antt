@@ -1,2 +1,3 @@
-pub mod Fields
 pub mod Names
+pub mod Fields
+pub mod Roles

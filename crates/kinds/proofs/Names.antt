@@ -8,8 +8,8 @@ use native.Mathlib.Omega.{arith}
 use borrow.Author.Tests.{eqb-true, not-false}
 use lib.Dec.{eqb}
 use lib.ListN.{length, getD, List·getD-append}
-use Rattle.text.specs.Words.{Word, same, elem, rankFrom, rank}
-use Rattle.text.proofs.Tests.{same-eq, of-elem, rank-elem}
+use Rattle.text.specs.Words.{Word, same, elem, all, rankFrom, rank}
+use Rattle.text.proofs.Tests.{both, same-eq, of-elem, rank-elem}
 use Rattle.head.specs.Field3.{types}
 use Rattle.kinds.specs.Kinds.{nameOf, typesRead, namesNotRead, typeRanked, typeNamed}
 use Rattle.kinds.specs.declared.MessageType.{MessageType}
@@ -21,6 +21,12 @@ use Rattle.kinds.specs.declared.Named.the-variants.{Read, NotRead, NoTyp
 pub standard : types ≡ map nameOf typesRead ++ namesNotRead
 unfolding types typesRead namesNotRead
 standard = refl
+
+-- the type of a rank, as the code has it
+pub ranked-read : (ts : List MessageType) (i : ℕ) → i < length ts → Read (getD ts i Fpl) ≡ getD (map Read ts) i NotRead
+ranked-read [] i h = absurd (omega arith)
+ranked-read (x ∷ ts) zero h = refl
+ranked-read (x ∷ ts) (suc i) h = ranked-read ts i (omega arith)
 
 -- A TYPE THAT IS READ is named by its own three letters
 
@@ -36,7 +42,26 @@ name-read Rqp = refl
 name-read Rqs = refl
 name-read Spl = refl
 
--- and by nothing else
+-- two types with one name are one type
+pub name-one : (t u : MessageType) → nameOf t ≡ nameOf u → t ≡ u
+name-one t u e = let h : Read t ≡ Read u = sym (name-read t) ∙ ap typeNamed e ∙ name-read u in cc
+
+-- A TEST OF EVERY TYPE, computed over the list of those that are read, holds for a type
+
+test-at : (P : MessageType → Bool) (t : MessageType) (ts : List MessageType) (i : ℕ) → all P ts ≡ true → getD (map Read ts) i NotRead ≡ Read t → P t ≡ true
+test-at P t [] i h e = let z : _≡_ {A = ℕ} 0 1 = cc in absurd (omega arith)
+test-at P t (x ∷ ts) zero h e = let q : x ≡ t = cc in ap P (sym q) ∙ both (P x) (all P ts) h .0
+test-at P t (x ∷ ts) (suc i) h e = test-at P t ts i (both (P x) (all P ts) h .1) e
+
+pub each : (P : MessageType → Bool) → all P typesRead ≡ true → (t : MessageType) → P t ≡ true
+unfolding typeNamed typeRanked
+each P h t = go (rank (nameOf t) types) (name-read t)
+  where
+    go : (r : ℕ) → getD (NoType ∷ map Read typesRead) r NotRead ≡ Read t → P t ≡ true
+    go zero e = let z : _≡_ {A = ℕ} 0 1 = cc in absurd (omega arith)
+    go (suc i) e = test-at P t typesRead i h e
+
+-- OTHER BYTES name no type that is read
 
 -- a word that has a rank stands at that rank
 ranked : (k : ℕ) (w : Word) (vs : List Word) → 0 < rankFrom (suc k) w vs → (k < rankFrom (suc k) w vs) × (w ≡ getD vs (rankFrom (suc k) w vs - suc k) [])

@@ -1,8 +1,6 @@
-// The message types: their names, their fields in order, their least and greatest counts.
+// The message types: their names, their fields in order, their least and greatest counts, and what they do to a strip.
 ghost use mathlib.Core.Path.{_≡_};
-ghost use lib.ListN.{getD};
-ghost use Rattle.kinds.specs.Kinds.{leastOf, greatestOf, formsOf, formAt, numberOf, typeRanked, typeNamed};
-ghost use Rattle.kinds.specs.Kinds.{planForms, briefForms, requestForms, arrivalForms, divertedForms, supplementForms};
+ghost use Rattle.kinds.specs.Kinds.{leastOf, greatestOf, roleOf, RowFor, formAt, numberOf, typeRanked, typeNamed};
 
 // The types that are read.
 pub enum MessageType {
@@ -15,6 +13,17 @@ pub enum MessageType {
     Rqp,
     Rqs,
     Spl,
+}
+
+// What a message does to a strip: it files the plan that the strip holds, changes it, delays the flight and so on, or does nothing to it.
+pub enum Role {
+    Files,
+    Changes,
+    Delays,
+    Cancels,
+    Departs,
+    Arrives,
+    Neither,
 }
 
 // The forms of the fields. In Field13Open the time may be absent; Field16Plan has an elapsed time and alternates; Field22 is one entry.
@@ -35,12 +44,121 @@ pub enum Form {
     Field22,
 }
 
+// WHERE A FIELD STANDS, counted from 0
+
+// In an FPL.
+pub const PLAN_7: usize = 1;
+
+pub const PLAN_8: usize = 2;
+
+pub const PLAN_9: usize = 3;
+
+pub const PLAN_10: usize = 4;
+
+pub const PLAN_13: usize = 5;
+
+pub const PLAN_15: usize = 6;
+
+pub const PLAN_16: usize = 7;
+
+pub const PLAN_18: usize = 8;
+
+// In the types that update a strip; in an ARR without field 16, 17 stands in its place. A CHG's entries begin behind field 18.
+pub const BRIEF_7: usize = 1;
+
+pub const BRIEF_13: usize = 2;
+
+pub const BRIEF_16: usize = 3;
+
+pub const FIRST_ENTRY: usize = 5;
+
 // What three bytes name: a type that is read, a standard type that is not read, or none.
 pub enum Named {
     Read(MessageType),
     NotRead,
     NoType,
 }
+
+// THE FORMS OF EACH TYPE'S FIELDS, in order
+
+const PLAN_ROW: [Form; 10] = [
+    Form::Field3,
+    Form::Field7,
+    Form::Field8,
+    Form::Field9,
+    Form::Field10,
+    Form::Field13,
+    Form::Field15,
+    Form::Field16Plan,
+    Form::Field18,
+    Form::Field22,
+];
+
+// CNL, DLA, DEP, RQS, and CHG, where entries follow.
+const BRIEF_ROW: [Form; 10] = [
+    Form::Field3,
+    Form::Field7,
+    Form::Field13,
+    Form::Field16,
+    Form::Field18,
+    Form::Field22,
+    Form::Field22,
+    Form::Field22,
+    Form::Field22,
+    Form::Field22,
+];
+
+const REQUEST_ROW: [Form; 10] = [
+    Form::Field3,
+    Form::Field7,
+    Form::Field13Open,
+    Form::Field16,
+    Form::Field18,
+    Form::Field22,
+    Form::Field22,
+    Form::Field22,
+    Form::Field22,
+    Form::Field22,
+];
+
+const ARRIVAL_ROW: [Form; 10] = [
+    Form::Field3,
+    Form::Field7,
+    Form::Field13,
+    Form::Field17,
+    Form::Field22,
+    Form::Field22,
+    Form::Field22,
+    Form::Field22,
+    Form::Field22,
+    Form::Field22,
+];
+
+const DIVERTED_ROW: [Form; 10] = [
+    Form::Field3,
+    Form::Field7,
+    Form::Field13,
+    Form::Field16,
+    Form::Field17,
+    Form::Field22,
+    Form::Field22,
+    Form::Field22,
+    Form::Field22,
+    Form::Field22,
+];
+
+const SUPPLEMENT_ROW: [Form; 10] = [
+    Form::Field3,
+    Form::Field7,
+    Form::Field13,
+    Form::Field16Plan,
+    Form::Field18,
+    Form::Field19,
+    Form::Field22,
+    Form::Field22,
+    Form::Field22,
+    Form::Field22,
+];
 
 impl MessageType {
     // The most fields that a message of any type may have.
@@ -78,21 +196,48 @@ impl MessageType {
         }
     }
 
+    pub fn role(self) -> Role
+        ensures { λ r. ⌜ r ≡ roleOf self ⌝ }
+    {
+        match self {
+            MessageType::Fpl => Role::Files,
+            MessageType::Chg => Role::Changes,
+            MessageType::Cnl => Role::Cancels,
+            MessageType::Dla => Role::Delays,
+            MessageType::Dep => Role::Departs,
+            MessageType::Arr => Role::Arrives,
+            MessageType::Rqp => Role::Neither,
+            MessageType::Rqs => Role::Neither,
+            MessageType::Spl => Role::Neither,
+        }
+    }
+
+    // The forms of the first ten fields of a message with `count` fields; behind the last one stand entries.
+    fn row(self, count: usize) -> [Form; 10]
+        ensures { λ r. ⌜ RowFor self count r ⌝ }
+    {
+        match self {
+            MessageType::Fpl => PLAN_ROW,
+            MessageType::Chg => BRIEF_ROW,
+            MessageType::Cnl => BRIEF_ROW,
+            MessageType::Dla => BRIEF_ROW,
+            MessageType::Dep => BRIEF_ROW,
+            MessageType::Arr => arrival_row(count),
+            MessageType::Rqp => REQUEST_ROW,
+            MessageType::Rqs => BRIEF_ROW,
+            MessageType::Spl => SUPPLEMENT_ROW,
+        }
+    }
+
     // The form of field j, counted from 0, of a message with `count` fields.
     pub fn form_at(self, count: usize, j: usize) -> Form
         ensures { λ r. ⌜ r ≡ formAt self count j ⌝ }
     {
-        match self {
-            MessageType::Fpl => plan_form(j),
-            MessageType::Chg => brief_form(j),
-            MessageType::Cnl => brief_form(j),
-            MessageType::Dla => brief_form(j),
-            MessageType::Dep => brief_form(j),
-            MessageType::Arr => arrival_form(count, j),
-            MessageType::Rqp => request_form(j),
-            MessageType::Rqs => brief_form(j),
-            MessageType::Spl => supplement_form(j),
+        let row = self.row(count);
+        if j < 10 {
+            return row[j];
         }
+        Form::Field22
     }
 }
 
@@ -120,119 +265,41 @@ impl Form {
     }
 }
 
-// FPL.
-fn plan_form(j: usize) -> Form
-    ensures { λ r. ⌜ r ≡ getD planForms j Form.Field22 ⌝ }
-{
-    match j {
-        0 => Form::Field3,
-        1 => Form::Field7,
-        2 => Form::Field8,
-        3 => Form::Field9,
-        4 => Form::Field10,
-        5 => Form::Field13,
-        6 => Form::Field15,
-        7 => Form::Field16Plan,
-        8 => Form::Field18,
-        _ => Form::Field22,
-    }
-}
-
-// CNL, DLA, DEP, RQS, and CHG, where entries follow.
-fn brief_form(j: usize) -> Form
-    ensures { λ r. ⌜ r ≡ getD briefForms j Form.Field22 ⌝ }
-{
-    match j {
-        0 => Form::Field3,
-        1 => Form::Field7,
-        2 => Form::Field13,
-        3 => Form::Field16,
-        4 => Form::Field18,
-        _ => Form::Field22,
-    }
-}
-
-// RQP.
-fn request_form(j: usize) -> Form
-    ensures { λ r. ⌜ r ≡ getD requestForms j Form.Field22 ⌝ }
-{
-    match j {
-        0 => Form::Field3,
-        1 => Form::Field7,
-        2 => Form::Field13Open,
-        3 => Form::Field16,
-        4 => Form::Field18,
-        _ => Form::Field22,
-    }
-}
-
 // ARR, where field 16 is absent if there are four fields.
-fn arrival_form(count: usize, j: usize) -> Form
-    ensures { λ r. ⌜ r ≡ getD (formsOf MessageType.Arr count) j Form.Field22 ⌝ }
+fn arrival_row(count: usize) -> [Form; 10]
+    ensures { λ r. ⌜ RowFor MessageType.Arr count r ⌝ }
 {
     if count == 4 {
-        return arrived_form(j);
+        return ARRIVAL_ROW;
     }
-    diverted_form(j)
+    DIVERTED_ROW
 }
 
-fn arrived_form(j: usize) -> Form
-    ensures { λ r. ⌜ r ≡ getD arrivalForms j Form.Field22 ⌝ }
-{
-    match j {
-        0 => Form::Field3,
-        1 => Form::Field7,
-        2 => Form::Field13,
-        3 => Form::Field17,
-        _ => Form::Field22,
-    }
-}
-
-fn diverted_form(j: usize) -> Form
-    ensures { λ r. ⌜ r ≡ getD divertedForms j Form.Field22 ⌝ }
-{
-    match j {
-        0 => Form::Field3,
-        1 => Form::Field7,
-        2 => Form::Field13,
-        3 => Form::Field16,
-        4 => Form::Field17,
-        _ => Form::Field22,
-    }
-}
-
-// SPL.
-fn supplement_form(j: usize) -> Form
-    ensures { λ r. ⌜ r ≡ getD supplementForms j Form.Field22 ⌝ }
-{
-    match j {
-        0 => Form::Field3,
-        1 => Form::Field7,
-        2 => Form::Field13,
-        3 => Form::Field16Plan,
-        4 => Form::Field18,
-        5 => Form::Field19,
-        _ => Form::Field22,
-    }
-}
+// The types that are read, in the order of the standard types.
+const TYPES_READ: [MessageType; 9] = [
+    MessageType::Fpl,
+    MessageType::Chg,
+    MessageType::Cnl,
+    MessageType::Dla,
+    MessageType::Dep,
+    MessageType::Arr,
+    MessageType::Rqp,
+    MessageType::Rqs,
+    MessageType::Spl,
+];
 
 // The type of a rank among the standard types.
 fn type_ranked(k: usize) -> Named
     ensures { λ r. ⌜ r ≡ typeRanked k ⌝ }
 {
-    match k {
-        0 => Named::NoType,
-        1 => Named::Read(MessageType::Fpl),
-        2 => Named::Read(MessageType::Chg),
-        3 => Named::Read(MessageType::Cnl),
-        4 => Named::Read(MessageType::Dla),
-        5 => Named::Read(MessageType::Dep),
-        6 => Named::Read(MessageType::Arr),
-        7 => Named::Read(MessageType::Rqp),
-        8 => Named::Read(MessageType::Rqs),
-        9 => Named::Read(MessageType::Spl),
-        _ => Named::NotRead,
+    if k == 0 {
+        return Named::NoType;
     }
+    let read = TYPES_READ;
+    if k <= 9 {
+        return Named::Read(read[k - 1]);
+    }
+    Named::NotRead
 }
 
 // The type that the three bytes behind ( name.

@@ -21,7 +21,8 @@ use Rattle.message.specs.Message.{Message, sentContents, spelling, valid
 use Rattle.message.proofs.Written.{spelled-message, written-all}
 use Rattle.message.proofs.Reached.{Reached, reached-accepted, accepted-taken}
 use Rattle.message.proofs.Valid.{Fitting, filled, fitting-forms, fitting-length, filled-from, filled-contents, filled-valid}
-use Rattle.message.proofs.Valid.{fitting-contents, fitting-reached, valid-fitting, valid-from, name-one}
+use Rattle.message.proofs.Valid.{fitting-contents, fitting-reached, valid-fitting, valid-from}
+use Rattle.kinds.proofs.Names.{name-one}
 use Rattle.message.proofs.Valid.{reached-passed, reached-fitting}
 
 -- WHAT IS WRITTEN of contents that fit is the spelling of their record

@@ -2,55 +2,60 @@
 -- same record; two records are equal exactly where their spellings are. Assumes nothing.
 use Prim.Native.Nat.{ℕ, _≤_, _<_}
 use mathlib.Core.Path.{_≡_, refl, sym, ap, _∙_}
-use mathlib.Core.Bool.{true}
+use mathlib.Core.Bool.{Bool, true, false, _||_, not, false≢true}
 use mathlib.Core.List.{List, [], _∷_}
 use native.Mathlib.Omega.{arith}
+use lib.Dec.{eqb}
 use lib.ListN.{length, take, getD, length-append}
 use Rattle.text.specs.Words.{Word, join, all, tidy}
+use Rattle.text.proofs.Tests.{and-both}
 use Rattle.space.specs.Reduced.{reduced}
 use Rattle.sent.specs.Sent.{messageOf, contents}
 use Rattle.sent.proofs.Sent.{sent-contents, sent-longer, spelling-stays}
 use Rattle.kinds.specs.declared.MessageType.{MessageType}
-use Rattle.kinds.specs.declared.MessageType.the-variants.{Fpl, Chg, Cnl, Dla, Dep, Arr, Rqp, Rqs, Spl}
+use Rattle.kinds.specs.declared.MessageType.the-variants.{Fpl}
 use Rattle.kinds.specs.declared.Form.{Form}
-use Rattle.kinds.specs.declared.Form.the-variants.{Field3, Field22}
-use Rattle.kinds.specs.Kinds.{formsOf, planForms, formAt}
-use Rattle.kinds.proofs.Fields.{first-form}
+use Rattle.kinds.specs.declared.Form.the-variants.{Field19}
+use Rattle.kinds.specs.Kinds.{leastOf, greatestOf, typesRead, formsOf, numberOf}
+use Rattle.kinds.specs.Kinds.{planForms, briefForms, requestForms, arrivalForms, divertedForms, supplementForms}
+use Rattle.kinds.proofs.Fields.{each-count}
 use Rattle.records.specs.Records.{Records, contentsOf, validAll, canonicalAll}
 use Rattle.records.proofs.Records.{all-taken, all-kept, all-settled, all-shorter}
-use Rattle.forms.specs.Forms.{writtenOf}
 use Rattle.message.specs.declared.Answer.the-variants.{Accepted}
-use Rattle.message.specs.Reading.{spellingOf, answerOf}
+use Rattle.message.specs.Reading.{isPlan, unexplainedIn, spellingOf, answerOf}
 use Rattle.message.specs.Message.{Message, fieldsOf, sentContents, canonicalMessage, spelling, ranksIn, noneTwice, explained, validMessage, SentAs}
 use Rattle.message.specs.Message.{messageFrom, recordIn}
+use Rattle.message.proofs.Plans.{plan-type}
 use Rattle.message.proofs.Written.{laws-all, writtenAll, written-all, ranks-stay, all-stay}
 use Rattle.message.proofs.Valid.{Fitting, fitting-forms, fitting-length, fitting-tidy, fitting-some, fitting-valid, valid-fields, valid-fitting}
 use Rattle.message.proofs.Accepted.{accepted-record, record-from, record-spelling, record-accepted, contents-one}
 
 -- WHAT WRITING KEEPS
 
--- the first field, where it is field 3
-first-stays : (fs : List Form) (cs : List Word) → getD fs 0 Field22 ≡ Field3 → getD (writtenAll fs cs) 0 [] ≡ getD cs 0 []
-first-stays [] cs e = let z : _≡_ {A = ℕ} 0 1 = cc in absurd (omega arith)
+-- the first field, where it is not field 19
+first-stays : (fs : List Form) (cs : List Word) → not (eqb (numberOf (getD fs 0 Field19)) 19) ≡ true → getD (writtenAll fs cs) 0 [] ≡ getD cs 0 []
+first-stays [] cs e = absurd (false≢true e)
 first-stays (f ∷ fs) [] e = refl
-first-stays (f ∷ fs) (c ∷ cs) e = ap (λ (g : Form). writtenOf g c) e
+first-stays (f ∷ fs) (c ∷ cs) e = ap (λ (ws : List Word). getD ws 0 []) (all-stay (f ∷ []) (c ∷ []) refl (and-both _ true e refl))
 
-type-stays : (t : MessageType) (n : ℕ) (cs : List Word) → getD (writtenAll (formsOf t n) cs) 0 [] ≡ getD cs 0 []
-unfolding formAt
-type-stays t n cs = first-stays (formsOf t n) cs (first-form t n)
+type-stays : (t : MessageType) (n : ℕ) (cs : List Word) → leastOf t ≤ n → n ≤ greatestOf t → getD (writtenAll (formsOf t n) cs) 0 [] ≡ getD cs 0 []
+unfolding typesRead formsOf planForms briefForms requestForms arrivalForms divertedForms supplementForms
+type-stays t n cs l g =
+    first-stays (formsOf t n) cs (each-count (λ u k. not (eqb (numberOf (getD (formsOf u k) 0 Field19)) 19)) refl t n l g)
 
 -- what an FPL explains: it has no field 19
-explained-stays : (t : MessageType) (n : ℕ) (cs : List Word) → length (formsOf t n) ≡ length cs → explained t (writtenAll (formsOf t n) cs) ≡ explained t cs
+plan-kept : (n : ℕ) → all (λ f. not (eqb (numberOf f) 19)) (formsOf Fpl n) ≡ true
 unfolding formsOf planForms
-explained-stays Fpl n cs l = ap (explained Fpl) (all-stay planForms cs l refl)
-explained-stays Chg n cs l = refl
-explained-stays Cnl n cs l = refl
-explained-stays Dla n cs l = refl
-explained-stays Dep n cs l = refl
-explained-stays Arr n cs l = refl
-explained-stays Rqp n cs l = refl
-explained-stays Rqs n cs l = refl
-explained-stays Spl n cs l = refl
+plan-kept n = refl
+
+explained-stays : (t : MessageType) (n : ℕ) (cs : List Word) → length (formsOf t n) ≡ length cs → explained t (writtenAll (formsOf t n) cs) ≡ explained t cs
+explained-stays t n cs l = go (isPlan t) refl
+  where
+    go : (b : Bool) → isPlan t ≡ b → (not b || eqb (unexplainedIn (writtenAll (formsOf t n) cs)) 0) ≡ (not b || eqb (unexplainedIn cs) 0)
+    go true q =
+        let kept = ap (λ (u : MessageType). all (λ f. not (eqb (numberOf f) 19)) (formsOf u n)) (plan-type t q) ∙ plan-kept n in
+        ap (λ (ws : List Word). eqb (unexplainedIn ws) 0) (all-stay (formsOf t n) cs l kept)
+    go false q = refl
 
 -- THE CANONICAL RECORD
 
@@ -86,7 +91,7 @@ module _ (M : Message) (v : validMessage M ≡ true) where
         least = f .least;
         most = f .most;
         fit = all-taken (fieldsOf t n) (laws-all (formsOf t n)) (canonicalMessage M .fields) canonical-fields .0;
-        named = ap (λ (ws : List Word). take 3 (getD ws 0 [])) e ∙ ap (take 3) (type-stays t n cs) ∙ f .named;
+        named = ap (λ (ws : List Word). take 3 (getD ws 0 [])) e ∙ ap (take 3) (type-stays t n cs (f .least) (f .most)) ∙ f .named;
         once = ap (λ (ws : List Word). noneTwice (ranksIn (formsOf t n) ws)) e ∙ ap noneTwice (ranks-stay (formsOf t n) cs) ∙ f .once;
         explains = ap (explained t) e ∙ explained-stays t n cs (fitting-forms t n cs f ∙ sym (fitting-length t n cs f)) ∙ f .explains;
       }

@@ -1,7 +1,7 @@
 -- The answers, as the code comes to them: of each number its answer, and what the output then holds. Assumes nothing.
 use Prim.Native.Nat.{ℕ, suc, _-_, _<_, _≤_}
 use mathlib.Core.Path.{_≡_, refl, sym, ap, ap₂, _∙_}
-use mathlib.Core.Bool.{Bool, true, false, cond, false≢true}
+use mathlib.Core.Bool.{Bool, true, false, cond}
 use mathlib.Core.List.{List, [], _∷_}
 use native.Mathlib.Omega.{arith}
 use lib.Dec.{eqb}
@@ -21,9 +21,8 @@ use Rattle.outer.specs.declared.Outer.the-variants.{Good}
 use Rattle.outer.specs.Outer.{outer, Passed}
 use Rattle.outer.proofs.Good.{good-passed}
 use Rattle.kinds.specs.declared.MessageType.{MessageType}
-use Rattle.kinds.specs.declared.MessageType.the-variants.{Fpl, Chg, Cnl, Dla, Dep, Arr, Rqp, Rqs, Spl}
 use Rattle.kinds.specs.declared.Named.{Named}
-use Rattle.kinds.specs.Kinds.{leastOf, greatestOf, planForms, formsOf, formAt, numberOf, typeNamed}
+use Rattle.kinds.specs.Kinds.{leastOf, greatestOf, formsOf, formAt, numberOf, typeNamed}
 use Rattle.kinds.proofs.Fields.{forms-length}
 use Rattle.message.specs.declared.Fault.{Fault}
 use Rattle.message.specs.declared.Fault.the-variants.{Clear, At}
@@ -45,10 +44,6 @@ told due answer m out after e w = (sym e, w ∙ ap (λ (a : Answer). writtenAs a
 pub passed-on : (due there answer : Answer) (m out after : List ℕ) → due ≡ there → Due there m out answer after → Due due m out answer after
 passed-on due there answer m out after e d = (d .0 ∙ sym e, d .1 ∙ ap (λ (a : Answer). writtenAs a m out) (sym e))
 
-nine-forms : (n : ℕ) → length (formsOf Fpl n) ≡ 9
-unfolding formsOf planForms
-nine-forms n = refl
-
 -- NUMBERS 10 AND 11
 
 module _ (t : MessageType) (m : List ℕ) (count : ℕ) (s : List ℕ) (k : Counted t m count s) where
@@ -66,20 +61,6 @@ module _ (t : MessageType) (m : List ℕ) (count : ℕ) (s : List ℕ) (k : Coun
 
   pub contents-are : split 45 s ≡ contents m
   contents-are = ap (split 45) (k .text-is)
-
-  pub plan-nine : isPlan t ≡ true → length (split 45 s) ≡ 9
-  plan-nine p = sym (k .even) ∙ nine t p
-    where
-      nine : (u : MessageType) → isPlan u ≡ true → length (formsOf u count) ≡ 9
-      nine Fpl q = nine-forms count
-      nine Chg q = absurd (false≢true q)
-      nine Cnl q = absurd (false≢true q)
-      nine Dla q = absurd (false≢true q)
-      nine Dep q = absurd (false≢true q)
-      nine Arr q = absurd (false≢true q)
-      nine Rqp q = absurd (false≢true q)
-      nine Rqs q = absurd (false≢true q)
-      nine Spl q = absurd (false≢true q)
 
   pub left-unexplained : (room field : ℕ) → isPlan t ≡ true → field ≡ unexplainedIn (split 45 s) → (field ≡ 0 → ⊥)
       → faultAs Clear t m room ≡ Refused 10 field (placeOfHyphen (placeInPlan field) m)

@@ -19,11 +19,10 @@ use Rattle.sent.proofs.Sent.{sent-contents, sent-count, sent-three, sent-good}
 use Rattle.outer.specs.Outer.{Passed}
 use Rattle.outer.proofs.Good.{good-passed}
 use Rattle.kinds.specs.declared.MessageType.{MessageType}
-use Rattle.kinds.specs.declared.MessageType.the-variants.{Fpl, Chg, Cnl, Dla, Dep, Arr, Rqp, Rqs, Spl}
 use Rattle.kinds.specs.declared.Named.the-variants.{Read}
-use Rattle.kinds.specs.Kinds.{leastOf, greatestOf, formsOf, nameOf, typeNamed}
+use Rattle.kinds.specs.Kinds.{leastOf, greatestOf, formsOf, nameOf, typesRead, typeNamed}
 use Rattle.kinds.proofs.Fields.{least-some, forms-length}
-use Rattle.kinds.proofs.Names.{name-read, read-name}
+use Rattle.kinds.proofs.Names.{name-read, read-name, each}
 use Rattle.records.specs.Records.{Records, validAll, fitAll, recordsOf}
 use Rattle.records.proofs.Records.{all-spelled, all-taken, all-tidy}
 use Rattle.forms.specs.Forms.{fieldOf}
@@ -37,30 +36,12 @@ use Rattle.message.proofs.Reached.{Reached}
 -- NAMES: three letters
 
 pub name-long : (t : MessageType) → length (nameOf t) ≡ 3
-name-long Fpl = refl
-name-long Chg = refl
-name-long Cnl = refl
-name-long Dla = refl
-name-long Dep = refl
-name-long Arr = refl
-name-long Rqp = refl
-name-long Rqs = refl
-name-long Spl = refl
+unfolding typesRead
+name-long t = eqb-true (length (nameOf t)) 3 (each (λ u. eqb (length (nameOf u)) 3) refl t)
 
 pub name-letters : (t : MessageType) → all letter (nameOf t) ≡ true
-name-letters Fpl = refl
-name-letters Chg = refl
-name-letters Cnl = refl
-name-letters Dla = refl
-name-letters Dep = refl
-name-letters Arr = refl
-name-letters Rqp = refl
-name-letters Rqs = refl
-name-letters Spl = refl
-
--- two types with one name are one type
-pub name-one : (t u : MessageType) → nameOf t ≡ nameOf u → t ≡ u
-name-one t u e = let h : Read t ≡ Read u = sym (name-read t) ∙ ap typeNamed e ∙ name-read u in cc
+unfolding typesRead
+name-letters t = each (λ u. all letter (nameOf u)) refl t
 
 -- EXPLAINED: an FPL leaves no field unexplained, and of other types nothing is asked
 

@@ -17,11 +17,12 @@ use Rattle.outer.specs.declared.Outer.{Outer}
 use Rattle.outer.specs.declared.Outer.the-variants.{Good, Bad}
 use Rattle.outer.specs.Outer.{outer}
 use Rattle.kinds.specs.declared.MessageType.{MessageType}
-use Rattle.kinds.specs.declared.MessageType.the-variants.{Fpl, Chg, Cnl, Dla, Dep, Arr, Rqp, Rqs, Spl}
+use Rattle.kinds.specs.declared.Role.{Role}
+use Rattle.kinds.specs.declared.Role.the-variants.{Files, Changes, Delays, Cancels, Departs, Arrives, Neither}
 use Rattle.kinds.specs.declared.Form.{Form}
 use Rattle.kinds.specs.declared.Named.{Named}
 use Rattle.kinds.specs.declared.Named.the-variants.{Read, NotRead, NoType}
-use Rattle.kinds.specs.Kinds.{leastOf, greatestOf, formsOf, formAt, numberOf, typeNamed}
+use Rattle.kinds.specs.Kinds.{leastOf, greatestOf, roleOf, formsOf, formAt, numberOf, plan9, plan13, plan16, plan18, typeNamed}
 use Rattle.forms.specs.Forms.{rankIn, faultOf, writtenOf}
 use Rattle.plan.specs.Unexplained.{unexplained}
 use Rattle.message.specs.declared.Fault.{Fault}
@@ -75,23 +76,24 @@ placeOfFault number t j m = cond (eqb number 7) (placeOf7 t j m) (placeOfHyphen 
 
 -- NUMBER 10: the field of an FPL that is left unexplained; 0 for none, and in other types
 
-abbrev pub isPlan : MessageType → Bool
-isPlan Fpl = true
-isPlan Chg = false
-isPlan Cnl = false
-isPlan Dla = false
-isPlan Dep = false
-isPlan Arr = false
-isPlan Rqp = false
-isPlan Rqs = false
-isPlan Spl = false
+abbrev pub files : Role → Bool
+files Files = true
+files Changes = false
+files Delays = false
+files Cancels = false
+files Departs = false
+files Arrives = false
+files Neither = false
 
--- fields 9, 13, 16 and 18 of an FPL are its fourth, sixth, eighth and ninth
+abbrev pub isPlan : MessageType → Bool
+isPlan t = files (roleOf t)
+
+-- by the nine contents of a plan
 abbrev pub unexplainedIn : List Word → ℕ
-unexplainedIn cs = unexplained (getD cs 3 []) (getD cs 5 []) (getD cs 7 []) (getD cs 8 [])
+unexplainedIn cs = unexplained (getD cs plan9 []) (getD cs plan13 []) (getD cs plan16 []) (getD cs plan18 [])
 
 abbrev pub placeInPlan : ℕ → ℕ
-placeInPlan field = cond (eqb field 9) 3 (cond (eqb field 13) 5 7)
+placeInPlan field = cond (eqb field 9) plan9 (cond (eqb field 13) plan13 plan16)
 
 -- THE ANSWER
 

@@ -33,6 +33,7 @@ ghost use Rattle.message.specs.Reading.{
 use kinds::Form;
 use kinds::MessageType;
 use kinds::Named;
+use kinds::Role;
 use outer::Outer;
 use text::Cursor;
 
@@ -130,50 +131,50 @@ fn write_fields(t: MessageType, count: usize, s: &[u8], out: &mut [u8]) -> usize
     }
 }
 
-// The cursor n fields on.
-fn onward(s: &[u8], from: Cursor, n: usize) -> Cursor
+// The cursor n fields on; at the end where there are fewer.
+pub fn onward(s: &[u8], from: Cursor, n: usize) -> Cursor
     requires { ⌜ from .at ≤ length (now s) ⌝ }
     ensures { λ r. ⌜ (r .at ≤ length (now (s .entry))) × (drop (r .at) (now (s .entry)) ≡ behindHyphen n (drop (from .at) (now (s .entry)))) ⌝ }
 {
     let mut c = from;
     let mut left = n;
     while left > 0 {
+        if c.at == s.len() {
+            return c;
+        }
         c = c.next(s, b'-');
         left -= 1;
     }
     c
 }
 
-// The field of an FPL that is left unexplained, by its number; 0 for none. Fields 9, 13, 16 and 18 are the fourth, sixth, eighth and ninth.
-fn unexplained_in(s: &[u8]) -> u8
-    requires { ⌜ length (split 45 (now s)) ≡ 9 ⌝ }
-    ensures { λ r. ⌜ r ≡ unexplainedIn (split 45 (now (s .entry))) ⌝ }
+// The field of a plan that is left unexplained, by its number; 0 for none.
+pub fn unexplained_in(plan: &[u8]) -> u8
+    ensures { λ r. ⌜ r ≡ unexplainedIn (split 45 (now (plan .entry))) ⌝ }
 {
-    let nine = onward(s, Cursor { at: 0 }, 3);
-    let thirteen = onward(s, nine, 2);
-    let sixteen = onward(s, thirteen, 2);
-    let eighteen = onward(s, sixteen, 1);
+    let nine = onward(plan, Cursor { at: 0 }, kinds::PLAN_9);
+    let thirteen = onward(plan, nine, kinds::PLAN_13 - kinds::PLAN_9);
+    let sixteen = onward(plan, thirteen, kinds::PLAN_16 - kinds::PLAN_13);
+    let eighteen = onward(plan, sixteen, kinds::PLAN_18 - kinds::PLAN_16);
     plan::unexplained_field(
-        nine.part(s, b'-'),
-        thirteen.part(s, b'-'),
-        sixteen.part(s, b'-'),
-        eighteen.part(s, b'-'),
+        nine.part(plan, b'-'),
+        thirteen.part(plan, b'-'),
+        sixteen.part(plan, b'-'),
+        eighteen.part(plan, b'-'),
     )
 }
 
 pub fn is_plan(t: MessageType) -> bool
     ensures { λ r. ⌜ r ≡ isPlan t ⌝ }
 {
-    match t {
-        MessageType::Fpl => true,
-        MessageType::Chg => false,
-        MessageType::Cnl => false,
-        MessageType::Dla => false,
-        MessageType::Dep => false,
-        MessageType::Arr => false,
-        MessageType::Rqp => false,
-        MessageType::Rqs => false,
-        MessageType::Spl => false,
+    match t.role() {
+        Role::Files => true,
+        Role::Changes => false,
+        Role::Delays => false,
+        Role::Cancels => false,
+        Role::Departs => false,
+        Role::Arrives => false,
+        Role::Neither => false,
     }
 }
 
@@ -182,9 +183,13 @@ fn place_in_plan(field: u8) -> usize
     ensures { λ r. ⌜ r ≡ placeInPlan field ⌝ }
 {
     if field == 9 {
-        return 3;
+        return kinds::PLAN_9;
     }
-    if field == 13 { 5 } else { 7 }
+    if field == 13 {
+        kinds::PLAN_13
+    } else {
+        kinds::PLAN_16
+    }
 }
 
 // Whether the spelling fits so many bytes. It is never longer than the text with its parentheses, so it is measured only where these do not fit.

@@ -23,9 +23,10 @@ use Rattle.aerodromes.proofs.Asked.{named17}
 use Rattle.state.specs.declared.Departure.{Departure}
 use Rattle.state.specs.declared.State.{State}
 use Rattle.state.specs.declared.State.the-variants.{Filed, Departed, Arrived, Cancelled}
+use Rattle.state.specs.declared.Strip.{Strip}
 use Rattle.state.specs.declared.Event.{Event}
 use Rattle.state.specs.declared.Event.the-variants.{Change, Delay, Cancel, Depart, Arrive}
-use Rattle.state.specs.State.{allowedIn, departureOf, nextOf, soundClock, soundDeparture, soundLanding, sound, soundEvent}
+use Rattle.state.specs.State.{permits, departureOf, nextState, nextOf, soundClock, soundDeparture, soundLanding, soundState, sound, soundEvent}
 
 -- A TEST BEFORE ANOTHER, as the code makes them
 
@@ -39,26 +40,29 @@ second-left a b false q e n h = absurd (false≢true (sym n))
 
 -- ARRIVED AND CANCELLED allow nothing
 
-pub arrived-last : (d : Departure) (a : Aerodrome) (t : Clock) (e : Event) → allowedIn (Arrived d a t) e ≡ false
+pub arrived-last : (d : Departure) (a : Aerodrome) (t : Clock) (e : Event) → permits (Arrived d a t) e ≡ false
 arrived-last d a t e = refl
 
-pub cancelled-last : (e : Event) → allowedIn Cancelled e ≡ false
+pub cancelled-last : (e : Event) → permits Cancelled e ≡ false
 cancelled-last e = refl
 
 -- SOUND STATES STAY SOUND
 
-departure-sound : (s : State) → sound s ≡ true → soundDeparture (departureOf s) ≡ true
+departure-sound : (s : State) → soundState s ≡ true → soundDeparture (departureOf s) ≡ true
 departure-sound Filed h = refl
 departure-sound (Departed t) h = h
 departure-sound (Arrived d a t) h = both (soundDeparture d) (soundLanding a t) h .0
 departure-sound Cancelled h = refl
 
-pub next-sound : (s : State) (e : Event) → sound s ≡ true → soundEvent e ≡ true → sound (nextOf s e) ≡ true
-next-sound s Change h k = h
-next-sound s Delay h k = h
-next-sound s Cancel h k = refl
-next-sound s (Depart t) h k = k
-next-sound s (Arrive a t) h k = and-both (soundDeparture (departureOf s)) (soundLanding a t) (departure-sound s h) k
+state-sound : (s : State) (e : Event) → soundState s ≡ true → soundEvent e ≡ true → soundState (nextState s e) ≡ true
+state-sound s Change h k = h
+state-sound s Delay h k = h
+state-sound s Cancel h k = refl
+state-sound s (Depart t) h k = k
+state-sound s (Arrive a t) h k = and-both (soundDeparture (departureOf s)) (soundLanding a t) (departure-sound s h) k
+
+pub next-sound : (held : Strip) (e : Event) → sound held ≡ true → soundEvent e ≡ true → sound (nextOf held e) ≡ true
+next-sound held e h k = state-sound (held .state) e h k
 
 -- what a field may hold as a time of day is what a state may hold: hours of at most 23 are minutes of at most 1,439
 pub clock-sound : (t : Clock) → validClock t ≡ soundClock t

@@ -1,5 +1,5 @@
 -- The state of a flight (document 01, "The strip"): which messages it allows, where an accepted one leaves it, and which states a strip may be
--- handed with. Assumes nothing.
+-- handed with. What is said of a strip is said of its record whole. Assumes nothing.
 use mathlib.Core.Path.{_≡_, refl}
 use mathlib.Core.Bool.{Bool, true, false, _&&_}
 use lib.Dec.{leb}
@@ -11,6 +11,7 @@ use Rattle.state.specs.declared.Departure.{Departure}
 use Rattle.state.specs.declared.Departure.the-variants.{Known, Unknown}
 use Rattle.state.specs.declared.State.{State}
 use Rattle.state.specs.declared.State.the-variants.{Filed, Departed, Arrived, Cancelled}
+use Rattle.state.specs.declared.Strip.{Strip}
 use Rattle.state.specs.declared.Event.{Event}
 use Rattle.state.specs.declared.Event.the-variants.{Change, Delay, Cancel, Depart, Arrive}
 
@@ -23,11 +24,14 @@ allowedDeparted Cancel = false
 allowedDeparted (Depart t) = false
 allowedDeparted (Arrive a t) = true
 
-abbrev pub allowedIn : State → Event → Bool
-allowedIn Filed e = true
-allowedIn (Departed t) e = allowedDeparted e
-allowedIn (Arrived d a t) e = false
-allowedIn Cancelled e = false
+abbrev pub permits : State → Event → Bool
+permits Filed e = true
+permits (Departed t) e = allowedDeparted e
+permits (Arrived d a t) e = false
+permits Cancelled e = false
+
+abbrev pub allowedIn : Strip → Event → Bool
+allowedIn held e = permits (held .state) e
 
 -- EFFECT, on the state
 
@@ -39,12 +43,19 @@ departureOf (Arrived d a t) = d
 departureOf Cancelled = Unknown
 
 -- where an accepted message leaves the state: CHG and DLA keep it, an ARR arrives with the departure time if known
-abbrev pub nextOf : State → Event → State
-nextOf s Change = s
-nextOf s Delay = s
-nextOf s Cancel = Cancelled
-nextOf s (Depart t) = Departed t
-nextOf s (Arrive a t) = Arrived (departureOf s) a t
+abbrev pub nextState : State → Event → State
+nextState s Change = s
+nextState s Delay = s
+nextState s Cancel = Cancelled
+nextState s (Depart t) = Departed t
+nextState s (Arrive a t) = Arrived (departureOf s) a t
+
+-- what a strip holds beside its spelling: as it is filed, and after an accepted message
+abbrev pub justFiled : Strip
+justFiled = record { state = Filed }
+
+abbrev pub nextOf : Strip → Event → Strip
+nextOf held e = record { state = nextState (held .state) e }
 
 -- NUMBER 15, of the state: no time over 1,439 minutes, no aerodrome but of four letters
 
@@ -61,11 +72,14 @@ soundLanding a t = isLetters a && soundClock t
 abbrev pub soundArrival : Departure → Aerodrome → Clock → Bool
 soundArrival d a t = soundDeparture d && soundLanding a t
 
-abbrev pub sound : State → Bool
-sound Filed = true
-sound (Departed t) = soundClock t
-sound (Arrived d a t) = soundArrival d a t
-sound Cancelled = true
+abbrev pub soundState : State → Bool
+soundState Filed = true
+soundState (Departed t) = soundClock t
+soundState (Arrived d a t) = soundArrival d a t
+soundState Cancelled = true
+
+abbrev pub sound : Strip → Bool
+sound held = soundState (held .state)
 
 -- what a message brings into the state is as a state may hold it
 abbrev pub soundEvent : Event → Bool
@@ -87,17 +101,17 @@ abbrev frankfurt : Aerodrome
 frankfurt = aerodromeIn (bytes "EDDF")
 
 -- a departed flight may be changed and may arrive, and may not be delayed, cancelled or depart again
-departed-allows : (allowedIn (Departed off) Change ≡ true) × (allowedIn (Departed off) (Arrive frankfurt on) ≡ true)
-    × (allowedIn (Departed off) Delay ≡ false) × (allowedIn (Departed off) Cancel ≡ false) × (allowedIn (Departed off) (Depart on) ≡ false)
+departed-allows : (permits (Departed off) Change ≡ true) × (permits (Departed off) (Arrive frankfurt on) ≡ true)
+    × (permits (Departed off) Delay ≡ false) × (permits (Departed off) Cancel ≡ false) × (permits (Departed off) (Depart on) ≡ false)
 departed-allows = (refl, refl, refl, refl, refl)
 
 -- an arrival keeps the departure time, and has none where none is known
-departure-kept : (nextOf (nextOf Filed (Depart off)) (Arrive frankfurt on) ≡ Arrived (Known off) frankfurt on)
-    × (nextOf (nextOf Filed Delay) (Arrive frankfurt on) ≡ Arrived Unknown frankfurt on)
+departure-kept : (nextState (nextState Filed (Depart off)) (Arrive frankfurt on) ≡ Arrived (Known off) frankfurt on)
+    × (nextState (nextState Filed Delay) (Arrive frankfurt on) ≡ Arrived Unknown frankfurt on)
 departure-kept = (refl, refl)
 
 -- 1,439 is the last minute, and an aerodrome has no digit
-bounds : (sound (Departed (record { 0 = 1439 })) ≡ true) × (sound (Departed (record { 0 = 1440 })) ≡ false)
-    × (sound (Arrived (Known off) frankfurt on) ≡ true) × (sound (Arrived (Known (record { 0 = 1440 })) frankfurt on) ≡ false)
-    × (sound (Arrived Unknown frankfurt (record { 0 = 1440 })) ≡ false) × (sound (Arrived Unknown (aerodromeIn (bytes "AB1D")) on) ≡ false)
+bounds : (soundState (Departed (record { 0 = 1439 })) ≡ true) × (soundState (Departed (record { 0 = 1440 })) ≡ false)
+    × (soundState (Arrived (Known off) frankfurt on) ≡ true) × (soundState (Arrived (Known (record { 0 = 1440 })) frankfurt on) ≡ false)
+    × (soundState (Arrived Unknown frankfurt (record { 0 = 1440 })) ≡ false) × (soundState (Arrived Unknown (aerodromeIn (bytes "AB1D")) on) ≡ false)
 bounds = (refl, refl, refl, refl, refl, refl)

@@ -1,6 +1,6 @@
 // The state of a flight: what it allows, and where an accepted message leaves it.
 ghost use mathlib.Core.Path.{_≡_};
-ghost use Rattle.state.specs.State.{allowedDeparted, allowedIn, departureOf, nextOf, soundClock, soundDeparture, soundLanding, soundArrival, sound};
+ghost use Rattle.state.specs.State.{allowedDeparted, allowedIn, departureOf, nextState, nextOf, soundClock, soundDeparture, soundLanding, soundArrival, sound};
 use aerodromes::Aerodrome;
 use shape::Clock;
 
@@ -57,7 +57,7 @@ fn departed_at(s: State) -> Departure
 }
 
 fn next_state(s: State, e: Event) -> State
-    ensures { λ r. ⌜ r ≡ nextOf s e ⌝ }
+    ensures { λ r. ⌜ r ≡ nextState s e ⌝ }
 {
     match e {
         Event::Change => s,
@@ -107,7 +107,7 @@ fn is_sound_arrival(d: Departure, a: Aerodrome, t: Clock) -> bool
 impl Strip {
     // Whether the state allows the message.
     pub fn allows(self, e: Event) -> bool
-        ensures { λ r. ⌜ r ≡ allowedIn (self .state) e ⌝ }
+        ensures { λ r. ⌜ r ≡ allowedIn self e ⌝ }
     {
         let s = self.state;
         match s {
@@ -120,7 +120,7 @@ impl Strip {
 
     // The strip after an accepted message.
     pub fn next(self, e: Event) -> Strip
-        ensures { λ r. ⌜ r .state ≡ nextOf (self .state) e ⌝ }
+        ensures { λ r. ⌜ r ≡ nextOf self e ⌝ }
     {
         let s = self.state;
         let state = next_state(s, e);
@@ -129,7 +129,7 @@ impl Strip {
 
     // Whether the state holds no time over 1,439 minutes and no aerodrome but of four letters.
     pub fn is_sound(self) -> bool
-        ensures { λ r. ⌜ r ≡ sound (self .state) ⌝ }
+        ensures { λ r. ⌜ r ≡ sound self ⌝ }
     {
         let s = self.state;
         match s {

@@ -1,3 +1,4 @@
+pub mod Last
 pub mod Writing
-pub mod Steps
+pub mod Room
 pub mod Answers

@@ -7,43 +7,43 @@ use Rattle.alphabet.specs.Text.{bytes}
 use Rattle.text.specs.Words.{split}
 use Rattle.shape.specs.Time.{timeFits}
 use Rattle.kinds.specs.declared.MessageType.the-variants.{Chg, Cnl, Dla, Dep, Arr, Rqp}
+use Rattle.kinds.specs.Kinds.{roleOf}
 use Rattle.state.specs.declared.Event.the-variants.{Depart, Arrive}
 use Rattle.aerodromes.specs.Asked.{aerodromeIn}
 use Rattle.forms.specs.Field22.{labels}
 use Rattle.force.specs.InForce.{namedBy}
 use Rattle.strip.specs.declared.Offered.the-variants.{Says, Unfit}
-use Rattle.strip.specs.Updating.{eventOf, differences, differs}
-use Rattle.strip.specs.Texts.{newText}
+use Rattle.strip.specs.Updating.{eventOf, differences, differs, newStrip}
 
 abbrev filed : List ℕ
 filed = bytes "FPL-ABC12-IS-B738/M-SDFG/S-EHAM0930-N0440F310 DCT PAM DCT-EDDF0100 EDDK-0"
 
 -- a CHG replaces the fields that it names, a DLA the time in 13, a DEP nothing
-changed : newText Chg filed (bytes "CHG-ABC12-EHAM0930-EDDF-0-9/B39M/M-8/IN")
+changed : newStrip (roleOf Chg) filed (bytes "CHG-ABC12-EHAM0930-EDDF-0-9/B39M/M-8/IN")
     ≡ bytes "(FPL-ABC12-IN-B39M/M-SDFG/S-EHAM0930-N0440F310 DCT PAM DCT-EDDF0100 EDDK-0)"
-unfolding newText namedBy labels
+unfolding newStrip namedBy labels
 changed = refl
 
-delayed : newText Dla filed (bytes "DLA-ABC12-EHAM1015-EDDF-0") ≡ bytes "(FPL-ABC12-IS-B738/M-SDFG/S-EHAM1015-N0440F310 DCT PAM DCT-EDDF0100 EDDK-0)"
-unfolding newText
+delayed : newStrip (roleOf Dla) filed (bytes "DLA-ABC12-EHAM1015-EDDF-0") ≡ bytes "(FPL-ABC12-IS-B738/M-SDFG/S-EHAM1015-N0440F310 DCT PAM DCT-EDDF0100 EDDK-0)"
+unfolding newStrip
 delayed = refl
 
-departed : newText Dep filed (bytes "DEP-ABC12-EHAM0941-EDDF-0") ≡ bytes "(FPL-ABC12-IS-B738/M-SDFG/S-EHAM0930-N0440F310 DCT PAM DCT-EDDF0100 EDDK-0)"
-unfolding newText
+departed : newStrip (roleOf Dep) filed (bytes "DEP-ABC12-EHAM0941-EDDF-0") ≡ bytes "(FPL-ABC12-IS-B738/M-SDFG/S-EHAM0930-N0440F310 DCT PAM DCT-EDDF0100 EDDK-0)"
+unfolding newStrip
 departed = refl
 
 -- what a DEP and an ARR say of the state; an RQP is not fit
-events : (eventOf Dep (split 45 (bytes "DEP-ABC12-EHAM0941-EDDF-0")) ≡ Says (Depart (record { 0 = 581 })))
-    × (eventOf Arr (split 45 (bytes "ARR-ABC12-EHAM0930-EDDK1042")) ≡ Says (Arrive (aerodromeIn (bytes "EDDK")) (record { 0 = 642 })))
-    × (eventOf Rqp (split 45 (bytes "RQP-ABC12-EHAM-EDDF-0")) ≡ Unfit)
+events : (eventOf (roleOf Dep) (split 45 (bytes "DEP-ABC12-EHAM0941-EDDF-0")) ≡ Says (Depart (record { 0 = 581 })))
+    × (eventOf (roleOf Arr) (split 45 (bytes "ARR-ABC12-EHAM0930-EDDK1042")) ≡ Says (Arrive (aerodromeIn (bytes "EDDK")) (record { 0 = 642 })))
+    × (eventOf (roleOf Rqp) (split 45 (bytes "RQP-ABC12-EHAM-EDDF-0")) ≡ Unfit)
 unfolding timeFits
 events = (refl, refl, refl)
 
 -- the code in field 7 plays no part; the time in 13 is compared for a CNL and not for a DLA; an ARR without 16 is compared by its 17
-compared : (differs (differences Cnl (split 45 filed) (split 45 (bytes "CNL-ABC12/A7777-EHAM0930-EDDF-0"))) ≡ false)
-    × (differs (differences Cnl (split 45 filed) (split 45 (bytes "CNL-ABC12-EHAM0931-EDDF-0"))) ≡ true)
-    × (differs (differences Dla (split 45 filed) (split 45 (bytes "DLA-ABC12-EHAM0931-EDDF-0"))) ≡ false)
-    × (differs (differences Dla (split 45 filed) (split 45 (bytes "DLA-ABC13-EHAM0931-EDDF-0"))) ≡ true)
-    × (differs (differences Arr (split 45 filed) (split 45 (bytes "ARR-ABC12-EHAM0930-EDDF1042"))) ≡ false)
-    × (differs (differences Arr (split 45 filed) (split 45 (bytes "ARR-ABC12-EHAM0930-EDDK1042"))) ≡ true)
+compared : (differs (differences (roleOf Cnl) (split 45 filed) (split 45 (bytes "CNL-ABC12/A7777-EHAM0930-EDDF-0"))) ≡ false)
+    × (differs (differences (roleOf Cnl) (split 45 filed) (split 45 (bytes "CNL-ABC12-EHAM0931-EDDF-0"))) ≡ true)
+    × (differs (differences (roleOf Dla) (split 45 filed) (split 45 (bytes "DLA-ABC12-EHAM0931-EDDF-0"))) ≡ false)
+    × (differs (differences (roleOf Dla) (split 45 filed) (split 45 (bytes "DLA-ABC13-EHAM0931-EDDF-0"))) ≡ true)
+    × (differs (differences (roleOf Arr) (split 45 filed) (split 45 (bytes "ARR-ABC12-EHAM0930-EDDF1042"))) ≡ false)
+    × (differs (differences (roleOf Arr) (split 45 filed) (split 45 (bytes "ARR-ABC12-EHAM0930-EDDK1042"))) ≡ true)
 compared = (refl, refl, refl, refl, refl, refl)

@@ -1,3 +1,3 @@
 pub mod Updating
-pub mod Texts
+pub mod Steps
 pub mod Examples

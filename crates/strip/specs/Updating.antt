@@ -1,10 +1,11 @@
--- An update of the strip (document 01, "The strip"): the answer, the state and every byte of the output, from the strip, its state, the message
--- and the room lent. Assumes nothing.
+-- An update of the strip (document 01, "The strip"): the answer, the strip's record and every byte of the output, from the strip, its record, the
+-- message and the room lent. A plan and what a message says are given by their texts, which stand between the parentheses. Assumes nothing.
 use Prim.Native.Nat.{ℕ, _-_}
 use mathlib.Core.Bool.{Bool, true, false, _&&_, _||_, not, cond}
 use mathlib.Core.List.{List, [], _++_}
-use lib.Dec.{eqb, ltb, leb}
-use lib.ListN.{length, take, drop, getD, set}
+use mathlib.Core.Option.{Option·getD}
+use lib.Dec.{eqb, ltb}
+use lib.ListN.{length, take, drop, getD}
 use Rattle.text.specs.Words.{Word, split, before, same}
 use Rattle.text.specs.Lent.{front}
 use Rattle.shape.specs.declared.Clock.{Clock}
@@ -14,43 +15,27 @@ use Rattle.aerodromes.specs.Asked.{clockAt, aerodromeIn}
 use Rattle.space.specs.Fields.{inner}
 use Rattle.sent.specs.Sent.{messageOf}
 use Rattle.kinds.specs.declared.MessageType.{MessageType}
-use Rattle.kinds.specs.declared.MessageType.the-variants.{Fpl, Chg, Cnl, Dla, Dep, Arr, Rqp, Rqs, Spl}
+use Rattle.kinds.specs.declared.MessageType.the-variants.{Fpl}
+use Rattle.kinds.specs.declared.Role.{Role}
+use Rattle.kinds.specs.declared.Role.the-variants.{Files, Changes, Delays, Cancels, Departs, Arrives, Neither}
+use Rattle.kinds.specs.Kinds.{roleOf, plan7, plan13, plan16, brief7, brief13, brief16}
 use Rattle.message.specs.declared.Answer.{Answer}
 use Rattle.message.specs.declared.Answer.the-variants.{Accepted as ReadAs, Refused as NotRead}
-use Rattle.message.specs.Reading.{isPlan, unexplainedIn, spellingOf, answerOf}
-use Rattle.state.specs.declared.State.{State}
+use Rattle.message.specs.Reading.{unexplainedIn, answerOf}
+use Rattle.state.specs.declared.Strip.{Strip}
 use Rattle.state.specs.declared.Event.the-variants.{Change, Delay, Cancel, Depart, Arrive}
-use Rattle.state.specs.State.{allowedIn, nextOf, sound}
-use Rattle.force.specs.InForce.{amendedBy}
+use Rattle.state.specs.State.{allowedIn, nextOf}
+use Rattle.opening.specs.declared.Opening.{Opening}
+use Rattle.opening.specs.declared.Opening.the-variants.{Read, Refused as NotOpened}
+use Rattle.opening.specs.Opening.{most, textSaid, openingOf}
+use Rattle.force.specs.InForce.{namedBy, fieldAt, fieldsFrom}
 use Rattle.strip.specs.declared.Offered.{Offered}
 use Rattle.strip.specs.declared.Offered.the-variants.{Says, Unfit}
 use Rattle.strip.specs.declared.Differences.{Differences}
 use Rattle.strip.specs.declared.Updated.{Updated}
 use Rattle.strip.specs.declared.Updated.the-variants.{Accepted, Refused}
 
--- THE STRIP: a canonical accepted FPL, and its nine contents
-
--- the most bytes of a message, and so of a strip
-abbrev pub most : ℕ
-most = 1800
-
-abbrev pub readAsPlan : Answer → Bool
-readAsPlan (ReadAs t n) = isPlan t
-readAsPlan (NotRead number field place) = false
-
-unfoldable pub canonicalPlan : List ℕ → Bool
-canonicalPlan strip = readAsPlan (answerOf strip most) && same (spellingOf Fpl strip) strip
-
-abbrev pub plan : List ℕ → List Word
-plan strip = split 45 (inner strip)
-
--- WHAT A MESSAGE SAYS: the contents of its canonical spelling, and the event for the state
-
-abbrev pub textSaid : MessageType → List ℕ → List ℕ
-textSaid t m = inner (spellingOf t m)
-
-abbrev pub said : MessageType → List ℕ → List Word
-said t m = split 45 (textSaid t m)
+-- WHAT A MESSAGE SAYS OF THE STATE, from its contents
 
 abbrev pub timeOf : ClockRead → Clock
 timeOf (TimeOfDay t) = t
@@ -60,88 +45,89 @@ timeOf NoTimeOfDay = record { 0 = 0 }
 abbrev pub arrival : List Word → Word
 arrival cs = getD cs (length cs - 1) []
 
--- CHG, DLA, CNL, DEP with the time of its field 13, ARR with its field 17; the other types are not fit
-abbrev pub eventOf : MessageType → List Word → Offered
-eventOf Chg cs = Says Change
-eventOf Dla cs = Says Delay
-eventOf Cnl cs = Says Cancel
-eventOf Dep cs = Says (Depart (timeOf (clockAt (getD cs 2 []))))
-eventOf Arr cs = Says (Arrive (aerodromeIn (arrival cs)) (timeOf (clockAt (arrival cs))))
-eventOf Fpl cs = Unfit
-eventOf Rqp cs = Unfit
-eventOf Rqs cs = Unfit
-eventOf Spl cs = Unfit
+-- a delay, a departure at the time of its field 13, an arrival as in its field 17, and so on; the other types are not fit
+abbrev pub eventOf : Role → List Word → Offered
+eventOf Changes cs = Says Change
+eventOf Delays cs = Says Delay
+eventOf Cancels cs = Says Cancel
+eventOf Departs cs = Says (Depart (timeOf (clockAt (getD cs brief13 []))))
+eventOf Arrives cs = Says (Arrive (aerodromeIn (arrival cs)) (timeOf (clockAt (arrival cs))))
+eventOf Files cs = Unfit
+eventOf Neither cs = Unfit
 
 -- MUST EQUAL THE STRIP'S: identification, 13 aerodrome, destination; for CHG, CNL and ARR the time in 13 too
 
-abbrev pub comparesTime : MessageType → Bool
-comparesTime Chg = true
-comparesTime Cnl = true
-comparesTime Arr = true
-comparesTime Dla = false
-comparesTime Dep = false
-comparesTime Fpl = false
-comparesTime Rqp = false
-comparesTime Rqs = false
-comparesTime Spl = false
+abbrev pub comparesTime : Role → Bool
+comparesTime Changes = true
+comparesTime Cancels = true
+comparesTime Arrives = true
+comparesTime Delays = false
+comparesTime Departs = false
+comparesTime Files = false
+comparesTime Neither = false
 
--- of the strip, fields 7, 13 and 16 are its second, sixth and eighth; of the message, 7 and 13 are the second and third, and the fourth is
--- field 16, or in an ARR without it field 17
-abbrev pub differences : MessageType → List Word → List Word → Differences
-differences t ps cs =
+-- between a plan's contents and a message's; in an ARR without field 16, 17 stands in its place
+abbrev pub differences : Role → List Word → List Word → Differences
+differences role ps cs =
     record {
-      identification = not (same (before 47 (getD ps 1 [])) (before 47 (getD cs 1 [])));
-      aerodrome = not (same (take 4 (getD ps 5 [])) (take 4 (getD cs 2 [])));
-      time = comparesTime t && not (same (drop 4 (getD ps 5 [])) (drop 4 (getD cs 2 [])));
-      destination = not (same (take 4 (getD ps 7 [])) (take 4 (getD cs 3 [])));
+      identification = not (same (before 47 (getD ps plan7 [])) (before 47 (getD cs brief7 [])));
+      aerodrome = not (same (take 4 (getD ps plan13 [])) (take 4 (getD cs brief13 [])));
+      time = comparesTime role && not (same (drop 4 (getD ps plan13 [])) (drop 4 (getD cs brief13 [])));
+      destination = not (same (take 4 (getD ps plan16 [])) (take 4 (getD cs brief16 [])));
     }
 
 abbrev pub differs : Differences → Bool
 differs d = d .identification || (d .aerodrome || (d .time || d .destination))
 
--- EFFECT, on the plan: a CHG replaces the fields named in 22, a DLA the time in 13, the others nothing
+-- EFFECT, on the plan: field k of the amended plan, from the plan's own. A CHG's where it names it; of a DLA the time in 13, behind the aerodrome of
+-- the plan; otherwise the plan's own
 
-abbrev pub amended : MessageType → List ℕ → List ℕ → List Word
-amended Chg strip m = amendedBy (inner strip) (textSaid Chg m)
-amended Dla strip m = set (plan strip) 5 (take 4 (getD (plan strip) 5 []) ++ drop 4 (getD (said Dla m) 2 []))
-amended Cnl strip m = plan strip
-amended Dep strip m = plan strip
-amended Arr strip m = plan strip
-amended Fpl strip m = plan strip
-amended Rqp strip m = plan strip
-amended Rqs strip m = plan strip
-amended Spl strip m = plan strip
+abbrev pub contentIn : Role → Word → List ℕ → ℕ → Word
+contentIn Changes own said k = Option·getD (namedBy said k) own
+contentIn Delays own said k = cond (eqb k plan13) (take 4 own ++ drop 4 (fieldAt said brief13)) own
+contentIn Cancels own said k = own
+contentIn Departs own said k = own
+contentIn Arrives own said k = own
+contentIn Files own said k = own
+contentIn Neither own said k = own
 
--- the strip after a message of a type
-abbrev pub newStrip : MessageType → List ℕ → List ℕ → List ℕ
-newStrip t strip m = messageOf (amended t strip m)
+abbrev pub contentOf : Role → List ℕ → List ℕ → ℕ → Word
+contentOf role plan said k = contentIn role (fieldAt plan k) said k
 
--- THE ANSWER: 15, 1 to 9, 14, 12, 13, then for the amended plan 10, 16, 11
+-- the nine fields of the amended plan, and the strip that they make
+abbrev pub amended : Role → List ℕ → List ℕ → List Word
+amended role plan said = fieldsFrom (contentOf role plan said) 0 9
 
-abbrev pub roomAs : List ℕ → State → ℕ → Updated
+unfoldable pub newStrip : Role → List ℕ → List ℕ → List ℕ
+newStrip role plan said = messageOf (amended role plan said)
+
+-- THE ANSWER: 15, 1 to 9 and 14 as the strip is opened, 14, 12, 13, then for the amended plan 10, 16, 11
+
+abbrev pub roomAs : List ℕ → Strip → ℕ → Updated
 roomAs new next room =
     cond (ltb most (length new)) (Refused 16 0 0)
     (cond (ltb room (length new)) (Refused 11 0 0)
-    (Accepted (record { state = next }) (length new)))
+    (Accepted next (length new)))
 
-abbrev pub amendedAs : List Word → State → ℕ → Updated
+abbrev pub amendedAs : List Word → Strip → ℕ → Updated
 amendedAs cs next room = cond (eqb (unexplainedIn cs) 0) (roomAs (messageOf cs) next room) (Refused 10 (unexplainedIn cs) 0)
 
-abbrev pub eventAs : Offered → MessageType → List ℕ → State → List ℕ → ℕ → Updated
-eventAs Unfit t strip state m room = Refused 14 0 0
-eventAs (Says e) t strip state m room =
-    cond (differs (differences t (plan strip) (said t m))) (Refused 12 0 0)
-    (cond (allowedIn state e) (amendedAs (amended t strip m) (nextOf state e) room)
+abbrev pub eventAs : Offered → Role → List ℕ → Strip → List ℕ → ℕ → Updated
+eventAs Unfit role plan held said room = Refused 14 0 0
+eventAs (Says e) role plan held said room =
+    cond (differs (differences role (split 45 plan) (split 45 said))) (Refused 12 0 0)
+    (cond (allowedIn held e) (amendedAs (amended role plan said) (nextOf held e) room)
     (Refused 13 0 0))
 
--- what reading the message gave, with room enough: 10 is an FPL's, whose type is not fit
-abbrev pub readAs : Answer → List ℕ → State → List ℕ → ℕ → Updated
-readAs (NotRead number field place) strip state m room = cond (leb number 9) (Refused number field place) (Refused 14 0 0)
-readAs (ReadAs t n) strip state m room = eventAs (eventOf t (said t m)) t strip state m room
+unfoldable pub offeredAs : Role → List ℕ → Strip → List ℕ → ℕ → Updated
+offeredAs role plan held said room = eventAs (eventOf role (split 45 said)) role plan held said room
 
-unfoldable pub updateOf : List ℕ → State → List ℕ → ℕ → Updated
-updateOf strip state m room =
-    cond (sound state && canonicalPlan strip) (readAs (answerOf m most) strip state m room) (Refused 15 0 0)
+abbrev pub openedAs : Opening → List ℕ → Strip → List ℕ → ℕ → Updated
+openedAs (NotOpened number field place) strip held m room = Refused number field place
+openedAs (Read t n) strip held m room = offeredAs (roleOf t) (inner strip) held (textSaid t m) room
+
+unfoldable pub updateOf : List ℕ → Strip → List ℕ → ℕ → Updated
+updateOf strip held m room = openedAs (openingOf strip held m) strip held m room
 
 -- THE OUTPUT: an accepted message writes the new strip at its front, a refusal leaves it
 
@@ -149,9 +135,13 @@ abbrev pub typeRead : Answer → MessageType
 typeRead (ReadAs t n) = t
 typeRead (NotRead number field place) = Fpl
 
+-- the strip after a message that was read as a type
+abbrev pub stripAfter : MessageType → List ℕ → List ℕ → List ℕ
+stripAfter t strip m = newStrip (roleOf t) (inner strip) (textSaid t m)
+
 abbrev pub writtenAs : Updated → List ℕ → List ℕ → List ℕ → List ℕ
-writtenAs (Accepted held n) strip m out = front (newStrip (typeRead (answerOf m most)) strip m) out
+writtenAs (Accepted held n) strip m out = front (stripAfter (typeRead (answerOf m most)) strip m) out
 writtenAs (Refused number field place) strip m out = out
 
-unfoldable pub outAfter : List ℕ → State → List ℕ → List ℕ → List ℕ
-outAfter strip state m out = writtenAs (updateOf strip state m (length out)) strip m out
+unfoldable pub outAfter : List ℕ → Strip → List ℕ → List ℕ → List ℕ
+outAfter strip held m out = writtenAs (updateOf strip held m (length out)) strip m out

@@ -1,21 +1,17 @@
 // The strip: one plan, kept up to date by the messages that are offered to it.
 ghost use mathlib.Core.Path.{_≡_};
-ghost use mathlib.Core.Bool.{false, _&&_, not};
-ghost use mathlib.Core.Option.{none};
-ghost use mathlib.Core.List.{[], _∷_};
+ghost use mathlib.Core.Bool.{_&&_, not};
+ghost use mathlib.Core.List.{[], _∷_, _++_};
 ghost use Prim.Native.Nat.{suc, _≤_};
 ghost use lib.ListN.{length, drop, getD};
 ghost use Rattle.text.specs.Words.{split, same};
-ghost use Rattle.text.specs.Lent.{front};
 ghost use Rattle.aerodromes.specs.Asked.{clockAt};
-ghost use Rattle.message.specs.Reading.{unexplainedIn};
-ghost use Rattle.strip.specs.Updating.{canonicalPlan, timeOf, arrival, eventOf, comparesTime, differences, differs, updateOf, outAfter};
-ghost use Rattle.force.specs.InForce.{namedBy};
-ghost use Rattle.strip.specs.Texts.{contentIn, Marks, amendedOf, newText, Amends, Offers, notReadAs};
+ghost use Rattle.message.specs.Reading.{leadOf};
+ghost use Rattle.strip.specs.Updating.{timeOf, arrival, eventOf, comparesTime, differences, differs, contentIn, newStrip, updateOf, outAfter};
+ghost use Rattle.strip.specs.Steps.{Puts, Texts, Amends, Offers};
 use force::Found;
-use kinds::Form;
-use kinds::MessageType;
-use message::Answer;
+use kinds::Role;
+use opening::Opening;
 use shape::Clock;
 use shape::ClockRead;
 use state::Event;
@@ -44,26 +40,6 @@ pub enum Updated {
 const MOST_BYTES: usize = 1800;
 
 const PLAN_FIELDS: usize = 9;
-
-// Whether a strip is an FPL as it is written: it is accepted as one, and its spelling is the strip itself.
-pub fn is_canonical_plan(strip: &[u8]) -> bool
-    ensures { λ r. ⌜ r ≡ canonicalPlan (now (strip .entry)) ⌝ }
-{
-    let mut scratch = [0u8; 1800];
-    match message::read(strip, &mut scratch) {
-        Answer::Refused {
-            number: _,
-            field: _,
-            place: _,
-        } => false,
-        Answer::Accepted(t, n) => {
-            if !message::is_plan(t) {
-                return false;
-            }
-            text::same_bytes(&scratch[..n], strip)
-        }
-    }
-}
 
 // Field j of a text, counted from 0; empty where there are fewer.
 fn field<'a>(s: &'a [u8], j: usize) -> &'a [u8]
@@ -98,38 +74,34 @@ fn time_in(s: &[u8]) -> Clock
 }
 
 // What a message says of the state, from the text of its spelling.
-fn event_of(t: MessageType, said: &[u8]) -> Offered
-    ensures { λ r. ⌜ r ≡ eventOf t (split 45 (now (said .entry))) ⌝ }
+fn event_of(role: Role, said: &[u8]) -> Offered
+    ensures { λ r. ⌜ r ≡ eventOf role (split 45 (now (said .entry))) ⌝ }
 {
-    match t {
-        MessageType::Chg => Offered::Says(Event::Change),
-        MessageType::Dla => Offered::Says(Event::Delay),
-        MessageType::Cnl => Offered::Says(Event::Cancel),
-        MessageType::Dep => Offered::Says(Event::Depart(time_in(field(said, 2)))),
-        MessageType::Arr => {
+    match role {
+        Role::Changes => Offered::Says(Event::Change),
+        Role::Delays => Offered::Says(Event::Delay),
+        Role::Cancels => Offered::Says(Event::Cancel),
+        Role::Departs => Offered::Says(Event::Depart(time_in(field(said, kinds::BRIEF_13)))),
+        Role::Arrives => {
             let landed = last_field(said);
             Offered::Says(Event::Arrive(aerodromes::Aerodrome::of(landed), time_in(landed)))
         }
-        MessageType::Fpl => Offered::Unfit,
-        MessageType::Rqp => Offered::Unfit,
-        MessageType::Rqs => Offered::Unfit,
-        MessageType::Spl => Offered::Unfit,
+        Role::Files => Offered::Unfit,
+        Role::Neither => Offered::Unfit,
     }
 }
 
-fn compares_time(t: MessageType) -> bool
-    ensures { λ r. ⌜ r ≡ comparesTime t ⌝ }
+fn compares_time(role: Role) -> bool
+    ensures { λ r. ⌜ r ≡ comparesTime role ⌝ }
 {
-    match t {
-        MessageType::Chg => true,
-        MessageType::Cnl => true,
-        MessageType::Arr => true,
-        MessageType::Dla => false,
-        MessageType::Dep => false,
-        MessageType::Fpl => false,
-        MessageType::Rqp => false,
-        MessageType::Rqs => false,
-        MessageType::Spl => false,
+    match role {
+        Role::Changes => true,
+        Role::Cancels => true,
+        Role::Arrives => true,
+        Role::Delays => false,
+        Role::Departs => false,
+        Role::Files => false,
+        Role::Neither => false,
     }
 }
 
@@ -144,34 +116,34 @@ fn behind_aerodrome<'a>(s: &'a [u8]) -> &'a [u8]
 }
 
 // Whether the time in field 13 is compared, and differs.
-fn time_differs(t: MessageType, a: &[u8], b: &[u8]) -> bool
-    ensures { λ r. ⌜ r ≡ (comparesTime t && not (same (drop 4 (now (a .entry))) (drop 4 (now (b .entry))))) ⌝ }
+fn time_differs(role: Role, a: &[u8], b: &[u8]) -> bool
+    ensures { λ r. ⌜ r ≡ (comparesTime role && not (same (drop 4 (now (a .entry))) (drop 4 (now (b .entry))))) ⌝ }
 {
-    if !compares_time(t) {
+    if !compares_time(role) {
         return false;
     }
     !text::same_bytes(behind_aerodrome(a), behind_aerodrome(b))
 }
 
 // What differs between a plan and a message, from their texts.
-pub fn differences_in(t: MessageType, plan: &[u8], said: &[u8]) -> Differences
-    ensures { λ r. ⌜ r ≡ differences t (split 45 (now (plan .entry))) (split 45 (now (said .entry))) ⌝ }
+pub fn differences_in(role: Role, plan: &[u8], said: &[u8]) -> Differences
+    ensures { λ r. ⌜ r ≡ differences role (split 45 (now (plan .entry))) (split 45 (now (said .entry))) ⌝ }
 {
-    let ours = field(plan, 5);
-    let theirs = field(said, 2);
+    let ours = field(plan, kinds::PLAN_13);
+    let theirs = field(said, kinds::BRIEF_13);
     Differences {
         identification: !text::same_bytes(
-            head::identification(field(plan, 1)),
-            head::identification(field(said, 1)),
+            head::identification(field(plan, kinds::PLAN_7)),
+            head::identification(field(said, kinds::BRIEF_7)),
         ),
         aerodrome: !text::same_bytes(
             aerodromes::aerodrome_of(ours),
             aerodromes::aerodrome_of(theirs),
         ),
-        time: time_differs(t, ours, theirs),
+        time: time_differs(role, ours, theirs),
         destination: !text::same_bytes(
-            aerodromes::aerodrome_of(field(plan, 7)),
-            aerodromes::aerodrome_of(field(said, 3)),
+            aerodromes::aerodrome_of(field(plan, kinds::PLAN_16)),
+            aerodromes::aerodrome_of(field(said, kinds::BRIEF_16)),
         ),
     }
 }
@@ -193,81 +165,62 @@ impl Differences {
     }
 }
 
-// Marks for the fields that the entries of a text name, if it is a CHG's.
-fn marks_in(said: &[u8]) -> [bool; 9]
-    ensures { λ r. ⌜ (length r ≡ 9) × Marks (now (said .entry)) r ⌝ }
+// Writes field k of a plan after a CHG at the front of `out`: the content that names it, otherwise the plan's own.
+fn put_changed<'a>(own: &'a [u8], said: &'a [u8], k: usize, out: &mut [u8]) -> usize
+    requires { ⌜ length (contentIn Role.Changes (now own) (now said) k) ≤ length (now out) ⌝ }
+    ensures { λ r. ⌜ Puts (contentIn Role.Changes (now (own .entry)) (now (said .entry)) k) r (now (out .entry)) (now (out .exit)) ⌝ }
 {
-    let mut marks = [false; 9];
-    let mut c = force::seek(said, 5);
-    loop {
-        let at = c.at;
-        let e = c.end(said, b'-');
-        let k = forms::rank_in(Form::Field22, &said[at..e]);
-        marks[k] = true;
-        if e == said.len() {
-            return marks;
-        }
-        c = c.next(said, b'-');
-    }
-}
-
-// Field k of a plan after a CHG: the content that names it, otherwise the plan's own. Only where there is a mark are the entries looked through.
-fn changed<'a>(own: &'a [u8], said: &'a [u8], marked: bool, k: usize) -> &'a [u8]
-    requires { ⌜ (marked ≡ false → namedBy (now said) k ≡ none) ⌝ }
-    ensures { λ r. ⌜ now r ≡ contentIn MessageType.Chg (now (own .entry)) (now (said .entry)) k ⌝ }
-{
-    if !marked {
-        return own;
-    }
     match force::named(said, k) {
-        Found::At { from, to } => &said[from..to],
-        Found::Nowhere => own,
+        Found::At { from, to } => text::put(&said[from..to], out),
+        Found::Nowhere => text::put(own, out),
     }
 }
 
-// Field k of a plan after a DLA, whose field 13 stands in place of the plan's.
-fn delayed<'a>(own: &'a [u8], said: &'a [u8], k: usize) -> &'a [u8]
-    ensures { λ r. ⌜ now r ≡ contentIn MessageType.Dla (now (own .entry)) (now (said .entry)) k ⌝ }
+// Writes two parts, one behind the other, at the front of `out`.
+fn put_two<'a>(first: &'a [u8], second: &'a [u8], out: &mut [u8]) -> usize
+    requires { ⌜ length (now first ++ now second) ≤ length (now out) ⌝ }
+    ensures { λ r. ⌜ Puts (now (first .entry) ++ now (second .entry)) r (now (out .entry)) (now (out .exit)) ⌝ }
 {
-    if k == 5 {
-        return field(said, 2);
-    }
-    own
+    let n = text::put(first, out);
+    n + text::put(second, &mut out[n..])
 }
 
-// Field k of the amended plan, of which `own` is the plan's.
-fn content<'a>(t: MessageType, own: &'a [u8], said: &'a [u8], marked: bool, k: usize) -> &'a [u8]
-    requires { ⌜ (marked ≡ false → namedBy (now said) k ≡ none) ⌝ }
-    ensures { λ r. ⌜ now r ≡ contentIn t (now (own .entry)) (now (said .entry)) k ⌝ }
+// Writes field k of a plan after a DLA: of field 13 the plan's aerodrome and the DLA's time, otherwise the plan's own.
+fn put_delayed<'a>(own: &'a [u8], said: &'a [u8], k: usize, out: &mut [u8]) -> usize
+    requires { ⌜ length (contentIn Role.Delays (now own) (now said) k) ≤ length (now out) ⌝ }
+    ensures { λ r. ⌜ Puts (contentIn Role.Delays (now (own .entry)) (now (said .entry)) k) r (now (out .entry)) (now (out .exit)) ⌝ }
 {
-    match t {
-        MessageType::Chg => changed(own, said, marked, k),
-        MessageType::Dla => delayed(own, said, k),
-        MessageType::Cnl => own,
-        MessageType::Dep => own,
-        MessageType::Arr => own,
-        MessageType::Fpl => own,
-        MessageType::Rqp => own,
-        MessageType::Rqs => own,
-        MessageType::Spl => own,
+    if k == kinds::PLAN_13 {
+        let time = behind_aerodrome(field(said, kinds::BRIEF_13));
+        return put_two(aerodromes::aerodrome_of(own), time, out);
+    }
+    text::put(own, out)
+}
+
+// Writes field k of the amended plan, of which `own` is the plan's.
+fn put_content<'a>(role: Role, own: &'a [u8], said: &'a [u8], k: usize, out: &mut [u8]) -> usize
+    requires { ⌜ length (contentIn role (now own) (now said) k) ≤ length (now out) ⌝ }
+    ensures { λ r. ⌜ Puts (contentIn role (now (own .entry)) (now (said .entry)) k) r (now (out .entry)) (now (out .exit)) ⌝ }
+{
+    match role {
+        Role::Changes => put_changed(own, said, k, out),
+        Role::Delays => put_delayed(own, said, k, out),
+        Role::Cancels => text::put(own, out),
+        Role::Departs => text::put(own, out),
+        Role::Arrives => text::put(own, out),
+        Role::Files => text::put(own, out),
+        Role::Neither => text::put(own, out),
     }
 }
 
-// The field that the amended plan leaves unexplained; 0 for none.
-fn unexplained_in<'a>(t: MessageType, plan: &'a [u8], said: &'a [u8], marks: [bool; 9]) -> u8
-    requires { ⌜ (length marks ≡ 9) × Marks (now said) marks ⌝ }
-    ensures { λ r. ⌜ r ≡ unexplainedIn (amendedOf t (now (plan .entry)) (now (said .entry))) ⌝ }
+// Writes field k of the amended plan behind the byte that leads to it.
+fn put_field<'a>(role: Role, own: &'a [u8], said: &'a [u8], k: usize, out: &mut [u8]) -> usize
+    requires { ⌜ length (leadOf k ∷ contentIn role (now own) (now said) k) ≤ length (now out) ⌝ }
+    ensures { λ r. ⌜ Puts (leadOf k ∷ contentIn role (now (own .entry)) (now (said .entry)) k) r (now (out .entry)) (now (out .exit)) ⌝ }
 {
-    let nine = force::seek(plan, 3);
-    let thirteen = nine.next(plan, b'-').next(plan, b'-');
-    let sixteen = thirteen.next(plan, b'-').next(plan, b'-');
-    let eighteen = sixteen.next(plan, b'-');
-    plan::unexplained_field(
-        content(t, nine.part(plan, b'-'), said, marks[3], 3),
-        content(t, thirteen.part(plan, b'-'), said, marks[5], 5),
-        content(t, sixteen.part(plan, b'-'), said, marks[7], 7),
-        content(t, eighteen.part(plan, b'-'), said, marks[8], 8),
-    )
+    out[0] = message::lead_of(k);
+    let n = put_content(role, own, said, k, &mut out[1..]);
+    n + 1
 }
 
 // The cursor behind a field that ends at e.
@@ -281,45 +234,10 @@ fn behind(plan: &[u8], e: usize) -> Cursor
     Cursor { at: e }
 }
 
-// How many bytes the amended plan takes, with the parentheses.
-fn new_length<'a>(t: MessageType, plan: &'a [u8], said: &'a [u8], marks: [bool; 9]) -> usize
-    requires { ⌜ (length (now plan) ≤ 1800) × (length (now said) ≤ 1800) × (length marks ≡ 9) × Marks (now said) marks ⌝ }
-    ensures { λ r. ⌜ r ≡ length (newText t (now (plan .entry)) (now (said .entry))) ⌝ }
-{
-    let mut n = 0;
-    let mut c = Cursor { at: 0 };
-    let mut k = 0;
-    while k < PLAN_FIELDS {
-        let at = c.at;
-        let e = c.end(plan, b'-');
-        n += 1 + content(t, &plan[at..e], said, marks[k], k).len();
-        c = behind(plan, e);
-        k += 1;
-    }
-    n + 1
-}
-
-// Writes a content behind the byte that leads to it, at the front of `out`.
-fn write_part(lead: u8, part: &[u8], out: &mut [u8]) -> usize
-    requires { ⌜ length (lead ∷ now part) ≤ length (now out) ⌝ }
-    ensures { λ r. ⌜ (r ≡ length (lead ∷ now (part .entry))) × (now (out .exit) ≡ front (lead ∷ now (part .entry)) (now (out .entry))) ⌝ }
-{
-    out[0] = lead;
-    let n = text::put(part, &mut out[1..]);
-    n + 1
-}
-
-// Writes the amended plan at the front of `out`.
-fn write_new<'a>(
-    t: MessageType,
-    plan: &'a [u8],
-    said: &'a [u8],
-    marks: [bool; 9],
-    out: &mut [u8],
-) -> usize
-    requires { ⌜ (length (newText t (now plan) (now said)) ≤ length (now out)) × (length marks ≡ 9) × Marks (now said) marks ⌝ }
-    ensures { λ r. ⌜ (r ≡ length (newText t (now (plan .entry)) (now (said .entry))))
-        × (now (out .exit) ≡ front (newText t (now (plan .entry)) (now (said .entry))) (now (out .entry))) ⌝ }
+// Writes the amended plan, field by field, at the front of `out`.
+fn write_amended<'a>(role: Role, plan: &'a [u8], said: &'a [u8], out: &mut [u8]) -> usize
+    requires { ⌜ length (newStrip role (now plan) (now said)) ≤ length (now out) ⌝ }
+    ensures { λ r. ⌜ Puts (newStrip role (now (plan .entry)) (now (said .entry))) r (now (out .entry)) (now (out .exit)) ⌝ }
 {
     let mut o = 0;
     let mut c = Cursor { at: 0 };
@@ -327,8 +245,7 @@ fn write_new<'a>(
     while k < PLAN_FIELDS {
         let at = c.at;
         let e = c.end(plan, b'-');
-        let part = content(t, &plan[at..e], said, marks[k], k);
-        o += write_part(message::lead_of(k), part, &mut out[o..]);
+        o += put_field(role, &plan[at..e], said, k, &mut out[o..]);
         c = behind(plan, e);
         k += 1;
     }
@@ -336,13 +253,15 @@ fn write_new<'a>(
     o + 1
 }
 
-// Numbers 10, 16 and 11 of the amended plan, and the acceptance: everything is checked before the first byte is written.
-fn amend<'a>(t: MessageType, next: Strip, plan: &'a [u8], said: &'a [u8], out: &mut [u8]) -> Updated
-    requires { ⌜ (length (now plan) ≤ 1800) × (length (now said) ≤ 1800) ⌝ }
-    ensures { λ r. ⌜ Amends t (next .state) (now (plan .entry)) (now (said .entry)) (now (out .entry)) r (now (out .exit)) ⌝ }
+// Numbers 10, 16 and 11 of the amended plan, which is written once, to a scratch with room for strip and message together; then the acceptance.
+fn amend<'a>(role: Role, next: Strip, plan: &'a [u8], said: &'a [u8], out: &mut [u8]) -> Updated
+    requires { ⌜ Texts (now plan) (now said) ⌝ }
+    ensures { λ r. ⌜ Amends role next (now (plan .entry)) (now (said .entry)) (now (out .entry)) r (now (out .exit)) ⌝ }
 {
-    let marks = marks_in(said);
-    let field = unexplained_in(t, plan, said, marks);
+    let mut new = [0u8; 3600];
+    let n = write_amended(role, plan, said, &mut new);
+    let e = n - 1;
+    let field = message::unexplained_in(&new[1..e]);
     if field != 0 {
         return Updated::Refused {
             number: 10,
@@ -350,38 +269,37 @@ fn amend<'a>(t: MessageType, next: Strip, plan: &'a [u8], said: &'a [u8], out: &
             place: 0,
         };
     }
-    let due = new_length(t, plan, said, marks);
-    if MOST_BYTES < due {
+    if MOST_BYTES < n {
         return Updated::Refused {
             number: 16,
             field: 0,
             place: 0,
         };
     }
-    if out.len() < due {
+    if out.len() < n {
         return Updated::Refused {
             number: 11,
             field: 0,
             place: 0,
         };
     }
-    let n = write_new(t, plan, said, marks, out);
-    Updated::Accepted(next, n)
+    let written = text::put(&new[..n], out);
+    Updated::Accepted(next, written)
 }
 
 // Numbers 14, 12 and 13, and what the amended plan gives.
-fn offer<'a>(t: MessageType, held: Strip, plan: &'a [u8], said: &'a [u8], out: &mut [u8]) -> Updated
-    requires { ⌜ (length (now plan) ≤ 1800) × (length (now said) ≤ 1800) ⌝ }
-    ensures { λ r. ⌜ Offers t (held .state) (now (plan .entry)) (now (said .entry)) (now (out .entry)) r (now (out .exit)) ⌝ }
+fn offer<'a>(role: Role, held: Strip, plan: &'a [u8], said: &'a [u8], out: &mut [u8]) -> Updated
+    requires { ⌜ Texts (now plan) (now said) ⌝ }
+    ensures { λ r. ⌜ Offers role held (now (plan .entry)) (now (said .entry)) (now (out .entry)) r (now (out .exit)) ⌝ }
 {
-    match event_of(t, said) {
+    match event_of(role, said) {
         Offered::Unfit => Updated::Refused {
             number: 14,
             field: 0,
             place: 0,
         },
         Offered::Says(e) => {
-            if differences_in(t, plan, said).any() {
+            if differences_in(role, plan, said).any() {
                 return Updated::Refused {
                     number: 12,
                     field: 0,
@@ -395,60 +313,32 @@ fn offer<'a>(t: MessageType, held: Strip, plan: &'a [u8], said: &'a [u8], out: &
                     place: 0,
                 };
             }
-            amend(t, held.next(e), plan, said, out)
+            amend(role, held.next(e), plan, said, out)
         }
     }
 }
 
-// A message that was not read: its own number where that is 1 to 9, otherwise 14.
-fn not_read(number: u8, field: u8, place: usize) -> Updated
-    ensures { λ r. ⌜ r ≡ notReadAs number field place ⌝ }
-{
-    if number <= 9 {
-        return Updated::Refused {
-            number,
-            field,
-            place,
-        };
-    }
-    Updated::Refused {
-        number: 14,
-        field: 0,
-        place: 0,
-    }
-}
-
-// Offers a message to a strip. Accepted: the strip's new state and the length of its new spelling, which is then at the front of `out`, and
+// Offers a message to a strip. Accepted: the strip's new record and the length of its new spelling, which is then at the front of `out`, and
 // the bytes behind it stay. Refused: the number, the field and the place, and every byte of `out` stays.
 pub fn update(strip: &[u8], held: Strip, msg: &[u8], out: &mut [u8]) -> Updated
-    ensures { λ r. ⌜ (r ≡ updateOf (now (strip .entry)) (held .state) (now (msg .entry)) (length (now (out .entry))))
-        × (now (out .exit) ≡ outAfter (now (strip .entry)) (held .state) (now (msg .entry)) (now (out .entry))) ⌝ }
+    ensures { λ r. ⌜ (r ≡ updateOf (now (strip .entry)) held (now (msg .entry)) (length (now (out .entry))))
+        × (now (out .exit) ≡ outAfter (now (strip .entry)) held (now (msg .entry)) (now (out .entry))) ⌝ }
 {
-    if !held.is_sound() {
-        return Updated::Refused {
-            number: 15,
-            field: 0,
-            place: 0,
-        };
-    }
-    if !is_canonical_plan(strip) {
-        return Updated::Refused {
-            number: 15,
-            field: 0,
-            place: 0,
-        };
-    }
     let mut scratch = [0u8; 1800];
-    match message::read(msg, &mut scratch) {
-        Answer::Refused {
+    match opening::open_strip(strip, held, msg, &mut scratch) {
+        Opening::Refused {
             number,
             field,
             place,
-        } => not_read(number, field, place),
-        Answer::Accepted(t, n) => {
+        } => Updated::Refused {
+            number,
+            field,
+            place,
+        },
+        Opening::Read(t, n) => {
             let e = n - 1;
             let last = strip.len() - 1;
-            offer(t, held, &strip[1..last], &scratch[1..e], out)
+            offer(t.role(), held, &strip[1..last], &scratch[1..e], out)
         }
     }
 }

@@ -5,7 +5,7 @@ use mathlib.Core.Bool.{true}
 use lib.ListN.{length}
 use borrow.Author.Tests.{not-true, not-false}
 use Rattle.text.specs.Words.{same}
-use Rattle.strip.proofs.Steps.{inner-slice, slice-short}
+use Rattle.opening.proofs.Steps.{inner-slice, slice-short}
 use Rattle.asked.specs.Asking.{isChange}
 use Rattle.asked.proofs.Steps.{same-long, no-change, not-spelled, spelled-so}
 use native.Mathlib.Omega.{arith}

@@ -1,7 +1,7 @@
 -- `asked::ask_texts` meets its contract. Assumes nothing.
 use mathlib.Core.Path.{_≡_, sym, ap, _∙_}
 use Rattle.text.specs.Words.{split}
-use Rattle.kinds.specs.declared.MessageType.the-variants.{Chg}
+use Rattle.kinds.specs.declared.Role.the-variants.{Changes}
 use Rattle.strip.specs.Updating.{differences, differs}
 use Rattle.asked.proofs.Steps.{other-flight, not-named, asked-for}
 use borrow.Author.Needs.{needs}
@@ -13,7 +13,7 @@ module _ (c : tie.After-any) where
   abbrev start : tie.Start
   start = c .before .before .before .before
 
-  compared : differs (differences Chg (split 45 (start .args .plan .now)) (split 45 (start .args .said .now))) ≡ c .any .result
+  compared : differs (differences Changes (split 45 (start .args .plan .now)) (split 45 (start .args .said .now))) ≡ c .any .result
   compared = sym (c .any .ensures ∙ ap differs (c .before .differences-in .ensures))
 
 differences-in-requires : tie.Need-differences-in-requires

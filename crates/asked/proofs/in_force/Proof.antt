@@ -20,7 +20,7 @@ module _ (c : tie.After-ask) where
       (inForce (inner (start .args .strip .now)) (inner (start .args .chg .now)) (rankOf (start .args .number)))
   holds is =
       let a = start .args in
-      shows-so (a .strip .now) (a .held .state) (a .chg .now) (a .number) (c .ask .ensures) is
+      shows-so (a .strip .now) (a .held) (a .chg .now) (a .number) (c .ask .ensures) is
 
 ask-requires : tie.Need-ask-requires
 ask-requires c κs = search needs
@@ -60,7 +60,7 @@ returns c =
     let d = c .before .before .before .before in
     let a = start d .args in
     let is = c .before .before .from .given .1 in
-    part-shown (a .strip .now) (a .held .state) (a .chg .now) (a .number) (d .ask .ensures) is
+    part-shown (a .strip .now) (a .held) (a .chg .now) (a .number) (d .ask .ensures) is
     (a .strip .ptr .0) (a .strip .ptr .1) (a .chg .ptr .0) (a .chg .ptr .1) _ _ _ (holds d is .2) (refl, refl)
 
 returns-2 : tie.Need-returns-2
@@ -68,14 +68,14 @@ returns-2 c =
     let d = c .before .before .before .before in
     let a = start d .args in
     let is = c .before .before .from2 .given .1 in
-    part-shown (a .strip .now) (a .held .state) (a .chg .now) (a .number) (d .ask .ensures) is
+    part-shown (a .strip .now) (a .held) (a .chg .now) (a .number) (d .ask .ensures) is
     (a .strip .ptr .0) (a .strip .ptr .1) (a .chg .ptr .0) (a .chg .ptr .1) _ _ _ (holds d is .2) (refl, refl)
 
 returns-3 : tie.Need-returns-3
 returns-3 c =
     let d = c .before .before .before in
     let a = start d .args in
-    part-shown (a .strip .now) (a .held .state) (a .chg .now) (a .number) (d .ask .ensures) (c .before .enum-told .given .1)
+    part-shown (a .strip .now) (a .held) (a .chg .now) (a .number) (d .ask .ensures) (c .before .enum-told .given .1)
     (a .strip .ptr .0) (a .strip .ptr .1) (a .chg .ptr .0) (a .chg .ptr .1) _ _ _ refl (refl, refl)
 
 pub in-force-spec : {M : Type 1} → statement M

@@ -27,7 +27,7 @@ returns c =
     let n = c .before .byte-of .ensures in
     let held = c .before .before .before .h .given .0 .0 in
     let e = ap (λ h. askedAs h (a .strip .now) (a .chg .now) (a .number)) (c .before .before .before .h .given .1) in (
-      c .ask .ensures .0 ∙ ap (askedOf (a .strip .now) (held .state) (a .chg .now)) n ∙ sym e,
+      c .ask .ensures .0 ∙ ap (askedOf (a .strip .now) held (a .chg .now)) n ∙ sym e,
       subst (λ k. Shows (c .ask .result) (a .strip .now) (a .chg .now) (inForce (inner (a .strip .now)) (inner (a .chg .now)) (rankOf k))) n (c .ask .ensures .1),
     )
 

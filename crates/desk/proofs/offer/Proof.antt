@@ -28,7 +28,7 @@ array-share-prefix-new : tie.Need-array-share-prefix-new
 array-share-prefix-new c =
     let u = c .before .before .before .before in
     let a = u .before .before .before .before .before .args in
-    let h = accepted-fits (take (a .n) (a .strip .now)) (a .held .state) (a .piece .now) 1800 _ _ (sym (u .update .ensures .0) ∙ c .before .next .given .1) in
+    let h = accepted-fits (take (a .n) (a .strip .now)) (a .held) (a .piece .now) 1800 _ _ (sym (u .update .ensures .0) ∙ c .before .next .given .1) in
     omega (arith, h, u .update .kept .1 .1 .1 .0)
 
 slice-aggregate-put : tie.Need-slice-aggregate-put

@@ -4,7 +4,9 @@ use mathlib.Core.Path.{_≡_, refl}
 use lib.ListN.{length, drop}
 use Rattle.space.specs.Hyphens.{behindHyphen}
 use Rattle.message.proofs.Walk.{hyphen-turn, hyphen-done}
+use Rattle.message.proofs.Nth.{hyphen-end}
 use borrow.Author.Needs.{needs}
+use native.Mathlib.Omega.{arith}
 use Rattle.message.proofs.onward.Statement.{statement}
 use Rattle.message.proofs.onward.Tie as tie
 
@@ -17,6 +19,11 @@ abbrev μ-loop : tie.MeasureT-loop
 loop-holds : tie.Need-loop-holds Inv-loop μ-loop
 loop-holds c = (c .before .pre, refl)
 
+returns : tie.Need-returns Inv-loop μ-loop
+returns c =
+    let l = c .before .before .before .loop in
+    (l .inv .0, hyphen-end (c .before .before .before .before .before .args .s .now) _ (l .c .at) (l .left) (omega arith) (l .inv .1))
+
 next-requires : tie.Need-next-requires Inv-loop μ-loop
 next-requires c κs = search needs
 
@@ -28,15 +35,24 @@ loop-less c = search needs
 
 loop-again : tie.Need-loop-again Inv-loop μ-loop
 loop-again c =
-    let p = c .before .before in
-    (c .next .ensures .inside, hyphen-turn (c .before .before .before .before .args .s .now) _ (p .loop .c .at) _ (p .loop .left) (c .next .ensures) (c .before .loop-test .taken) (p .loop .inv .1))
+    let s = c .before .before .before .before .before .before .args .s .now in
+    let l = c .before .before .before .before .loop in
+    let n = c .next .ensures in
+    (n .inside, hyphen-turn s _ (l .c .at) _ (l .left) n (c .before .before .before .loop-test .taken) (l .inv .1))
 
-returns : tie.Need-returns Inv-loop μ-loop
-returns c =
-    let p = c .before in
-    (p .loop .inv .0, hyphen-done _ _ (p .loop .left) (c .loop-test .left) (p .loop .inv .1))
+returns-2 : tie.Need-returns-2 Inv-loop μ-loop
+returns-2 c = let p = c .before .loop in (p .inv .0, hyphen-done _ _ (p .left) (c .loop-test .left) (p .inv .1))
 
 pub onward-spec : {M : Type 1} → statement M
 onward-spec =
     tie.close
-    (tie.spec Inv-loop μ-loop loop-holds next-requires sub-left loop-less loop-again returns)
+    (tie.spec
+    Inv-loop
+    μ-loop
+    loop-holds
+    returns
+    next-requires
+    sub-left
+    loop-less
+    loop-again
+    returns-2)

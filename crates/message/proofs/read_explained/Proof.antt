@@ -6,7 +6,7 @@ use Rattle.message.specs.declared.Answer.the-variants.{Refused}
 use Prim.Native.Nat.{ℕ}
 use Rattle.space.specs.Hyphens.{placeOfHyphen}
 use Rattle.message.specs.Reading.{roomAs, faultAs}
-use Rattle.message.proofs.Steps.{told, passed-on, plan-nine, left-unexplained, none-unexplained, no-plan}
+use Rattle.message.proofs.Steps.{told, passed-on, left-unexplained, none-unexplained, no-plan}
 use borrow.Author.Needs.{needs}
 use Rattle.message.proofs.read_explained.Statement.{statement}
 use Rattle.message.proofs.read_explained.Tie as tie
@@ -15,9 +15,7 @@ is-plan-requires : tie.Need-is-plan-requires
 is-plan-requires c κs = search needs
 
 unexplained-in-requires : tie.Need-unexplained-in-requires
-unexplained-in-requires c κs =
-    let a = c .before .before .before .before .before .args in
-    plan-nine (a .t) (a .msg .now) (a .count) (a .s .now) (c .before .before .before .before .before .pre) (sym (c .before .is-plan .ensures) ∙ c .if1 .taken)
+unexplained-in-requires c κs = search needs
 
 place-in-plan-requires : tie.Need-place-in-plan-requires
 place-in-plan-requires c κs = search needs

@@ -1,6 +1,6 @@
 -- `state::next_state` meets its contract. Assumes nothing.
 use mathlib.Core.Path.{sym, ap}
-use Rattle.state.specs.State.{nextOf}
+use Rattle.state.specs.State.{nextState}
 use borrow.Author.Needs.{needs}
 use Rattle.state.proofs.next_state.Statement.{statement}
 use Rattle.state.proofs.next_state.Tie as tie
@@ -33,10 +33,10 @@ returns-3 : tie.Need-returns-3
 returns-3 c = search needs
 
 returns-4 : tie.Need-returns-4
-returns-4 c = sym (ap (nextOf (c .before .before .before .args .s)) (c .before .e .given .1))
+returns-4 c = sym (ap (nextState (c .before .before .before .args .s)) (c .before .e .given .1))
 
 returns-5 : tie.Need-returns-5
-returns-5 c = rw (c .departed-at .ensures) (sym (ap (nextOf (c .before .before .before .before .args .s)) (c .before .before .e2 .given .1)))
+returns-5 c = rw (c .departed-at .ensures) (sym (ap (nextState (c .before .before .before .before .args .s)) (c .before .before .e2 .given .1)))
 
 pub next-state-spec : {M : Type 1} → statement M
 next-state-spec =

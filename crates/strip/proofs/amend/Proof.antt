@@ -1,77 +1,145 @@
 -- `strip::amend` meets its contract. Assumes nothing.
-use Rattle.strip.proofs.Answers.{left-unexplained, too-long, no-room, fits-room}
+use Prim.Native.Nat.{ℕ, _-_, _≤_}
+use mathlib.Core.Path.{_≡_, sym, ap, _∙_}
+use mathlib.Core.List.{List}
 use native.Mathlib.Omega.{arith}
+use lib.ListN.{length, take, drop}
+use lib.Seq.{length-take-le}
+use Rattle.text.specs.Words.{split}
+use Rattle.supplement.proofs.Turns.{put-same}
+use Rattle.message.specs.Reading.{unexplainedIn}
+use Rattle.opening.proofs.Steps.{front-whole, front-text}
+use Rattle.strip.specs.Updating.{amended, newStrip}
+use Rattle.strip.proofs.Room.{new-room, new-two, new-cut}
+use Rattle.strip.proofs.Answers.{left-unexplained, too-long, no-room, fits-room}
 use borrow.Author.Needs.{needs}
 use Rattle.strip.proofs.amend.Statement.{statement}
 use Rattle.strip.proofs.amend.Tie as tie
 
--- where the plan as amended is explained: what was learnt of it, and of the marks
-module _ (c : tie.Else1) where
+-- THE SCRATCH, once the amended plan stands there
+module _ (c : tie.After-write-amended) where
   abbrev start : tie.Start
-  start = c .before .before .before .before .before .before
+  start = c .before .before .before .before .before
 
-  abbrev marked : tie.After-marks-in
-  marked = c .before .before
+  abbrev new : List ℕ
+  new = newStrip (start .args .role) (start .args .plan .now) (start .args .said .now)
 
-marks-in-requires : tie.Need-marks-in-requires
-marks-in-requires c κs = search needs
+  abbrev scratch : List ℕ
+  scratch = c .write-amended .last .1 .1 .1 .0
+
+  abbrev size : ℕ
+  size = c .write-amended .result
+
+  long : size ≡ length new
+  long = c .write-amended .ensures .0
+
+  two : 2 ≤ size
+  two = omega (arith, long, new-two (start .args .plan .now) (start .args .said .now) (start .args .role))
+
+  inside : size ≤ length scratch
+  inside =
+      let fits = new-room (start .args .plan .now) (start .args .said .now) (start .args .role) (start .pre .0) in
+      omega (arith, long, fits, start .pre .1, start .pre .2, c .write-amended .kept .1 .1 .1 .0)
+
+  text-there : split 45 (take (size - 1 - 1) (drop 1 scratch)) ≡ amended (start .args .role) (start .args .plan .now) (start .args .said .now)
+  text-there =
+      ap (λ (w : List ℕ). split 45 (take (size - 1 - 1) (drop 1 w))) (c .write-amended .ensures .1)
+      ∙ ap (split 45) (front-text new _ size long two)
+      ∙ new-cut (start .args .plan .now) (start .args .said .now) (start .args .role)
+
+  whole-there : take size scratch ≡ new
+  whole-there = ap (take size) (c .write-amended .ensures .1) ∙ front-whole new _ size long
+
+-- number 10, asked of it
+module _ (c : tie.After-unexplained-in) where
+  abbrev written : tie.After-write-amended
+  written = c .before .before .before .before
+
+  field-is : c .unexplained-in .result ≡ unexplainedIn (amended (start written .args .role) (start written .args .plan .now) (start written .args .said .now))
+  field-is = c .unexplained-in .ensures ∙ ap unexplainedIn (text-there written)
+
+slice-aggregate-write-amended : tie.Need-slice-aggregate-write-amended
+slice-aggregate-write-amended c = search needs
+
+write-amended-requires : tie.Need-write-amended-requires
+write-amended-requires c κs =
+    let s = c .before .before .before .before in
+    omega (arith, new-room (s .args .plan .now) (s .args .said .now) (s .args .role) (s .pre .0), s .pre .1, s .pre .2)
+
+sub-e : tie.Need-sub-e
+sub-e c = omega (arith, two (c .before))
+
+sub-unexplained-in : tie.Need-sub-unexplained-in
+sub-unexplained-in c = omega (arith, two (c .before))
+
+part-unexplained-in-start : tie.Need-part-unexplained-in-start
+part-unexplained-in-start c = omega (arith, two (c .before .before))
+
+part-unexplained-in-end : tie.Need-part-unexplained-in-end
+part-unexplained-in-end c = omega (arith, inside (c .before .before))
 
 unexplained-in-requires : tie.Need-unexplained-in-requires
-unexplained-in-requires c κs = c .marks-in .ensures
+unexplained-in-requires c κs = search needs
 
 returns : tie.Need-returns
 returns c =
-    let a = c .before .before .before .before .before .before .args in
-    left-unexplained (a .t) (a .plan .now) (a .said .now) (a .next .state) (a .out .now) _ (c .before .unexplained-in .ensures) (c .if1 .taken)
-
-new-length-requires : tie.Need-new-length-requires
-new-length-requires c κs =
-    let m = marked c .marks-in .ensures in
-    (start c .pre .0, start c .pre .1, m .0, m .1)
+    let d = c .before in
+    let a = start (written d) .args in
+    left-unexplained (a .role) (a .plan .now) (a .said .now) (a .next) (a .out .now) _ (field-is d) (c .if1 .taken)
 
 returns-2 : tie.Need-returns-2
 returns-2 c =
     let d = c .before .before in
-    let a = start d .args in
-    too-long (a .t) (a .plan .now) (a .said .now) (a .next .state) (a .out .now) _ (d .before .unexplained-in .ensures) (d .if1 .left)
-    _ (c .before .new-length .ensures) (omega (arith, c .if2 .taken))
+    let a = start (written d) .args in
+    too-long (a .role) (a .plan .now) (a .said .now) (a .next) (a .out .now) _ (field-is d) (c .before .if1 .left) _ (long (written d)) (c .if2 .taken)
 
 returns-3 : tie.Need-returns-3
 returns-3 c =
     let d = c .before .before .before in
-    let a = start d .args in
-    no-room (a .t) (a .plan .now) (a .said .now) (a .next .state) (a .out .now) _ (d .before .unexplained-in .ensures) (d .if1 .left)
-    _ (c .before .before .new-length .ensures) (omega (arith, c .before .if2 .left)) (omega (arith, c .if3 .taken))
+    let a = start (written d) .args in
+    no-room (a .role) (a .plan .now) (a .said .now) (a .next) (a .out .now) _ (field-is d) (c .before .before .if1 .left) _ (long (written d))
+    (omega (arith, c .before .if2 .left)) (c .if3 .taken)
 
-write-new-requires : tie.Need-write-new-requires
-write-new-requires c κs =
-    let m = marked (c .before .before .before .before) .marks-in .ensures in
-    (omega (arith, c .before .before .before .new-length .ensures, c .before .if3 .left), m .0, m .1)
+array-share-prefix-new : tie.Need-array-share-prefix-new
+array-share-prefix-new c = inside (written (c .before .before .before))
+
+slice-aggregate-put : tie.Need-slice-aggregate-put
+slice-aggregate-put c = sym (length-take-le _ _ (inside (written (c .before .before .before .before))))
+
+put-requires : tie.Need-put-requires
+put-requires c κs =
+    let d = written (c .before .before .before .before .before) in
+    omega (arith, ap length (whole-there d), long d, c .before .before .if3 .left)
 
 same-length : tie.Need-same-length
 same-length c = search needs
 
 returns-4 : tie.Need-returns-4
 returns-4 c =
-    let w = c .before .before .write-new in
-    let fits = c .before .before .before .before in
-    let n = fits .before .before .new-length in
+    let p = c .before .before in
+    let fits = p .before .before .before in
     let d = fits .before .before .before in
-    let a = start d .args in
-    fits-room (a .t) (a .plan .now) (a .said .now) (a .next .state) (a .out .now) _ (d .before .unexplained-in .ensures) (d .if1 .left)
-    _ (w .ensures .0) (omega (arith, w .ensures .0, n .ensures, fits .before .if2 .left)) (omega (arith, w .ensures .0, n .ensures, fits .if3 .left))
-    _ (w .ensures .1)
+    let a = start (written d) .args in
+    let put = put-same (a .out .now) (whole-there (written d)) (p .put .ensures) in
+    fits-room (a .role) (a .plan .now) (a .said .now) (a .next) (a .out .now) _ (field-is d) (fits .before .before .if1 .left)
+    _ (put .0) (omega (arith, put .0, long (written d), fits .before .if2 .left)) (omega (arith, put .0, long (written d), fits .if3 .left)) _ (put .1)
 
 pub amend-spec : {M : Type 1} → statement M
 amend-spec =
     tie.close
     (tie.spec
-    marks-in-requires
+    slice-aggregate-write-amended
+    write-amended-requires
+    sub-e
+    sub-unexplained-in
+    part-unexplained-in-start
+    part-unexplained-in-end
     unexplained-in-requires
     returns
-    new-length-requires
     returns-2
     returns-3
-    write-new-requires
+    array-share-prefix-new
+    slice-aggregate-put
+    put-requires
     same-length
     returns-4)

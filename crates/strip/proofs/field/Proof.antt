@@ -1,7 +1,7 @@
 -- `strip::field` meets its contract. Assumes nothing.
 use mathlib.Core.Path.{sym, ap, _∙_}
 use Rattle.text.specs.Words.{before}
-use Rattle.force.proofs.Walk.{field-at}
+use Rattle.message.proofs.Nth.{field-at}
 use borrow.Author.Needs.{needs}
 use Rattle.strip.proofs.field.Statement.{statement}
 use Rattle.strip.proofs.field.Tie as tie

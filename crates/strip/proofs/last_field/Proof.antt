@@ -4,7 +4,7 @@ use mathlib.Core.Path.{_≡_, refl}
 use lib.ListN.{length, drop}
 use Rattle.text.specs.Words.{split}
 use Rattle.strip.specs.Updating.{arrival}
-use Rattle.strip.proofs.Steps.{last-here, last-next}
+use Rattle.strip.proofs.Last.{last-here, last-next}
 use borrow.Author.Needs.{needs}
 use native.Mathlib.Omega.{arith}
 use Rattle.strip.proofs.last_field.Statement.{statement}

@@ -19,7 +19,7 @@ module _ (c : tie.After-known-told) where
   abbrev event : Event
   event = c .before .e .given .0 .0
 
-  says : eventOf (start .args .t) (split 45 (start .args .said .now)) ≡ Says event
+  says : eventOf (start .args .role) (split 45 (start .args .said .now)) ≡ Says event
   says = sym (c .before .before .before .event-of .ensures) ∙ c .before .e .given .1
 
 module _ (c : tie.After-any) where
@@ -29,7 +29,7 @@ module _ (c : tie.After-any) where
   abbrev begun : tie.Start
   begun = start told-there
 
-  compared : differs (differences (begun .args .t) (split 45 (begun .args .plan .now)) (split 45 (begun .args .said .now))) ≡ c .any .result
+  compared : differs (differences (begun .args .role) (split 45 (begun .args .plan .now)) (split 45 (begun .args .said .now))) ≡ c .any .result
   compared = sym (c .any .ensures ∙ ap differs (c .before .differences-in .ensures))
 
 event-of-requires : tie.Need-event-of-requires
@@ -51,7 +51,7 @@ returns : tie.Need-returns
 returns c =
     let d = told-there (c .before) in
     let a = start d .args in
-    differing (a .t) (a .plan .now) (a .held .state) (a .said .now) (a .out .now) _ (says d) (compared (c .before) ∙ c .if1 .taken)
+    differing (a .role) (a .plan .now) (a .held) (a .said .now) (a .out .now) _ (says d) (compared (c .before) ∙ c .if1 .taken)
 
 allows-requires : tie.Need-allows-requires
 allows-requires c κs = search needs
@@ -61,7 +61,7 @@ returns-2 c =
     let same = c .before .before in
     let d = told-there (same .before) in
     let a = start d .args in
-    not-allowed (a .t) (a .plan .now) (a .held .state) (a .said .now) (a .out .now) _ (says d) (compared (same .before) ∙ same .if1 .left)
+    not-allowed (a .role) (a .plan .now) (a .held) (a .said .now) (a .out .now) _ (says d) (compared (same .before) ∙ same .if1 .left)
     (sym (c .before .allows .ensures) ∙ not-true _ (c .if2 .taken))
 
 next-requires : tie.Need-next-requires
@@ -73,7 +73,7 @@ amend-requires c κs = start (c .before .before .before .before .before .before 
 returns-3 : tie.Need-returns-3
 returns-3 c =
     let a = c .before .before .before .before .before .before .args in
-    unfit (a .t) (a .plan .now) (a .held .state) (a .said .now) (a .out .now) (sym (c .before .before .event-of .ensures) ∙ c .enum-told .given .1)
+    unfit (a .role) (a .plan .now) (a .held) (a .said .now) (a .out .now) (sym (c .before .before .event-of .ensures) ∙ c .enum-told .given .1)
 
 same-length : tie.Need-same-length
 same-length c = search needs
@@ -85,8 +85,8 @@ returns-4 c =
     let same = may .before .before in
     let d = told-there (same .before) in
     let a = start d .args in
-    allowed (a .t) (a .plan .now) (a .held .state) (a .said .now) (a .out .now) _ (says d) (compared (same .before) ∙ same .if1 .left)
-    (sym (may .before .allows .ensures) ∙ not-false _ (may .if2 .left)) (next .next .result .state) (next .next .ensures)
+    allowed (a .role) (a .plan .now) (a .held) (a .said .now) (a .out .now) _ (says d) (compared (same .before) ∙ same .if1 .left)
+    (sym (may .before .allows .ensures) ∙ not-false _ (may .if2 .left)) (next .next .result) (next .next .ensures)
     _ _ (c .before .before .amend .ensures)
 
 pub offer-spec : {M : Type 1} → statement M

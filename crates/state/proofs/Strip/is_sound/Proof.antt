@@ -1,6 +1,6 @@
 -- `state::Strip::is_sound` meets its contract. Assumes nothing.
 use mathlib.Core.Path.{sym, ap, _∙_}
-use Rattle.state.specs.State.{sound}
+use Rattle.state.specs.State.{soundState}
 use borrow.Author.Needs.{needs}
 use Rattle.state.proofs.Strip.is_sound.Statement.{statement}
 use Rattle.state.proofs.Strip.is_sound.Tie as tie
@@ -27,10 +27,10 @@ returns : tie.Need-returns
 returns c = search needs
 
 returns-2 : tie.Need-returns-2
-returns-2 c = c .is-sound-clock .ensures ∙ sym (ap sound (c .before .before .s .given .1))
+returns-2 c = c .is-sound-clock .ensures ∙ sym (ap soundState (c .before .before .s .given .1))
 
 returns-3 : tie.Need-returns-3
-returns-3 c = c .is-sound-arrival .ensures ∙ sym (ap sound (c .before .before .s2 .given .1))
+returns-3 c = c .is-sound-arrival .ensures ∙ sym (ap soundState (c .before .before .s2 .given .1))
 
 returns-4 : tie.Need-returns-4
 returns-4 c = search needs

@@ -17,7 +17,7 @@ say-part-requires : tie.Need-say-part-requires
 say-part-requires c κs =
     let a = c .before .before .before .before .before .before .before .args in
     let r = c .before .before .before .before .ask .ensures in
-    let part = shows-so (a .strip .now) (a .held .state) (a .chg .now) (a .number) r (c .before .before .from .given .1) in
+    let part = shows-so (a .strip .now) (a .held) (a .chg .now) (a .number) r (c .before .before .from .given .1) in
     (part .0, part .1)
 
 enum-known-from-2 : tie.Need-enum-known-from-2
@@ -30,7 +30,7 @@ say-part-requires-2 : tie.Need-say-part-requires-2
 say-part-requires-2 c κs =
     let a = c .before .before .before .before .before .before .before .args in
     let r = c .before .before .before .before .ask .ensures in
-    let part = shows-so (a .strip .now) (a .held .state) (a .chg .now) (a .number) r (c .before .before .from2 .given .1) in
+    let part = shows-so (a .strip .now) (a .held) (a .chg .now) (a .number) r (c .before .before .from2 .given .1) in
     (part .0, part .1)
 
 enum-known-n : tie.Need-enum-known-n

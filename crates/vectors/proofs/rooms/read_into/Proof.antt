@@ -2,7 +2,7 @@
 use mathlib.Core.Path.{sym, _∙_}
 use lib.Seq.{length-take-le}
 use lib.ListN.{drop, length-append}
-use Rattle.strip.proofs.Steps.{read-bounds}
+use Rattle.opening.proofs.Steps.{read-bounds}
 use native.Mathlib.Omega.{arith}
 use borrow.Author.Needs.{needs}
 use Rattle.vectors.proofs.rooms.read_into.Statement.{statement}
