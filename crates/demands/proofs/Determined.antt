@@ -17,12 +17,15 @@ use Rattle.space.specs.Fields.{inner}
 use Rattle.space.specs.Hyphens.{behindHyphen}
 use Rattle.supplement.specs.Field19.{written19}
 use Rattle.kinds.specs.declared.Form.{Form}
+use Rattle.kinds.specs.Kinds.{firstEntry}
 use Rattle.forms.specs.Forms.{rankIn, writtenOf}
 use Rattle.message.specs.declared.Answer.{Answer}
 use Rattle.state.specs.declared.Strip.{Strip}
+use Rattle.opening.specs.declared.Opening.{Opening}
+use Rattle.opening.specs.Opening.{openingOf, scratchAfter}
 use Rattle.force.specs.declared.Found.{Found}
 use Rattle.force.specs.declared.Found.the-variants.{At, Nowhere}
-use Rattle.force.specs.InForce.{inForce, namedAt, placeOf, Stands, FoundIn}
+use Rattle.force.specs.InForce.{inForce, namedAt, placeOf, Stands, AtEntries, FoundIn}
 use Rattle.strip.specs.declared.Updated.{Updated}
 use Rattle.strip.specs.Updating.{updateOf, outAfter as updatedOut}
 use Rattle.asked.specs.declared.Asked.{Asked}
@@ -100,11 +103,22 @@ part-one c s self = part-bytes (before c (drop (self .at) s))
 
 -- FINDING A FIELD: the cursor at it, and the ends of an entry's content
 
-pub seek-one : (j : ℕ) (s : List ℕ) → Determines Cursor (λ r. (r .at ≤ length s) × (drop (r .at) s ≡ behindHyphen j s))
-seek-one j s x y p q =
+cursor-one : (s w : List ℕ) → Determines Cursor (λ r. (r .at ≤ length s) × (drop (r .at) s ≡ w))
+cursor-one s w x y p q =
     let left : length (drop (x .at) s) ≡ length (drop (y .at) s) = ap length (p .1 ∙ sym (q .1)) in
     let at : x .at ≡ y .at = omega (arith, left, length-drop (x .at) s, length-drop (y .at) s, p .0, q .0) in
     ap (λ (i : ℕ). record { at = i }) at
+
+-- `message::onward`, `force::seek` and `force::first_entry`
+pub onward-one : (from : Cursor) (n : ℕ) (s : List ℕ)
+    → Determines Cursor (λ r. (r .at ≤ length s) × (drop (r .at) s ≡ behindHyphen n (drop (from .at) s)))
+onward-one from n s = cursor-one s (behindHyphen n (drop (from .at) s))
+
+pub seek-one : (j : ℕ) (s : List ℕ) → Determines Cursor (λ r. (r .at ≤ length s) × (drop (r .at) s ≡ behindHyphen j s))
+seek-one j s = cursor-one s (behindHyphen j s)
+
+pub first-entry-one : (chg : List ℕ) → Determines Cursor (λ r. AtEntries chg (r .at))
+first-entry-one chg = cursor-one chg (behindHyphen firstEntry chg)
 
 pub named-one : (chg : List ℕ) (k : ℕ) → Determines Found (FoundIn chg k)
 named-one chg k (At a b) (At c d) p q =
@@ -148,6 +162,12 @@ shown-one strip held chg number sb sp cb cp x y p q = go (askedOf strip held chg
 pub ask-one : (strip : List ℕ) (held : Strip) (chg : List ℕ) (number : ℕ)
     → Determines Asked (λ r. (r ≡ askedOf strip held chg number) × Shows r strip chg (inForce (inner strip) (inner chg) (rankOf number)))
 ask-one strip held chg number = bounded Asked (askedOf strip held chg number) (λ r. Shows r strip chg (inForce (inner strip) (inner chg) (rankOf number)))
+
+-- OPENING A STRIP: the answer, and every byte of the scratch
+
+pub open-one : (strip : List ℕ) (held : Strip) (m scratch : List ℕ)
+    → Determines (Opening × List ℕ) (λ r. (r .0 ≡ openingOf strip held m) × (r .1 ≡ scratchAfter (openingOf strip held m) m scratch))
+open-one strip held m scratch = written Opening (openingOf strip held m) (scratchAfter (openingOf strip held m) m scratch)
 
 -- UPDATING: the answer with the record, and every byte of the output
 

@@ -67,6 +67,10 @@ abbrev pub Stands : {A : Type 0} → Option ℕ → ℕ → (plan-block : A) (pl
 Stands (some a) field pb pp cb cp block place = (block ≡ cb) × (place ≡ a + cp)
 Stands none field pb pp cb cp block place = (block ≡ pb) × (place ≡ field + pp)
 
+-- the entries begin at this place
+abbrev pub AtEntries : List ℕ → ℕ → Type 0
+AtEntries chg at = (at ≤ length chg) × (drop at chg ≡ behindHyphen firstEntry chg)
+
 -- what finding an entry gives: the ends of its content
 abbrev pub FoundIn : List ℕ → ℕ → Found → Type 0
 FoundIn chg k (At from to) = (from ≤ to) × (to ≤ length chg) × (namedBy chg k ≡ some (take (to - from) (drop from chg))) × (namedAt chg k ≡ some from)

@@ -3,7 +3,7 @@ ghost use mathlib.Core.Path.{_≡_};
 ghost use Prim.Native.Nat.{ℕ, _≤_, _<_};
 ghost use lib.ListN.{length, drop};
 ghost use Rattle.space.specs.Hyphens.{behindHyphen};
-ghost use Rattle.force.specs.InForce.{inForce, namedAt, placeOf, Stands, FoundIn};
+ghost use Rattle.force.specs.InForce.{inForce, namedAt, placeOf, Stands, AtEntries, FoundIn};
 use kinds::Form;
 use text::Cursor;
 
@@ -20,12 +20,19 @@ pub fn seek(s: &[u8], j: usize) -> Cursor
     message::onward(s, Cursor { at: 0 }, j)
 }
 
-// The content of the first entry that names the field of rank k.
-fn find_entry(chg: &[u8], k: usize) -> Found
-    requires { ⌜ 0 < k ⌝ }
+// The cursor at a CHG's first entry.
+pub fn first_entry(chg: &[u8]) -> Cursor
+    ensures { λ r. ⌜ AtEntries (now (chg .entry)) (r .at) ⌝ }
+{
+    seek(chg, kinds::FIRST_ENTRY)
+}
+
+// The content of the first entry that names the field of rank k, where the entries begin at `first`.
+fn find_entry(chg: &[u8], first: Cursor, k: usize) -> Found
+    requires { ⌜ (0 < k) × AtEntries (now chg) (first .at) ⌝ }
     ensures { λ r. ⌜ FoundIn (now (chg .entry)) k r ⌝ }
 {
-    let mut c = seek(chg, kinds::FIRST_ENTRY);
+    let mut c = first;
     loop {
         let at = c.at;
         let e = c.end(chg, b'-');
@@ -44,14 +51,22 @@ fn find_entry(chg: &[u8], k: usize) -> Found
     }
 }
 
-// What a CHG has for the field of rank k. Rank 0 is field 3, which no entry names.
-pub fn named(chg: &[u8], k: usize) -> Found
+// What a CHG has for the field of rank k, where its entries begin at `first`. Rank 0 is field 3, which no entry names.
+pub fn named_from(chg: &[u8], first: Cursor, k: usize) -> Found
+    requires { ⌜ AtEntries (now chg) (first .at) ⌝ }
     ensures { λ r. ⌜ FoundIn (now (chg .entry)) k r ⌝ }
 {
     if k == 0 {
         return Found::Nowhere;
     }
-    find_entry(chg, k)
+    find_entry(chg, first, k)
+}
+
+// What a CHG has for the field of rank k.
+pub fn named(chg: &[u8], k: usize) -> Found
+    ensures { λ r. ⌜ FoundIn (now (chg .entry)) k r ⌝ }
+{
+    named_from(chg, first_entry(chg), k)
 }
 
 // The content in force of the field of rank k, as a part of the CHG if an entry names the field, otherwise of the plan.

@@ -7,6 +7,7 @@ ghost use lib.ListN.{length, drop, getD};
 ghost use Rattle.text.specs.Words.{split, same};
 ghost use Rattle.aerodromes.specs.Asked.{clockAt};
 ghost use Rattle.message.specs.Reading.{leadOf};
+ghost use Rattle.force.specs.InForce.{AtEntries};
 ghost use Rattle.strip.specs.Updating.{timeOf, arrival, eventOf, comparesTime, differences, differs, contentIn, newStrip, updateOf, outAfter};
 ghost use Rattle.strip.specs.Steps.{Puts, Texts, Amends, Offers};
 use force::Found;
@@ -165,12 +166,12 @@ impl Differences {
     }
 }
 
-// Writes field k of a plan after a CHG at the front of `out`: the content that names it, otherwise the plan's own.
-fn put_changed<'a>(own: &'a [u8], said: &'a [u8], k: usize, out: &mut [u8]) -> usize
-    requires { ⌜ length (contentIn Role.Changes (now own) (now said) k) ≤ length (now out) ⌝ }
+// Writes field k of a plan after a CHG at the front of `out`: the content that names it, otherwise the plan's own. The entries begin at `first`.
+fn put_changed<'a>(own: &'a [u8], said: &'a [u8], first: Cursor, k: usize, out: &mut [u8]) -> usize
+    requires { ⌜ AtEntries (now said) (first .at) × (length (contentIn Role.Changes (now own) (now said) k) ≤ length (now out)) ⌝ }
     ensures { λ r. ⌜ Puts (contentIn Role.Changes (now (own .entry)) (now (said .entry)) k) r (now (out .entry)) (now (out .exit)) ⌝ }
 {
-    match force::named(said, k) {
+    match force::named_from(said, first, k) {
         Found::At { from, to } => text::put(&said[from..to], out),
         Found::Nowhere => text::put(own, out),
     }
@@ -198,12 +199,19 @@ fn put_delayed<'a>(own: &'a [u8], said: &'a [u8], k: usize, out: &mut [u8]) -> u
 }
 
 // Writes field k of the amended plan, of which `own` is the plan's.
-fn put_content<'a>(role: Role, own: &'a [u8], said: &'a [u8], k: usize, out: &mut [u8]) -> usize
-    requires { ⌜ length (contentIn role (now own) (now said) k) ≤ length (now out) ⌝ }
+fn put_content<'a>(
+    role: Role,
+    own: &'a [u8],
+    said: &'a [u8],
+    first: Cursor,
+    k: usize,
+    out: &mut [u8],
+) -> usize
+    requires { ⌜ AtEntries (now said) (first .at) × (length (contentIn role (now own) (now said) k) ≤ length (now out)) ⌝ }
     ensures { λ r. ⌜ Puts (contentIn role (now (own .entry)) (now (said .entry)) k) r (now (out .entry)) (now (out .exit)) ⌝ }
 {
     match role {
-        Role::Changes => put_changed(own, said, k, out),
+        Role::Changes => put_changed(own, said, first, k, out),
         Role::Delays => put_delayed(own, said, k, out),
         Role::Cancels => text::put(own, out),
         Role::Departs => text::put(own, out),
@@ -214,12 +222,19 @@ fn put_content<'a>(role: Role, own: &'a [u8], said: &'a [u8], k: usize, out: &mu
 }
 
 // Writes field k of the amended plan behind the byte that leads to it.
-fn put_field<'a>(role: Role, own: &'a [u8], said: &'a [u8], k: usize, out: &mut [u8]) -> usize
-    requires { ⌜ length (leadOf k ∷ contentIn role (now own) (now said) k) ≤ length (now out) ⌝ }
+fn put_field<'a>(
+    role: Role,
+    own: &'a [u8],
+    said: &'a [u8],
+    first: Cursor,
+    k: usize,
+    out: &mut [u8],
+) -> usize
+    requires { ⌜ AtEntries (now said) (first .at) × (length (leadOf k ∷ contentIn role (now own) (now said) k) ≤ length (now out)) ⌝ }
     ensures { λ r. ⌜ Puts (leadOf k ∷ contentIn role (now (own .entry)) (now (said .entry)) k) r (now (out .entry)) (now (out .exit)) ⌝ }
 {
     out[0] = message::lead_of(k);
-    let n = put_content(role, own, said, k, &mut out[1..]);
+    let n = put_content(role, own, said, first, k, &mut out[1..]);
     n + 1
 }
 
@@ -239,13 +254,14 @@ fn write_amended<'a>(role: Role, plan: &'a [u8], said: &'a [u8], out: &mut [u8])
     requires { ⌜ length (newStrip role (now plan) (now said)) ≤ length (now out) ⌝ }
     ensures { λ r. ⌜ Puts (newStrip role (now (plan .entry)) (now (said .entry))) r (now (out .entry)) (now (out .exit)) ⌝ }
 {
+    let first = force::first_entry(said);
     let mut o = 0;
     let mut c = Cursor { at: 0 };
     let mut k = 0;
     while k < PLAN_FIELDS {
         let at = c.at;
         let e = c.end(plan, b'-');
-        o += put_field(role, &plan[at..e], said, k, &mut out[o..]);
+        o += put_field(role, &plan[at..e], said, first, k, &mut out[o..]);
         c = behind(plan, e);
         k += 1;
     }

@@ -20,10 +20,10 @@ module _ (c : tie.After-known-told) where
   start = c .before .before .before .before .before .before .before
 
   found : FoundIn (start .args .said .now) (start .args .k) (At (c .before .from .given .0 .0) (c .before .from .given .0 .1 .0))
-  found = as-found _ _ (c .before .before .before .named .ensures) (c .before .from .given .1)
+  found = as-found _ _ (c .before .before .before .named-from .ensures) (c .before .from .given .1)
 
-named-requires : tie.Need-named-requires
-named-requires c κs = search needs
+named-from-requires : tie.Need-named-from-requires
+named-from-requires c κs = c .before .before .before .pre .0
 
 enum-known-from : tie.Need-enum-known-from
 enum-known-from c = search needs
@@ -40,7 +40,7 @@ part-put-end c = found c .1
 put-requires : tie.Need-put-requires
 put-requires c κs =
     let d = c .before .before in
-    room-same (start d .args .out .now) (sym (given-by (start d .args .own .now) (found d .2))) (start d .pre)
+    room-same (start d .args .out .now) (sym (given-by (start d .args .own .now) (found d .2))) (start d .pre .1)
 
 enum-told : tie.Need-enum-told
 enum-told c = search needs
@@ -48,8 +48,8 @@ enum-told c = search needs
 put-requires-2 : tie.Need-put-requires-2
 put-requires-2 c κs =
     let s = c .before .before .before .before .before .before .before in
-    let nowhere = as-found _ _ (c .before .before .before .named .ensures) (c .before .enum-told .given .1) .0 in
-    room-same (s .args .out .now) (sym (given-by (s .args .own .now) nowhere)) (s .pre)
+    let nowhere = as-found _ _ (c .before .before .before .named-from .ensures) (c .before .enum-told .given .1) .0 in
+    room-same (s .args .out .now) (sym (given-by (s .args .own .now) nowhere)) (s .pre .1)
 
 same-length : tie.Need-same-length
 same-length c = search needs
@@ -66,14 +66,14 @@ returns-2 : tie.Need-returns-2
 returns-2 c =
     let p = c .before .before .before in
     let s = p .before .before .before .before .before .before .before in
-    let nowhere = as-found _ _ (p .before .before .before .named .ensures) (p .before .enum-told .given .1) .0 in
+    let nowhere = as-found _ _ (p .before .before .before .named-from .ensures) (p .before .enum-told .given .1) .0 in
     put-same (s .args .out .now) (given-by (s .args .own .now) nowhere) (c .before .before .put2 .ensures)
 
 pub put-changed-spec : {M : Type 1} → statement M
 put-changed-spec =
     tie.close
     (tie.spec
-    named-requires
+    named-from-requires
     enum-known-from
     sub-put
     part-put-start

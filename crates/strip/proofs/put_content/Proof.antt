@@ -17,7 +17,7 @@ module _ (s : tie.Start) {role : Role} (e : s .args .role ≡ role) where
   as-role = ap (λ (r : Role). contentIn r (s .args .own .now) (s .args .said .now) (s .args .k)) e
 
   asked : length (contentIn role (s .args .own .now) (s .args .said .now) (s .args .k)) ≤ length (s .args .out .now)
-  asked = room-same (s .args .out .now) as-role (s .pre)
+  asked = room-same (s .args .out .now) as-role (s .pre .1)
 
   given : {n : ℕ} {after : List ℕ} → Puts (contentIn role (s .args .own .now) (s .args .said .now) (s .args .k)) n (s .args .out .now) after
       → Puts (contentIn (s .args .role) (s .args .own .now) (s .args .said .now) (s .args .k)) n (s .args .out .now) after
@@ -27,7 +27,9 @@ enum-told : tie.Need-enum-told
 enum-told c = search needs
 
 put-changed-requires : tie.Need-put-changed-requires
-put-changed-requires c κs = asked (c .before .before .before .before .before .before) (c .before .enum-told .given .1)
+put-changed-requires c κs =
+    let s = c .before .before .before .before .before .before in
+    (s .pre .0, asked s (c .before .enum-told .given .1))
 
 enum-told-2 : tie.Need-enum-told-2
 enum-told-2 c = search needs

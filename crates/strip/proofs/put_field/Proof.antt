@@ -20,10 +20,10 @@ slice-write-out : tie.Need-slice-write-out
 slice-write-out c = search needs
 
 sub-put-content : tie.Need-sub-put-content
-sub-put-content c = simp length-set (omega (arith, c .before .before .before .before .pre))
+sub-put-content c = simp length-set (omega (arith, c .before .before .before .before .pre .1))
 
 part-put-content-start : tie.Need-part-put-content-start
-part-put-content-start c = simp length-set (omega (arith, c .before .before .before .before .pre))
+part-put-content-start c = simp length-set (omega (arith, c .before .before .before .before .pre .1))
 
 part-put-content-end : tie.Need-part-put-content-end
 part-put-content-end c = search needs
@@ -33,7 +33,7 @@ put-content-requires c κs =
     let d = c .before .before .before .before .before in
     let lead = c .before .lead-of .result in
     let out = set (d .args .out .now) 0 lead in
-    omega (arith, ap length (rest out 1), length-drop 1 out, length-set (d .args .out .now) 0 lead, d .pre)
+    (d .pre .0, omega (arith, ap length (rest out 1), length-drop 1 out, length-set (d .args .out .now) 0 lead, d .pre .1))
 
 add-result : tie.Need-add-result
 add-result c = search needs
@@ -51,7 +51,7 @@ returns c =
     let p = c .before .before .put-content .ensures in
     let behind-lead = lent (set (a .out .now) 0 lead) w 1 _ (p .1) in (
       omega (arith, p .0),
-      behind-lead ∙ lead-write (a .out .now) w lead (omega (arith, d .pre)) ∙ ap (λ (b : ℕ). front (b ∷ w) (a .out .now)) (l .lead-of .ensures),
+      behind-lead ∙ lead-write (a .out .now) w lead (omega (arith, d .pre .1)) ∙ ap (λ (b : ℕ). front (b ∷ w) (a .out .now)) (l .lead-of .ensures),
     )
 
 pub put-field-spec : {M : Type 1} → statement M

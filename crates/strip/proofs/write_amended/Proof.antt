@@ -11,10 +11,10 @@ use Rattle.strip.proofs.write_amended.Statement.{statement}
 use Rattle.strip.proofs.write_amended.Tie as tie
 
 abbrev Inv-loop : tie.InvT-loop
-Inv-loop role plan said out₀ o₀ c₀ k₀ out o c k = Amending role plan said out₀ out o k × AtField plan k (c .at)
+Inv-loop role plan said out₀ first o₀ c₀ k₀ out o c k = Amending role plan said out₀ out o k × AtField plan k (c .at)
 
 abbrev μ-loop : tie.MeasureT-loop
-μ-loop role plan said out₀ o₀ c₀ k₀ out o c k = 9 - k
+μ-loop role plan said out₀ first o₀ c₀ k₀ out o c k = 9 - k
 
 -- a turn of the loop, once the field's end is known
 module _ (c : tie.After-end Inv-loop μ-loop) where
@@ -22,7 +22,7 @@ module _ (c : tie.After-end Inv-loop μ-loop) where
   looped = c .before .before
 
   abbrev start : tie.Start Inv-loop μ-loop
-  start = looped .before .before .before .before
+  start = looped .before .before .before .before .before
 
   abbrev own : List ℕ
   own = take (c .end .result - looped .loop .c .at) (drop (looped .loop .c .at) (start .args .plan .now))
@@ -37,9 +37,12 @@ module _ (c : tie.After-end Inv-loop μ-loop) where
         is-content = content-to (a .role) (a .plan .now) (a .said .now) (looped .loop .inv .1) (c .end .ensures .0);
       }
 
+first-entry-requires : tie.Need-first-entry-requires Inv-loop μ-loop
+first-entry-requires c κs = search needs
+
 loop-holds : tie.Need-loop-holds Inv-loop μ-loop
 loop-holds c =
-    let s = c .before .before .before in
+    let s = c .before .before .before .before in
     let a = s .args in
     (amending-starts (a .role) (a .plan .now) (a .said .now) (a .out .now) (s .pre), first-field _)
 
@@ -65,7 +68,7 @@ part-put-field-end-2 : tie.Need-part-put-field-end-2 Inv-loop μ-loop
 part-put-field-end-2 c = search needs
 
 put-field-requires : tie.Need-put-field-requires Inv-loop μ-loop
-put-field-requires c κs = turn-fits (turn (c .before .before))
+put-field-requires c κs = (looped (c .before .before) .before .first-entry .ensures, turn-fits (turn (c .before .before)))
 
 add-o : tie.Need-add-o Inv-loop μ-loop
 add-o c =
@@ -94,7 +97,7 @@ slice-write-out c = last-room (c .before .loop .inv .0) (c .loop-test .left)
 add-result : tie.Need-add-result Inv-loop μ-loop
 add-result c =
     let l = c .before .loop .inv .0 in
-    omega (arith, last-long l (c .loop-test .left), l .enough, c .before .before .before .before .before .good)
+    omega (arith, last-long l (c .loop-test .left), l .enough, c .before .before .before .before .before .before .good)
 
 same-length : tie.Need-same-length Inv-loop μ-loop
 same-length c = simp length-set (c .before .loop .inv .0 .long)
@@ -110,6 +113,7 @@ write-amended-spec =
     (tie.spec
     Inv-loop
     μ-loop
+    first-entry-requires
     loop-holds
     end-requires
     sub-put-field
