@@ -11,7 +11,7 @@
  * Nothing else is asked: any bytes, any numbers and any lengths have an answer. Nothing is kept between calls and nothing is allocated, so calls
  * in several threads do not disturb one another.
  *
- * Leave 32 KB of stack to a call. The most that was measured is 15 KB, for a strip and a CHG with all keys of field 18. That is a measurement and
+ * Leave 32 KB of stack to a call. The most that was measured is 14 KB, for a strip and a CHG with all keys of field 18. That is a measurement and
  * not proved.
  */
 #ifndef BEECHDOUBLET_H

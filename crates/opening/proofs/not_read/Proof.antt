@@ -5,7 +5,7 @@ use Rattle.opening.proofs.not_read.Statement.{statement}
 use Rattle.opening.proofs.not_read.Tie as tie
 
 returns : tie.Need-returns
-returns c = rw (le-leb (c .before .args .number) 9 (c .if1 .taken))
+returns c = rw (le-leb (c .before .args .number) 9 (omega (arith, c .if1 .taken)))
 
 returns-2 : tie.Need-returns-2
 returns-2 c = rw (lt-leb (c .before .args .number) 9 (omega (arith, c .if1 .left)))
