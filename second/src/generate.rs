@@ -3,21 +3,20 @@
 mod contents;
 mod damage;
 mod dice;
+mod drafts;
 pub mod questions;
-mod runs;
 
 use std::io::{self, Write};
 use std::process::ExitCode;
 
+use crate::forms::Form;
 use crate::kind::Kind;
+use crate::message::LONGEST;
 use crate::programs::offer;
 use crate::strip::{State, Updated};
-use crate::{Form, LONGEST};
 use contents::Flight;
 pub use dice::Dice;
-
-/// A message before it is written out: its fields, the first with the type.
-pub type Draft = Vec<Vec<u8>>;
+use drafts::Draft;
 
 /// One piece for the listing: a message, valid one time in two at least.
 pub fn piece(dice: &mut Dice) -> Vec<u8> {
@@ -31,14 +30,14 @@ pub fn piece(dice: &mut Dice) -> Vec<u8> {
 pub fn valid(dice: &mut Dice, kind: Kind) -> Vec<u8> {
     let flight = Flight::any(dice);
     let draft = contents::draft(dice, kind, &flight);
-    runs::write(dice, &draft)
+    drafts::write(dice, &draft)
 }
 
 /// Valid one time in two, else damaged.
 fn offered(dice: &mut Dice, kind: Kind, flight: &Flight) -> Vec<u8> {
     if dice.chance(50) {
         let draft = contents::draft(dice, kind, flight);
-        return runs::write(dice, &draft);
+        return drafts::write(dice, &draft);
     }
     damaged(dice, kind, flight)
 }
@@ -49,16 +48,16 @@ fn damaged(dice: &mut Dice, kind: Kind, flight: &Flight) -> Vec<u8> {
         0 | 1 => {
             let percent = *dice.pick(&[1, 3, 8, 15]);
             let draft = dice.wildly(percent, |dice| contents::draft(dice, kind, flight));
-            runs::write(dice, &draft)
+            drafts::write(dice, &draft)
         }
         2 | 3 => {
             let mut draft = contents::draft(dice, kind, flight);
             damage::draft(dice, &mut draft);
-            runs::write(dice, &draft)
+            drafts::write(dice, &draft)
         }
         _ => {
             let draft = contents::draft(dice, kind, flight);
-            let mut written = runs::write(dice, &draft);
+            let mut written = drafts::write(dice, &draft);
             damage::bytes(dice, &mut written);
             written
         }
@@ -145,7 +144,7 @@ fn long_plan(dice: &mut Dice) -> Vec<u8> {
         end_with_remark(&mut draft);
         damage::lengthen(dice, &mut draft, LONGEST - 60);
     }
-    runs::plain(&draft)
+    drafts::plain(&draft)
 }
 
 /// Words put behind field 18 go to its remark.
@@ -162,7 +161,7 @@ fn long_change(dice: &mut Dice, flight: &Flight) -> Vec<u8> {
     let mut draft = contents::draft(dice, Kind::Chg, flight);
     let least = dice.from_to(LONGEST / 2, LONGEST - 60);
     damage::lengthen(dice, &mut draft, least);
-    runs::plain(&draft)
+    drafts::plain(&draft)
 }
 
 /// What the generating programs share: `PROGRAM SEED COUNT`, each thing made on a line.

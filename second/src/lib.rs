@@ -5,6 +5,7 @@
 //! buffer of reduced white space and no cutting into fields beforehand.
 
 mod alphabet;
+mod codes;
 pub mod corpus;
 mod escapes;
 mod explained;
@@ -13,6 +14,7 @@ pub mod generate;
 mod kind;
 mod message;
 mod other;
+mod outline;
 mod pieces;
 pub mod programs;
 mod refusal;

@@ -6,6 +6,7 @@ use crate::alphabet::in_alphabet;
 use crate::explained::unexplained;
 use crate::forms::Form;
 use crate::kind::{is_unread, Kind};
+use crate::outline::{counts, form_at};
 use crate::refusal::Refusal;
 use crate::words::Words;
 
@@ -63,7 +64,7 @@ impl Reading {
         let mut words = Words::of(msg);
         let mut fields: [Field; MOST_FIELDS] = Default::default();
         for position in 0..count {
-            let form = kind.form_at(position, count);
+            let form = form_at(kind, position, count);
             let (before, rest) = fields.split_at_mut(position);
             let field = take_field(form, before, &mut words)?;
             if let Some(slot) = rest.first_mut() {
@@ -153,7 +154,7 @@ fn check_outline(msg: &[u8]) -> Result<(Kind, usize), Refusal> {
     let hyphens = check_bytes(msg)?;
     let kind = check_type(msg.get(1..4).unwrap_or_default())?;
     let count = hyphens + 1;
-    let (least, greatest) = kind.counts();
+    let (least, greatest) = counts(kind);
     if count < least {
         return Err(Refusal::new(6, 0, msg.len() - 1));
     }

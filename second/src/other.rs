@@ -1,7 +1,7 @@
 //! Field 18.
 
 use crate::alphabet::*;
-use crate::forms::codes;
+use crate::codes::codes;
 use crate::words::Words;
 
 /// The keys in their order.

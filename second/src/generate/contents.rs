@@ -1,7 +1,7 @@
 //! Field contents and drafts of messages; wrong here and there if the dice are wild.
 
 use super::dice::Dice;
-use super::Draft;
+use super::drafts::Draft;
 use crate::forms::Form::{self, *};
 use crate::kind::Kind;
 use crate::other::{KEYS, STATUSES};

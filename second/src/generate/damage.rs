@@ -1,7 +1,7 @@
 //! Damage: to a draft's fields, to the bytes of a message, to a content.
 
 use super::dice::Dice;
-use super::Draft;
+use super::drafts::Draft;
 use crate::message::LONGEST;
 
 /// Bytes that damage puts in: of the alphabet mostly.

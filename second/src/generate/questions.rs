@@ -4,7 +4,7 @@ use std::collections::VecDeque;
 
 use super::contents::Flight;
 use super::dice::Dice;
-use super::{contents, damaged, long_change, long_plan, offered, runs, valid};
+use super::{contents, damaged, drafts, long_change, long_plan, offered, valid};
 use crate::escapes::escaped;
 use crate::kind::Kind;
 use crate::message::{read, LONGEST};
@@ -100,7 +100,7 @@ fn change_asked(dice: &mut Dice, flight: &Flight) -> Vec<u8> {
     if dice.chance(20) {
         return offered(dice, kind, flight);
     }
-    runs::plain(&contents::draft(dice, kind, flight))
+    drafts::plain(&contents::draft(dice, kind, flight))
 }
 
 /// A strip to begin with: mostly a plan as filed, now and then a later state or one that is no strip.
@@ -116,7 +116,7 @@ fn some_strip(dice: &mut Dice) -> Updated {
 
 fn plan(dice: &mut Dice) -> Vec<u8> {
     let flight = Flight::any(dice);
-    runs::plain(&contents::draft(dice, Kind::Fpl, &flight))
+    drafts::plain(&contents::draft(dice, Kind::Fpl, &flight))
 }
 
 /// A plan that is spelled otherwise or damaged, or another message.
@@ -187,7 +187,7 @@ fn edge_change(dice: &mut Dice, flight: &Flight, strip: &[u8]) -> Vec<u8> {
     longer.extend(&b" DCTDC"[..due.saturating_sub(longer.len())]);
     draft.truncate(5);
     draft.push(longer);
-    runs::plain(&draft)
+    drafts::plain(&draft)
 }
 
 /// An offer with room enough, or with the new strip's length or about it.

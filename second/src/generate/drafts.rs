@@ -1,7 +1,9 @@
-//! Writing a draft out as a message.
+//! Drafts of messages, and writing one out.
 
 use super::dice::Dice;
-use super::Draft;
+
+/// A message before it is written out: its fields, the first with the type.
+pub type Draft = Vec<Vec<u8>>;
 
 /// With runs of white space where they may stand: for a space, and before `-` and `)`.
 pub fn write(dice: &mut Dice, draft: &Draft) -> Vec<u8> {
