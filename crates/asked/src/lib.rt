@@ -5,6 +5,7 @@ ghost use lib.ListN.{length};
 ghost use Rattle.asked.specs.Asking.{rankOf, isChange, standsAs, flightAs, typeAs, askedOf, shown, StandsAt};
 ghost use Rattle.force.specs.InForce.{inForce};
 ghost use Rattle.space.specs.Fields.{inner};
+ghost use Rattle.outer.specs.Outer.{most};
 ghost use Rattle.asked.specs.Parts.{Shows, ShowsText};
 use force::Found;
 use kinds::MessageType;
@@ -52,7 +53,7 @@ fn is_change(t: MessageType) -> bool
 
 // Where the field of rank k stands, from the texts between the parentheses; a text begins one byte behind its message.
 fn stands(plan: &[u8], said: &[u8], k: usize) -> Asked
-    requires { ⌜ (length (now plan) ≤ 1800) × (length (now said) ≤ 1800) ⌝ }
+    requires { ⌜ (length (now plan) ≤ most) × (length (now said) ≤ most) ⌝ }
     ensures { λ r. ⌜ r ≡ standsAs (now (plan .entry)) (now (said .entry)) k ⌝ }
     ensures { λ r. ⌜ ShowsText r (now (plan .entry)) (now (said .entry)) (inForce (now (plan .entry)) (now (said .entry)) k) ⌝ }
 {
@@ -75,7 +76,7 @@ fn stands(plan: &[u8], said: &[u8], k: usize) -> Asked
 
 // Numbers 12 and 8, and the place.
 fn ask_texts(plan: &[u8], said: &[u8], number: u8) -> Asked
-    requires { ⌜ (length (now plan) ≤ 1800) × (length (now said) ≤ 1800) ⌝ }
+    requires { ⌜ (length (now plan) ≤ most) × (length (now said) ≤ most) ⌝ }
     ensures { λ r. ⌜ r ≡ flightAs (now (plan .entry)) (now (said .entry)) number ⌝ }
     ensures { λ r. ⌜ ShowsText r (now (plan .entry)) (now (said .entry)) (inForce (now (plan .entry)) (now (said .entry)) (rankOf number)) ⌝ }
 {
@@ -99,7 +100,7 @@ fn ask_texts(plan: &[u8], said: &[u8], number: u8) -> Asked
 
 // Numbers 14 and 17 of a message that was read and is spelled so, and what its text gives.
 fn ask_read(t: MessageType, spelled: &[u8], strip: &[u8], chg: &[u8], number: u8) -> Asked
-    requires { ⌜ (2 ≤ length (now spelled)) × (length (now spelled) ≤ 1800) × (2 ≤ length (now strip)) × (length (now strip) ≤ 1800) ⌝ }
+    requires { ⌜ (2 ≤ length (now spelled)) × (length (now spelled) ≤ most) × (2 ≤ length (now strip)) × (length (now strip) ≤ most) ⌝ }
     ensures { λ r. ⌜ r ≡ typeAs t (now (spelled .entry)) (now (strip .entry)) (now (chg .entry)) number ⌝ }
     ensures { λ r. ⌜ Shows r (now (strip .entry)) (now (chg .entry)) (inForce (inner (now (strip .entry))) (inner (now (chg .entry))) (rankOf number)) ⌝ }
 {
@@ -127,7 +128,7 @@ pub fn ask(strip: &[u8], held: Strip, chg: &[u8], number: u8) -> Asked
     ensures { λ r. ⌜ r ≡ askedOf (now (strip .entry)) held (now (chg .entry)) number ⌝ }
     ensures { λ r. ⌜ Shows r (now (strip .entry)) (now (chg .entry)) (inForce (inner (now (strip .entry))) (inner (now (chg .entry))) (rankOf number)) ⌝ }
 {
-    let mut scratch = [0u8; 1800];
+    let mut scratch = [0u8; outer::MOST_BYTES];
     match opening::open_strip(strip, held, chg, &mut scratch) {
         Opening::Refused {
             number: n,

@@ -27,6 +27,7 @@ use Rattle.state.specs.declared.State.{State}
 use Rattle.state.specs.declared.State.the-variants.{Filed, Departed, Arrived, Cancelled}
 use Rattle.text.specs.Words.{all, split, same}
 use Rattle.space.specs.Fields.{inner}
+use Rattle.outer.specs.Outer.{most}
 use Rattle.text.proofs.Tests.{both, same-eq}
 use Rattle.alphabet.specs.Alphabet.{letter}
 use Rattle.aerodromes.specs.Asked.{fourBytes}
@@ -35,7 +36,7 @@ use Rattle.state.specs.declared.Strip.{Strip}
 use Rattle.strip.specs.declared.Updated.{Updated}
 use Rattle.strip.specs.declared.Updated.the-variants.{Accepted, Refused}
 use Rattle.opening.specs.declared.Opening.the-variants.{Refused as NotOpened}
-use Rattle.opening.specs.Opening.{most, canonicalPlan, readAs, openingOf}
+use Rattle.opening.specs.Opening.{canonicalPlan, readAs, openingOf}
 use Rattle.strip.specs.Updating.{differences, differs, updateOf}
 use Rattle.force.specs.InForce.{namedAt}
 use Rattle.history.specs.Demand3.{Cause, not-proper, not-read, not-fit, no-type, another-flight, not-allowed, unexplained, too-long, no-room}

@@ -17,6 +17,7 @@ use Rattle.route.specs.Field15.{field15}
 use Rattle.other.specs.Field18.{field18}
 use Rattle.kinds.specs.declared.MessageType.{MessageType}
 use Rattle.kinds.specs.declared.MessageType.the-variants.{Cnl}
+use Rattle.outer.specs.Outer.{most}
 use Rattle.message.specs.declared.Answer.the-variants.{Accepted, Refused}
 use Rattle.message.specs.Reading.{answerOf, spellingOf}
 use Rattle.state.specs.State.{justFiled}
@@ -58,8 +59,8 @@ Holds (routeFits w) = field15 .fits (alone w) ≡ true
 Holds (routeNo w) = field15 .fits (alone w) ≡ false
 Holds (time s) = clockFits (bytes s) ≡ true
 Holds (noTime s) = clockFits (bytes s) ≡ false
-Holds (accepted s t w) = (answerOf (bytes s) 1800 ≡ Accepted t (length (bytes w))) × (spellingOf t (bytes s) ≡ bytes w)
-Holds (refused s number field place) = answerOf (bytes s) 1800 ≡ Refused number field place
+Holds (accepted s t w) = (answerOf (bytes s) most ≡ Accepted t (length (bytes w))) × (spellingOf t (bytes s) ≡ bytes w)
+Holds (refused s number field place) = answerOf (bytes s) most ≡ Refused number field place
 Holds (updated s m w) =
     (updateOf (bytes s) justFiled (bytes m) (length (bytes w)) ≡ Taken justFiled (length (bytes w)))
     × (outAfter (bytes s) justFiled (bytes m) (replicate (length (bytes w)) 0) ≡ bytes w)

@@ -7,6 +7,7 @@ use mathlib.Core.Option.{Option, none, some}
 use lib.ListN.{take, replicate}
 use Rattle.alphabet.specs.Text.{bytes}
 use Rattle.text.specs.Words.{Word}
+use Rattle.outer.specs.Outer.{most}
 use Rattle.kinds.specs.declared.MessageType.the-variants.{Fpl, Cnl}
 use Rattle.message.specs.declared.Answer.{Answer}
 use Rattle.message.specs.declared.Answer.the-variants.{Accepted as ReadAs, Refused as NotRead}
@@ -29,7 +30,7 @@ boardIn (Flight held n) buffer = some (record { strip = take n buffer; held = he
 
 abbrev pub InRoom : Held → Type 0
 InRoom Nothing = Unit
-InRoom (Flight held n) = n ≤ 1800
+InRoom (Flight held n) = n ≤ most
 
 -- THE ANSWER: before there is a strip an accepted FPL is filed, and another type is not fit; once there is one, each piece is offered to it
 
@@ -38,14 +39,14 @@ filingAs (ReadAs t n) = cond (isPlan t) (Accepted justFiled n) (Refused 14 0 0)
 filingAs (NotRead number field place) = Refused number field place
 
 abbrev pub answerTo : Option Board → List ℕ → Updated
-answerTo none m = filingAs (answerOf m 1800)
-answerTo (some b) m = updateOf (b .strip) (b .held) m 1800
+answerTo none m = filingAs (answerOf m most)
+answerTo (some b) m = updateOf (b .strip) (b .held) m most
 
 -- WHAT IT HOLDS AFTERWARDS
 
 -- what is lent for the new strip
 abbrev pub lent : List ℕ
-lent = replicate 1800 0
+lent = replicate most 0
 
 abbrev pub offerOf : List ℕ → Offer
 offerOf m = record { bytes = m; lent = lent }

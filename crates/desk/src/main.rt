@@ -1,5 +1,6 @@
 // The desk: the first accepted FPL of standard input becomes the strip, and each later piece is offered to it. One line for each piece: `OK`,
 // the state and the strip, or `NO`, number, field and place.
+ghost use Rattle.outer.specs.Outer.{most};
 ghost use mathlib.Core.Path.{_≡_};
 ghost use Prim.Native.Nat.{_≤_};
 ghost use mathlib.Core.Option.{none};
@@ -24,7 +25,7 @@ pub enum Held {
 
 // Before there is a strip: an accepted FPL becomes it, and another type is not fit.
 fn file(piece: &[u8], strip: &mut [u8]) -> Updated
-    requires { ⌜ length (now strip) ≡ 1800 ⌝ }
+    requires { ⌜ length (now strip) ≡ most ⌝ }
     ensures { λ r. ⌜ Offering Held.Nothing (now (strip .entry)) (now (piece .entry)) r (now (strip .exit)) ⌝ }
 {
     match message::read(piece, strip) {
@@ -57,10 +58,10 @@ fn file(piece: &[u8], strip: &mut [u8]) -> Updated
 
 // Offers a piece to the strip in the first n bytes of `strip`, and puts the new strip in its place.
 fn offer(held: Strip, n: usize, piece: &[u8], strip: &mut [u8]) -> Updated
-    requires { ⌜ (length (now strip) ≡ 1800) × (n ≤ 1800) ⌝ }
+    requires { ⌜ (length (now strip) ≡ most) × (n ≤ most) ⌝ }
     ensures { λ r. ⌜ Offering (Held.Flight held n) (now (strip .entry)) (now (piece .entry)) r (now (strip .exit)) ⌝ }
 {
-    let mut new = [0u8; 1800];
+    let mut new = [0u8; outer::MOST_BYTES];
     match strip::update(&strip[..n], held, piece, &mut new) {
         Updated::Accepted(next, k) => {
             text::put(&new[..k], strip);
@@ -80,7 +81,7 @@ fn offer(held: Strip, n: usize, piece: &[u8], strip: &mut [u8]) -> Updated
 
 // The answer to a piece, with what the desk then holds in `strip`.
 fn answer(desk: Held, piece: &[u8], strip: &mut [u8]) -> Updated
-    requires { ⌜ (length (now strip) ≡ 1800) × InRoom desk ⌝ }
+    requires { ⌜ (length (now strip) ≡ most) × InRoom desk ⌝ }
     ensures { λ r. ⌜ Offering desk (now (strip .entry)) (now (piece .entry)) r (now (strip .exit)) ⌝ }
 {
     match desk {
@@ -91,7 +92,7 @@ fn answer(desk: Held, piece: &[u8], strip: &mut [u8]) -> Updated
 
 // Takes a piece: prints its line and hands back what the desk then holds.
 fn take(desk: Held, piece: &[u8], strip: &mut [u8]) -> Held
-    requires { ⌜ (length (now strip) ≡ 1800) × InRoom desk ⌝ }
+    requires { ⌜ (length (now strip) ≡ most) × InRoom desk ⌝ }
     ensures { λ r. ⌜ (boardIn r (now (strip .exit)) ≡ boardAfter (boardIn desk (now (strip .entry))) (now (piece .entry))) × InRoom r ⌝ }
 {
     match answer(desk, piece, strip) {
@@ -112,7 +113,7 @@ fn take(desk: Held, piece: &[u8], strip: &mut [u8]) -> Held
 
 // Takes each piece of an input in its turn.
 fn run(s: &[u8], strip: &mut [u8]) -> Held
-    requires { ⌜ length (now strip) ≡ 1800 ⌝ }
+    requires { ⌜ length (now strip) ≡ most ⌝ }
     ensures { λ r. ⌜ boardIn r (now (strip .exit)) ≡ afterAll none (piecesOf (now (s .entry))) ⌝ }
 {
     let mut desk = Held::Nothing;
@@ -133,6 +134,6 @@ fn main() {
         io::write_all(STDOUT_FILENO, b"TOO LONG\n");
         return;
     }
-    let mut strip = [0u8; 1800];
+    let mut strip = [0u8; outer::MOST_BYTES];
     run(&buffer[..n], &mut strip);
 }

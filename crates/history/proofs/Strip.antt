@@ -11,6 +11,7 @@ use Rattle.text.specs.Words.{Word, split, all, same}
 use Rattle.text.proofs.Tests.{both, and-both, same-eq, same-self}
 use Rattle.space.specs.Reduced.{reduced}
 use Rattle.space.specs.Fields.{inner}
+use Rattle.outer.specs.Outer.{most}
 use Rattle.sent.specs.Sent.{messageOf, contents}
 use Rattle.sent.proofs.Sent.{sent-contents, spelling-stays}
 use Rattle.kinds.specs.declared.MessageType.{MessageType}
@@ -30,7 +31,7 @@ use Rattle.message.proofs.Reached.{Reached, reached-accepted, accepted-taken}
 use Rattle.message.proofs.Valid.{Fitting, fitting-forms, fitting-length, fitting-some, fitting-tidy, fitting-reached, reached-fitting, reached-passed}
 use Rattle.state.specs.declared.Strip.{Strip}
 use Rattle.state.specs.State.{sound}
-use Rattle.opening.specs.Opening.{most, readAsPlan, canonicalPlan, textSaid}
+use Rattle.opening.specs.Opening.{readAsPlan, canonicalPlan, textSaid}
 use Rattle.history.specs.Demand3.{Proper}
 
 -- CONTENTS THAT FIT are cut from their message again

@@ -6,6 +6,7 @@ use mathlib.Core.Bool.{Bool, true, false}
 use mathlib.Core.List.{List, [], _∷_}
 use lib.ListN.{length, take, drop, getD}
 use Rattle.text.specs.Words.{Word, before}
+use Rattle.outer.specs.Outer.{most}
 use Rattle.sent.specs.Sent.{contents}
 use Rattle.kinds.specs.declared.MessageType.{MessageType}
 use Rattle.kinds.specs.declared.MessageType.the-variants.{Fpl}
@@ -53,7 +54,7 @@ toldAs (ReadAs t n) m = record { type = t; fields = contents m }
 toldAs (NotRead number field place) m = record { type = Fpl; fields = [] }
 
 abbrev pub told : List ℕ → Told
-told m = toldAs (answerOf m 1800) m
+told m = toldAs (answerOf m most) m
 
 abbrev pub putAs : Updated → List ℕ → Board → Board
 putAs (Accepted held n) out b = record { strip = take n out; held = held }
@@ -88,7 +89,7 @@ module _ (U : Updater) where
 -- 15: the strip is a canonical accepted FPL, and its state holds no time over 1,439 minutes and no aerodrome but of four letters
 pub record Proper (strip : List ℕ) (held : Strip) : Type 0 where
   pub long : ℕ
-  pub read : answerOf strip 1800 ≡ ReadAs Fpl long
+  pub read : answerOf strip most ≡ ReadAs Fpl long
   pub canonical : spellingOf Fpl strip ≡ strip
   pub held-sound : sound held ≡ true
 
@@ -152,7 +153,7 @@ pub record Passes (strip : List ℕ) (held : Strip) (m : List ℕ) : Type 0 wher
   pub proper : Proper strip held
   pub type : MessageType
   pub long : ℕ
-  pub read : answerOf m 1800 ≡ ReadAs type long
+  pub read : answerOf m most ≡ ReadAs type long
   pub fit : fitType type ≡ true
   pub for-this : Same (planOn strip) (told m)
   pub permits : allowed (held .state) type ≡ true
@@ -160,20 +161,20 @@ pub record Passes (strip : List ℕ) (held : Strip) (m : List ℕ) : Type 0 wher
 -- number, field and place of a refusal
 pub data Cause (strip : List ℕ) (held : Strip) (m : List ℕ) (room : ℕ) : ℕ → ℕ → ℕ → Type 0 where
   not-proper : (Proper strip held → ⊥) → Cause strip held m room 15 0 0
-  not-read : Proper strip held → {number field place : ℕ} → answerOf m 1800 ≡ NotRead number field place → number ≤ 9
+  not-read : Proper strip held → {number field place : ℕ} → answerOf m most ≡ NotRead number field place → number ≤ 9
       → Cause strip held m room number field place
   -- an FPL that leaves a field unexplained is of a type that is not fit
-  not-fit : Proper strip held → {field place : ℕ} → answerOf m 1800 ≡ NotRead 10 field place → Cause strip held m room 14 0 0
-  no-type : Proper strip held → {t : MessageType} {n : ℕ} → answerOf m 1800 ≡ ReadAs t n → fitType t ≡ false → Cause strip held m room 14 0 0
-  another-flight : Proper strip held → {t : MessageType} {n : ℕ} → answerOf m 1800 ≡ ReadAs t n → fitType t ≡ true
+  not-fit : Proper strip held → {field place : ℕ} → answerOf m most ≡ NotRead 10 field place → Cause strip held m room 14 0 0
+  no-type : Proper strip held → {t : MessageType} {n : ℕ} → answerOf m most ≡ ReadAs t n → fitType t ≡ false → Cause strip held m room 14 0 0
+  another-flight : Proper strip held → {t : MessageType} {n : ℕ} → answerOf m most ≡ ReadAs t n → fitType t ≡ true
       → (Same (planOn strip) (told m) → ⊥) → Cause strip held m room 12 0 0
-  not-allowed : Proper strip held → {t : MessageType} {n : ℕ} → answerOf m 1800 ≡ ReadAs t n → fitType t ≡ true
+  not-allowed : Proper strip held → {t : MessageType} {n : ℕ} → answerOf m most ≡ ReadAs t n → fitType t ≡ true
       → Same (planOn strip) (told m) → allowed (held .state) t ≡ false → Cause strip held m room 13 0 0
   unexplained : Passes strip held m → (unexplainedIn (nine (amendedOn strip m)) ≡ 0 → ⊥)
       → Cause strip held m room 10 (unexplainedIn (nine (amendedOn strip m))) 0
-  too-long : Passes strip held m → unexplainedIn (nine (amendedOn strip m)) ≡ 0 → 1800 < length (spelled (amendedOn strip m))
+  too-long : Passes strip held m → unexplainedIn (nine (amendedOn strip m)) ≡ 0 → most < length (spelled (amendedOn strip m))
       → Cause strip held m room 16 0 0
-  no-room : Passes strip held m → unexplainedIn (nine (amendedOn strip m)) ≡ 0 → length (spelled (amendedOn strip m)) ≤ 1800
+  no-room : Passes strip held m → unexplainedIn (nine (amendedOn strip m)) ≡ 0 → length (spelled (amendedOn strip m)) ≤ most
       → room < length (spelled (amendedOn strip m)) → Cause strip held m room 11 0 0
 
 -- THE DEMAND: an FPL was filed with these contents, and its strip was offered a run of messages

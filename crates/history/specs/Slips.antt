@@ -8,6 +8,7 @@ use lib.ListN.{length, take, drop}
 use Rattle.text.specs.Words.{Word, split, same, before}
 use Rattle.text.specs.Lent.{front}
 use Rattle.space.specs.Fields.{inner}
+use Rattle.outer.specs.Outer.{most}
 use Rattle.sent.specs.Sent.{messageOf, contents}
 use Rattle.kinds.specs.declared.Role.{Role}
 use Rattle.kinds.specs.declared.Role.the-variants.{Files, Changes, Delays, Cancels, Departs, Arrives, Neither}
@@ -69,10 +70,10 @@ abbrev pub matchesAfter : Updater
 matchesAfter =
     record {
       answer = λ strip held m out.
-          let t = typeRead (answerOf m 1800) in
+          let t = typeRead (answerOf m most) in
           cond (differs (differences (roleOf t) (amended (roleOf t) (inner strip) (textSaid t m)) (split 45 (textSaid t m)))) (Refused 12 0 0) (updateOf strip held m (length out));
       output = λ strip held m out.
-          let t = typeRead (answerOf m 1800) in
+          let t = typeRead (answerOf m most) in
           cond (differs (differences (roleOf t) (amended (roleOf t) (inner strip) (textSaid t m)) (split 45 (textSaid t m)))) out (outAfter strip held m out);
     }
 
@@ -91,7 +92,7 @@ depOverwrites =
     record {
       answer = λ strip held m out. updateOf strip held m (length out);
       output = λ strip held m out.
-          let t = typeRead (answerOf m 1800) in
+          let t = typeRead (answerOf m most) in
           copyAs (updateOf strip held m (length out)) (newStrip (asDelay (roleOf t)) (inner strip) (textSaid t m)) out;
     }
 

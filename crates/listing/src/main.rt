@@ -8,7 +8,7 @@ const MOST: usize = 65536;
 
 // One line for a piece.
 fn tell(piece: &[u8]) {
-    let mut out = [0u8; 1800];
+    let mut out = [0u8; outer::MOST_BYTES];
     match message::read(piece, &mut out) {
         Answer::Accepted(t, n) => say::accepted(t, &out[..n]),
         Answer::Refused {

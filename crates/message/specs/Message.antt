@@ -10,6 +10,7 @@ use Rattle.alphabet.specs.Alphabet.{oneOf}
 use Rattle.text.specs.Words.{Word, same}
 use Rattle.shape.specs.Field.{Field}
 use Rattle.space.specs.Reduced.{reduced}
+use Rattle.outer.specs.Outer.{most}
 use Rattle.sent.specs.Sent.{messageOf, contents}
 use Rattle.kinds.specs.declared.MessageType.{MessageType}
 use Rattle.kinds.specs.declared.Form.{Form}
@@ -75,7 +76,7 @@ validMessage M =
 -- A MESSAGE AS SENT: the record's fields, with white space as it may be sent, in at most 1,800 bytes
 
 pub record SentAs (M : Message) (m : List ℕ) : Type 0 where
-  pub short : length m ≤ 1800
+  pub short : length m ≤ most
   pub same-bytes : reduced m ≡ messageOf (sentContents M)
 
 -- the record of contents, for a type

@@ -15,7 +15,7 @@ use Rattle.space.specs.Hyphens.{hyphens, placeOfHyphen}
 use Rattle.sent.specs.Sent.{contents}
 use Rattle.outer.specs.declared.Outer.{Outer}
 use Rattle.outer.specs.declared.Outer.the-variants.{Good, Bad}
-use Rattle.outer.specs.Outer.{outer}
+use Rattle.outer.specs.Outer.{most, outer}
 use Rattle.kinds.specs.declared.MessageType.{MessageType}
 use Rattle.kinds.specs.declared.Role.{Role}
 use Rattle.kinds.specs.declared.Role.the-variants.{Files, Changes, Delays, Cancels, Departs, Arrives, Neither}
@@ -124,7 +124,7 @@ countAs t m room =
 pub record Counted (t : MessageType) (m : List ℕ) (count : ℕ) (s : List ℕ) : Type 0 where
   pub count-is : count ≡ countOf m
   pub text-is : s ≡ textOf m
-  pub short : length s ≤ 1800
+  pub short : length s ≤ most
   pub even : length (formsOf t count) ≡ length (split 45 s)
 
 -- 4 and 5: the three bytes after `(`, as sent

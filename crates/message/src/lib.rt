@@ -8,7 +8,7 @@ ghost use Rattle.text.specs.Words.{split};
 ghost use Rattle.text.specs.Lent.{front};
 ghost use Rattle.space.specs.Hyphens.{behindHyphen};
 ghost use Rattle.outer.specs.declared.Outer as Outer;
-ghost use Rattle.outer.specs.Outer.{outer};
+ghost use Rattle.outer.specs.Outer.{most, outer};
 ghost use Rattle.kinds.specs.Kinds.{formsOf, leastOf, greatestOf};
 ghost use Rattle.forms.specs.Forms.{writtenOf};
 ghost use Rattle.message.specs.Reading.{
@@ -82,7 +82,7 @@ fn fields_fault(t: MessageType, count: usize, s: &[u8]) -> Fault
 
 // How many bytes the spelling of a text's fields takes, with the parentheses.
 fn spelled_length(t: MessageType, count: usize, s: &[u8]) -> usize
-    requires { ⌜ (length (now s) ≤ 1800) × (length (formsOf t count) ≡ length (split 45 (now s))) ⌝ }
+    requires { ⌜ (length (now s) ≤ most) × (length (formsOf t count) ≡ length (split 45 (now s))) ⌝ }
     ensures { λ r. ⌜ r ≡ length (spelledFrom 40 (formsOf t count) (split 45 (now (s .entry)))) ⌝ }
 {
     let mut n = 0;
@@ -194,7 +194,7 @@ fn place_in_plan(field: u8) -> usize
 
 // Whether the spelling fits so many bytes. It is never longer than the text with its parentheses, so it is measured only where these do not fit.
 fn has_room(t: MessageType, count: usize, s: &[u8], room: usize) -> bool
-    requires { ⌜ (length (now s) ≤ 1800) × (length (formsOf t count) ≡ length (split 45 (now s))) ⌝ }
+    requires { ⌜ (length (now s) ≤ most) × (length (formsOf t count) ≡ length (split 45 (now s))) ⌝ }
     ensures { λ r. ⌜ r ≡ leb (length (spelledFrom 40 (formsOf t count) (split 45 (now (s .entry))))) room ⌝ }
 {
     if s.len() + 2 <= room {
@@ -262,7 +262,7 @@ fn read_reduced(t: MessageType, count: usize, msg: &[u8], out: &mut [u8]) -> Ans
     ensures { λ a. ⌜ (a ≡ fieldsAs t (now (msg .entry)) (length (now (out .entry))))
         × (now (out .exit) ≡ writtenAs (fieldsAs t (now (msg .entry)) (length (now (out .entry)))) (now (msg .entry)) (now (out .entry))) ⌝ }
 {
-    let mut scratch = [0u8; 1800];
+    let mut scratch = [0u8; outer::MOST_BYTES];
     let n = space::reduce(msg, &mut scratch);
     let e = n - 1;
     read_text(t, count, msg, &scratch[1..e], out)

@@ -13,6 +13,7 @@ use Rattle.text.proofs.Lent.{length-front}
 use Rattle.text.proofs.Tests.{both, same-eq}
 use Rattle.space.specs.Reduced.{reduced}
 use Rattle.space.specs.Fields.{inner}
+use Rattle.outer.specs.Outer.{most}
 use Rattle.sent.specs.Sent.{contents}
 use Rattle.kinds.specs.declared.MessageType.{MessageType}
 use Rattle.kinds.specs.declared.MessageType.the-variants.{Fpl}
@@ -29,7 +30,7 @@ use Rattle.state.specs.declared.Strip.{Strip}
 use Rattle.state.specs.State.{sound}
 use Rattle.opening.specs.declared.Opening.{Opening}
 use Rattle.opening.specs.declared.Opening.the-variants.{Read, Refused}
-use Rattle.opening.specs.Opening.{most, canonicalPlan, readAsPlan, textSaid, readAs, openingOf, scratchAfter}
+use Rattle.opening.specs.Opening.{canonicalPlan, readAsPlan, textSaid, readAs, openingOf, scratchAfter}
 use Rattle.opening.proofs.Steps.{front-whole, front-text, spelling-two, read-bounds, read-long}
 
 -- WHAT A CANONICAL PLAN IS

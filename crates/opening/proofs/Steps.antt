@@ -10,6 +10,7 @@ use lib.Seq.{take-append-seam, drop-append-le, take-append-le}
 use Rattle.text.specs.Words.{join, same}
 use Rattle.text.specs.Lent.{front}
 use Rattle.space.specs.Fields.{inner}
+use Rattle.outer.specs.Outer.{most}
 use Rattle.kinds.specs.declared.MessageType.{MessageType}
 use Rattle.kinds.specs.declared.MessageType.the-variants.{Fpl}
 use Rattle.message.specs.declared.Answer.{Answer}
@@ -23,7 +24,7 @@ use Rattle.state.specs.declared.Strip.{Strip}
 use Rattle.state.specs.State.{sound}
 use Rattle.opening.specs.declared.Opening.{Opening}
 use Rattle.opening.specs.declared.Opening.the-variants.{Read, Refused}
-use Rattle.opening.specs.Opening.{most, canonicalPlan, readAsPlan, notReadAs, readAs, openingOf, scratchAfter}
+use Rattle.opening.specs.Opening.{canonicalPlan, readAsPlan, notReadAs, readAs, openingOf, scratchAfter}
 
 -- WHAT STANDS AT THE FRONT of a scratch: bytes that were written there, and what they have between their parentheses
 

@@ -8,6 +8,7 @@ use lib.Dec.{leb}
 use Rattle.text.specs.Words.{same}
 use Rattle.text.specs.Lent.{front}
 use Rattle.space.specs.Fields.{inner}
+use Rattle.outer.specs.Outer.{most}
 use Rattle.kinds.specs.declared.MessageType.{MessageType}
 use Rattle.kinds.specs.declared.MessageType.the-variants.{Fpl}
 use Rattle.message.specs.declared.Answer.{Answer}
@@ -19,10 +20,6 @@ use Rattle.opening.specs.declared.Opening.{Opening}
 use Rattle.opening.specs.declared.Opening.the-variants.{Read, Refused}
 
 -- THE STRIP: a canonical accepted FPL
-
--- the most bytes of a message, and so of a strip
-abbrev pub most : ℕ
-most = 1800
 
 abbrev pub readAsPlan : Answer → Bool
 readAsPlan (ReadAs t n) = isPlan t

@@ -15,7 +15,7 @@ pub enum Opening {
 pub fn is_canonical_plan(strip: &[u8]) -> bool
     ensures { λ r. ⌜ r ≡ canonicalPlan (now (strip .entry)) ⌝ }
 {
-    let mut scratch = [0u8; 1800];
+    let mut scratch = [0u8; outer::MOST_BYTES];
     match message::read(strip, &mut scratch) {
         Answer::Refused {
             number: _,
@@ -50,7 +50,12 @@ fn not_read(number: u8, field: u8, place: usize) -> Opening
 }
 
 // Opens a strip for a message: 15 of the strip, 1 to 9 and 14 of the message; or the message's type, with its spelling at the front of the scratch.
-pub fn open_strip(strip: &[u8], held: Strip, msg: &[u8], scratch: &mut [u8; 1800]) -> Opening
+pub fn open_strip(
+    strip: &[u8],
+    held: Strip,
+    msg: &[u8],
+    scratch: &mut [u8; outer::MOST_BYTES],
+) -> Opening
     ensures { λ r. ⌜ (r ≡ openingOf (now (strip .entry)) held (now (msg .entry)))
         × (now (scratch .exit) ≡ scratchAfter (openingOf (now (strip .entry)) held (now (msg .entry))) (now (msg .entry)) (now (scratch .entry))) ⌝ }
 {

@@ -37,13 +37,17 @@ lettersFrom i (b ∷ bs) = cond (inAlphabet b) (lettersFrom (suc i) bs) (Bad 3 i
 
 -- NUMBERS 1 TO 3, in that order
 
+-- the most bytes that a message may have
+abbrev pub most : ℕ
+most = 1800
+
 -- the first that is Bad
 abbrev pub orElse : Outer → Outer → Outer
 orElse Good o = o
 orElse (Bad n p) o = Bad n p
 
 unfoldable pub outer : List ℕ → Outer
-outer m = cond (ltb 1800 (length m)) (Bad 1 1800) (orElse (parens m) (lettersFrom 0 m))
+outer m = cond (ltb most (length m)) (Bad 1 most) (orElse (parens m) (lettersFrom 0 m))
 
 abbrev pub isGood : Outer → Bool
 isGood Good = true
@@ -55,7 +59,7 @@ abbrev pub noParen : ℕ → Bool
 noParen b = not (oneOf b (bytes "()"))
 
 pub record Passed (m : List ℕ) : Type 0 where
-  pub short : length m ≤ 1800
+  pub short : length m ≤ most
   pub framed : Framed m
   pub between : all noParen (inner m) ≡ true
   pub letters : all inAlphabet m ≡ true

@@ -9,7 +9,8 @@ pub enum Outer {
 }
 
 // The most bytes that a message may have.
-const MOST_BYTES: usize = 1800;
+// The most bytes that a message may have.
+pub const MOST_BYTES: usize = 1800;
 
 // Number 2.
 fn check_parens(msg: &[u8]) -> Outer

@@ -6,6 +6,7 @@ use mathlib.Core.List.{List}
 use lib.ListN.{length}
 use Rattle.text.specs.Words.{split}
 use Rattle.text.specs.Lent.{front}
+use Rattle.outer.specs.Outer.{most}
 use Rattle.kinds.specs.declared.Role.{Role}
 use Rattle.state.specs.declared.Strip.{Strip}
 use Rattle.strip.specs.declared.Updated.{Updated}
@@ -18,7 +19,7 @@ Puts w n before after = (n ≡ length w) × (after ≡ front w before)
 
 -- a plan of nine fields and a message, each as long as a message may be without its parentheses
 abbrev pub Texts : List ℕ → List ℕ → Type 0
-Texts plan said = (length (split 45 plan) ≡ 9) × (length plan + 2 ≤ 1800) × (length said + 2 ≤ 1800)
+Texts plan said = (length (split 45 plan) ≡ 9) × (length plan + 2 ≤ most) × (length said + 2 ≤ most)
 
 abbrev pub writtenText : Updated → Role → List ℕ → List ℕ → List ℕ → List ℕ
 writtenText (Accepted held n) role plan said out = front (newStrip role plan said) out

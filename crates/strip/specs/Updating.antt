@@ -13,6 +13,7 @@ use Rattle.shape.specs.declared.ClockRead.{ClockRead}
 use Rattle.shape.specs.declared.ClockRead.the-variants.{TimeOfDay, NoTimeOfDay}
 use Rattle.aerodromes.specs.Asked.{clockAt, aerodromeIn}
 use Rattle.space.specs.Fields.{inner}
+use Rattle.outer.specs.Outer.{most}
 use Rattle.sent.specs.Sent.{messageOf}
 use Rattle.kinds.specs.declared.MessageType.{MessageType}
 use Rattle.kinds.specs.declared.MessageType.the-variants.{Fpl}
@@ -27,7 +28,7 @@ use Rattle.state.specs.declared.Event.the-variants.{Change, Delay, Cancel, Depa
 use Rattle.state.specs.State.{allowedIn, nextOf}
 use Rattle.opening.specs.declared.Opening.{Opening}
 use Rattle.opening.specs.declared.Opening.the-variants.{Read, Refused as NotOpened}
-use Rattle.opening.specs.Opening.{most, textSaid, openingOf}
+use Rattle.opening.specs.Opening.{textSaid, openingOf}
 use Rattle.force.specs.InForce.{namedBy, fieldAt, fieldsFrom}
 use Rattle.strip.specs.declared.Offered.{Offered}
 use Rattle.strip.specs.declared.Offered.the-variants.{Says, Unfit}

@@ -38,9 +38,10 @@ pub enum Updated {
     Refused { number: u8, field: u8, place: usize },
 }
 
-const MOST_BYTES: usize = 1800;
-
 const PLAN_FIELDS: usize = 9;
+
+// Room for a strip and a message together.
+const ROOM: usize = 3600;
 
 // Field j of a text, counted from 0; empty where there are fewer.
 fn field<'a>(s: &'a [u8], j: usize) -> &'a [u8]
@@ -274,7 +275,7 @@ fn amend<'a>(role: Role, next: Strip, plan: &'a [u8], said: &'a [u8], out: &mut 
     requires { ⌜ Texts (now plan) (now said) ⌝ }
     ensures { λ r. ⌜ Amends role next (now (plan .entry)) (now (said .entry)) (now (out .entry)) r (now (out .exit)) ⌝ }
 {
-    let mut new = [0u8; 3600];
+    let mut new = [0u8; ROOM];
     let n = write_amended(role, plan, said, &mut new);
     let e = n - 1;
     let field = message::unexplained_in(&new[1..e]);
@@ -285,7 +286,7 @@ fn amend<'a>(role: Role, next: Strip, plan: &'a [u8], said: &'a [u8], out: &mut 
             place: 0,
         };
     }
-    if MOST_BYTES < n {
+    if outer::MOST_BYTES < n {
         return Updated::Refused {
             number: 16,
             field: 0,
@@ -340,7 +341,7 @@ pub fn update(strip: &[u8], held: Strip, msg: &[u8], out: &mut [u8]) -> Updated
     ensures { λ r. ⌜ (r ≡ updateOf (now (strip .entry)) held (now (msg .entry)) (length (now (out .entry))))
         × (now (out .exit) ≡ outAfter (now (strip .entry)) held (now (msg .entry)) (now (out .entry))) ⌝ }
 {
-    let mut scratch = [0u8; 1800];
+    let mut scratch = [0u8; outer::MOST_BYTES];
     match opening::open_strip(strip, held, msg, &mut scratch) {
         Opening::Refused {
             number,
