@@ -27,7 +27,8 @@ use Rattle.message.specs.Reading.{spellingOf, faultIn, countAs, answerOf}
 use Rattle.text.specs.Lent.{front}
 use Rattle.force.specs.InForce.{namedBy, namedAt}
 use Rattle.opening.specs.Opening.{canonicalPlan, openingOf}
-use Rattle.strip.specs.Updating.{offeredAs, newStrip, updateOf, outAfter}
+use Rattle.amending.specs.Amended.{newStrip}
+use Rattle.strip.specs.Updating.{offeredAs, updateOf, outAfter}
 use Rattle.asked.specs.Asking.{typeAs, askedOf}
 use Rattle.demands.specs.Examples.{Example, AllHold, ofFields, ofMessages, ofStrips, examples}
 

@@ -36,7 +36,7 @@ use Rattle.message.specs.Message.{fieldsOf}
 use Rattle.message.proofs.Valid.{Fitting}
 use Rattle.force.specs.InForce.{lookup, namedBy, fieldsFrom}
 use Rattle.force.proofs.Laws.{fields-are}
-use Rattle.strip.specs.Updating.{amended}
+use Rattle.amending.specs.Amended.{amended}
 use Rattle.history.specs.History.{Part, placeFor, numberFor, within, planIn, nine, Told, named, givenBy, withTold}
 use Rattle.history.specs.History.Part.{heading, identification, rules, aircraft, equipment, aerodrome, offBlock, route, destination, other}
 

@@ -47,7 +47,8 @@ use Rattle.strip.specs.declared.Offered.{Offered}
 use Rattle.strip.specs.declared.Offered.the-variants.{Says, Unfit}
 use Rattle.strip.specs.declared.Updated.{Updated}
 use Rattle.strip.specs.declared.Updated.the-variants.{Accepted, Refused}
-use Rattle.strip.specs.Updating.{timeOf, arrival, eventOf, comparesTime, differences, differs, amended}
+use Rattle.amending.specs.Amended.{amended}
+use Rattle.strip.specs.Updating.{timeOf, arrival, eventOf, comparesTime, differences, differs}
 use Rattle.strip.specs.Updating.{roomAs, amendedAs, eventAs, offeredAs, openedAs, updateOf}
 use Rattle.history.specs.History.{planIn, nine, spelled, Told, landing, withTold}
 use Rattle.history.specs.Demand3.{Proper, fitRole, fitType, TimeToo, Same, whenDeparted, allowed, planOn, amendedOn, told, toldAs, Passes, Cause}

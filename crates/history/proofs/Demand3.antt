@@ -27,7 +27,8 @@ use Rattle.state.specs.State.{justFiled, sound, nextState}
 use Rattle.state.proofs.Laws.{next-sound}
 use Rattle.strip.specs.declared.Updated.{Updated}
 use Rattle.strip.specs.declared.Updated.the-variants.{Accepted, Refused}
-use Rattle.strip.specs.Updating.{newStrip, typeRead, stripAfter, writtenAs, updateOf, outAfter}
+use Rattle.amending.specs.Amended.{newStrip}
+use Rattle.strip.specs.Updating.{typeRead, stripAfter, writtenAs, updateOf, outAfter}
 use Rattle.history.specs.History.{Part, Plan, planIn, nine, spelled, Told, given, withTold, departs, becomes, Left, planBy, departureBy, stateBy}
 use Rattle.history.specs.Demand3.{updater, Board, Offer, told, putAs, enteredAs, answered, offered, offeredAll, logAll}
 use Rattle.history.specs.Demand3.{Proper, allowed, planOn, amendedOn, Cause, Demand3, filedAs, Meets}

@@ -16,7 +16,8 @@ use Rattle.state.specs.State.{justFiled}
 use Rattle.opening.specs.Opening.{canonicalPlan, openingOf}
 use Rattle.strip.specs.declared.Updated.{Updated}
 use Rattle.strip.specs.declared.Updated.the-variants.{Accepted, Refused}
-use Rattle.strip.specs.Updating.{newStrip, offeredAs, updateOf, outAfter}
+use Rattle.amending.specs.Amended.{newStrip}
+use Rattle.strip.specs.Updating.{offeredAs, updateOf, outAfter}
 use Rattle.history.specs.History.{planIn, spelled, given, planBy}
 use Rattle.history.specs.Demand3.{Updater, Offer, offeredAll, logAll, answered, Cause, filedAs, Meets}
 use Rattle.history.specs.Slips.{refusesAll, doesNothing, copies, firstEntry, firstMessage, matchesAfter, depOverwrites, searches}

@@ -19,7 +19,8 @@ use Rattle.force.specs.InForce.{fieldAt, fieldsFrom}
 use Rattle.strip.specs.declared.Updated.{Updated}
 use Rattle.strip.specs.declared.Updated.the-variants.{Accepted, Refused}
 use Rattle.opening.specs.Opening.{textSaid}
-use Rattle.strip.specs.Updating.{differences, differs, amended, newStrip, updateOf, typeRead, outAfter}
+use Rattle.amending.specs.Amended.{amended, newStrip}
+use Rattle.strip.specs.Updating.{differences, differs, updateOf, typeRead, outAfter}
 use Rattle.history.specs.Demand3.{Updater}
 
 -- one that refuses all, with whatever number, field and place

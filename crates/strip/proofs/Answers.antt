@@ -1,5 +1,5 @@
 -- The answers of an update, as the code comes to them. Assumes nothing.
-use Prim.Native.Nat.{ℕ, _-_, _<_, _≤_}
+use Prim.Native.Nat.{ℕ, _<_, _≤_}
 use mathlib.Core.Path.{_≡_, refl, sym, ap, _∙_}
 use mathlib.Core.Bool.{Bool, true, false, cond}
 use mathlib.Core.List.{List}
@@ -22,11 +22,12 @@ use Rattle.opening.specs.declared.Opening.{Opening}
 use Rattle.opening.specs.declared.Opening.the-variants.{Read, Refused as NotOpened}
 use Rattle.opening.specs.Opening.{textSaid, openingOf}
 use Rattle.opening.proofs.Plan.{opened}
+use Rattle.amending.specs.Amended.{amended, newStrip}
 use Rattle.strip.specs.declared.Offered.{Offered}
 use Rattle.strip.specs.declared.Offered.the-variants.{Says, Unfit}
 use Rattle.strip.specs.declared.Updated.{Updated}
 use Rattle.strip.specs.declared.Updated.the-variants.{Accepted, Refused}
-use Rattle.strip.specs.Updating.{eventOf, differences, differs, amended, newStrip, stripAfter}
+use Rattle.strip.specs.Updating.{eventOf, differences, differs, stripAfter}
 use Rattle.strip.specs.Updating.{roomAs, amendedAs, eventAs, offeredAs, openedAs, updateOf, typeRead, writtenAs, outAfter}
 use Rattle.strip.specs.Steps.{writtenText, Due, Amends, Offers}
 

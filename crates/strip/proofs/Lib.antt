@@ -1,4 +1,2 @@
 pub mod Last
-pub mod Writing
-pub mod Room
 pub mod Answers

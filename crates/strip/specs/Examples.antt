@@ -6,31 +6,15 @@ use Prim.Native.Nat.{ℕ}
 use Rattle.alphabet.specs.Text.{bytes}
 use Rattle.text.specs.Words.{split}
 use Rattle.shape.specs.Time.{timeFits}
-use Rattle.kinds.specs.declared.MessageType.the-variants.{Chg, Cnl, Dla, Dep, Arr, Rqp}
+use Rattle.kinds.specs.declared.MessageType.the-variants.{Cnl, Dla, Dep, Arr, Rqp}
 use Rattle.kinds.specs.Kinds.{roleOf}
 use Rattle.state.specs.declared.Event.the-variants.{Depart, Arrive}
 use Rattle.aerodromes.specs.Asked.{aerodromeIn}
-use Rattle.forms.specs.Field22.{labels}
-use Rattle.force.specs.InForce.{namedBy}
 use Rattle.strip.specs.declared.Offered.the-variants.{Says, Unfit}
-use Rattle.strip.specs.Updating.{eventOf, differences, differs, newStrip}
+use Rattle.strip.specs.Updating.{eventOf, differences, differs}
 
 abbrev filed : List ℕ
 filed = bytes "FPL-ABC12-IS-B738/M-SDFG/S-EHAM0930-N0440F310 DCT PAM DCT-EDDF0100 EDDK-0"
-
--- a CHG replaces the fields that it names, a DLA the time in 13, a DEP nothing
-changed : newStrip (roleOf Chg) filed (bytes "CHG-ABC12-EHAM0930-EDDF-0-9/B39M/M-8/IN")
-    ≡ bytes "(FPL-ABC12-IN-B39M/M-SDFG/S-EHAM0930-N0440F310 DCT PAM DCT-EDDF0100 EDDK-0)"
-unfolding newStrip namedBy labels
-changed = refl
-
-delayed : newStrip (roleOf Dla) filed (bytes "DLA-ABC12-EHAM1015-EDDF-0") ≡ bytes "(FPL-ABC12-IS-B738/M-SDFG/S-EHAM1015-N0440F310 DCT PAM DCT-EDDF0100 EDDK-0)"
-unfolding newStrip
-delayed = refl
-
-departed : newStrip (roleOf Dep) filed (bytes "DEP-ABC12-EHAM0941-EDDF-0") ≡ bytes "(FPL-ABC12-IS-B738/M-SDFG/S-EHAM0930-N0440F310 DCT PAM DCT-EDDF0100 EDDK-0)"
-unfolding newStrip
-departed = refl
 
 -- what a DEP and an ARR say of the state; an RQP is not fit
 events : (eventOf (roleOf Dep) (split 45 (bytes "DEP-ABC12-EHAM0941-EDDF-0")) ≡ Says (Depart (record { 0 = 581 })))

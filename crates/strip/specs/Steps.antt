@@ -1,4 +1,4 @@
--- What the steps of an update give, from the two texts: the bytes at the front of a lent slice, and an answer with the output that goes with it.
+-- What the steps of an update give, from the two texts: an answer with the output that goes with it.
 -- Assumes nothing.
 use Prim.Native.Nat.{ℕ, _+_, _≤_}
 use mathlib.Core.Path.{_≡_}
@@ -9,13 +9,10 @@ use Rattle.text.specs.Lent.{front}
 use Rattle.outer.specs.Outer.{most}
 use Rattle.kinds.specs.declared.Role.{Role}
 use Rattle.state.specs.declared.Strip.{Strip}
+use Rattle.amending.specs.Amended.{amended, newStrip}
 use Rattle.strip.specs.declared.Updated.{Updated}
 use Rattle.strip.specs.declared.Updated.the-variants.{Accepted, Refused}
-use Rattle.strip.specs.Updating.{amended, newStrip, amendedAs, offeredAs}
-
--- so many bytes, at the front of what was lent
-abbrev pub Puts : List ℕ → ℕ → List ℕ → List ℕ → Type 0
-Puts w n before after = (n ≡ length w) × (after ≡ front w before)
+use Rattle.strip.specs.Updating.{amendedAs, offeredAs}
 
 -- a plan of nine fields and a message, each as long as a message may be without its parentheses
 abbrev pub Texts : List ℕ → List ℕ → Type 0

@@ -2,8 +2,7 @@
 -- message and the room lent. A plan and what a message says are given by their texts, which stand between the parentheses. Assumes nothing.
 use Prim.Native.Nat.{ℕ, _-_}
 use mathlib.Core.Bool.{Bool, true, false, _&&_, _||_, not, cond}
-use mathlib.Core.List.{List, [], _++_}
-use mathlib.Core.Option.{Option·getD}
+use mathlib.Core.List.{List, []}
 use lib.Dec.{eqb, ltb}
 use lib.ListN.{length, take, drop, getD}
 use Rattle.text.specs.Words.{Word, split, before, same}
@@ -29,7 +28,7 @@ use Rattle.state.specs.State.{allowedIn, nextOf}
 use Rattle.opening.specs.declared.Opening.{Opening}
 use Rattle.opening.specs.declared.Opening.the-variants.{Read, Refused as NotOpened}
 use Rattle.opening.specs.Opening.{textSaid, openingOf}
-use Rattle.force.specs.InForce.{namedBy, fieldAt, fieldsFrom}
+use Rattle.amending.specs.Amended.{amended, newStrip}
 use Rattle.strip.specs.declared.Offered.{Offered}
 use Rattle.strip.specs.declared.Offered.the-variants.{Says, Unfit}
 use Rattle.strip.specs.declared.Differences.{Differences}
@@ -80,27 +79,7 @@ differences role ps cs =
 abbrev pub differs : Differences → Bool
 differs d = d .identification || (d .aerodrome || (d .time || d .destination))
 
--- EFFECT, on the plan: field k of the amended plan, from the plan's own. A CHG's where it names it; of a DLA the time in 13, behind the aerodrome of
--- the plan; otherwise the plan's own
-
-abbrev pub contentIn : Role → Word → List ℕ → ℕ → Word
-contentIn Changes own said k = Option·getD (namedBy said k) own
-contentIn Delays own said k = cond (eqb k plan13) (take 4 own ++ drop 4 (fieldAt said brief13)) own
-contentIn Cancels own said k = own
-contentIn Departs own said k = own
-contentIn Arrives own said k = own
-contentIn Files own said k = own
-contentIn Neither own said k = own
-
-abbrev pub contentOf : Role → List ℕ → List ℕ → ℕ → Word
-contentOf role plan said k = contentIn role (fieldAt plan k) said k
-
--- the nine fields of the amended plan, and the strip that they make
-abbrev pub amended : Role → List ℕ → List ℕ → List Word
-amended role plan said = fieldsFrom (contentOf role plan said) 0 9
-
-unfoldable pub newStrip : Role → List ℕ → List ℕ → List ℕ
-newStrip role plan said = messageOf (amended role plan said)
+-- EFFECT, on the plan: the amended plan (amending: specs/Amended.antt)
 
 -- THE ANSWER: 15, 1 to 9 and 14 as the strip is opened, 14, 12, 13, then for the amended plan 10, 16, 11
 

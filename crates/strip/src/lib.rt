@@ -1,23 +1,17 @@
 // The strip: one plan, kept up to date by the messages that are offered to it.
 ghost use mathlib.Core.Path.{_≡_};
 ghost use mathlib.Core.Bool.{_&&_, not};
-ghost use mathlib.Core.List.{[], _∷_, _++_};
-ghost use Prim.Native.Nat.{suc, _≤_};
-ghost use lib.ListN.{length, drop, getD};
+ghost use lib.ListN.{length, drop};
 ghost use Rattle.text.specs.Words.{split, same};
 ghost use Rattle.aerodromes.specs.Asked.{clockAt};
-ghost use Rattle.message.specs.Reading.{leadOf};
-ghost use Rattle.force.specs.InForce.{AtEntries};
-ghost use Rattle.strip.specs.Updating.{timeOf, arrival, eventOf, comparesTime, differences, differs, contentIn, newStrip, updateOf, outAfter};
-ghost use Rattle.strip.specs.Steps.{Puts, Texts, Amends, Offers};
-use force::Found;
+ghost use Rattle.strip.specs.Updating.{timeOf, arrival, eventOf, comparesTime, differences, differs, updateOf, outAfter};
+ghost use Rattle.strip.specs.Steps.{Texts, Amends, Offers};
 use kinds::Role;
 use opening::Opening;
 use shape::Clock;
 use shape::ClockRead;
 use state::Event;
 use state::Strip;
-use text::Cursor;
 
 // What a message of a type does to the state, or that its type is not fit for an update.
 pub enum Offered {
@@ -38,18 +32,8 @@ pub enum Updated {
     Refused { number: u8, field: u8, place: usize },
 }
 
-const PLAN_FIELDS: usize = 9;
-
 // Room for a strip and a message together.
 const ROOM: usize = 3600;
-
-// Field j of a text, counted from 0; empty where there are fewer.
-fn field<'a>(s: &'a [u8], j: usize) -> &'a [u8]
-    ensures { λ r. ⌜ now r ≡ getD (split 45 (now (s .entry))) j [] ⌝ }
-{
-    let c = force::seek(s, j);
-    c.part(s, b'-')
-}
 
 // The last field of a text.
 fn last_field<'a>(s: &'a [u8]) -> &'a [u8]
@@ -83,7 +67,10 @@ fn event_of(role: Role, said: &[u8]) -> Offered
         Role::Changes => Offered::Says(Event::Change),
         Role::Delays => Offered::Says(Event::Delay),
         Role::Cancels => Offered::Says(Event::Cancel),
-        Role::Departs => Offered::Says(Event::Depart(time_in(field(said, kinds::BRIEF_13)))),
+        Role::Departs => Offered::Says(Event::Depart(time_in(amending::field(
+            said,
+            kinds::BRIEF_13,
+        )))),
         Role::Arrives => {
             let landed = last_field(said);
             Offered::Says(Event::Arrive(aerodromes::Aerodrome::of(landed), time_in(landed)))
@@ -107,16 +94,6 @@ fn compares_time(role: Role) -> bool
     }
 }
 
-// What stands behind the first four bytes of a content.
-fn behind_aerodrome<'a>(s: &'a [u8]) -> &'a [u8]
-    ensures { λ r. ⌜ now r ≡ drop 4 (now (s .entry)) ⌝ }
-{
-    if s.len() < 4 {
-        return &s[s.len()..];
-    }
-    &s[4..]
-}
-
 // Whether the time in field 13 is compared, and differs.
 fn time_differs(role: Role, a: &[u8], b: &[u8]) -> bool
     ensures { λ r. ⌜ r ≡ (comparesTime role && not (same (drop 4 (now (a .entry))) (drop 4 (now (b .entry))))) ⌝ }
@@ -124,19 +101,19 @@ fn time_differs(role: Role, a: &[u8], b: &[u8]) -> bool
     if !compares_time(role) {
         return false;
     }
-    !text::same_bytes(behind_aerodrome(a), behind_aerodrome(b))
+    !text::same_bytes(amending::behind_aerodrome(a), amending::behind_aerodrome(b))
 }
 
 // What differs between a plan and a message, from their texts.
 pub fn differences_in(role: Role, plan: &[u8], said: &[u8]) -> Differences
     ensures { λ r. ⌜ r ≡ differences role (split 45 (now (plan .entry))) (split 45 (now (said .entry))) ⌝ }
 {
-    let ours = field(plan, kinds::PLAN_13);
-    let theirs = field(said, kinds::BRIEF_13);
+    let ours = amending::field(plan, kinds::PLAN_13);
+    let theirs = amending::field(said, kinds::BRIEF_13);
     Differences {
         identification: !text::same_bytes(
-            head::identification(field(plan, kinds::PLAN_7)),
-            head::identification(field(said, kinds::BRIEF_7)),
+            head::identification(amending::field(plan, kinds::PLAN_7)),
+            head::identification(amending::field(said, kinds::BRIEF_7)),
         ),
         aerodrome: !text::same_bytes(
             aerodromes::aerodrome_of(ours),
@@ -144,8 +121,8 @@ pub fn differences_in(role: Role, plan: &[u8], said: &[u8]) -> Differences
         ),
         time: time_differs(role, ours, theirs),
         destination: !text::same_bytes(
-            aerodromes::aerodrome_of(field(plan, kinds::PLAN_16)),
-            aerodromes::aerodrome_of(field(said, kinds::BRIEF_16)),
+            aerodromes::aerodrome_of(amending::field(plan, kinds::PLAN_16)),
+            aerodromes::aerodrome_of(amending::field(said, kinds::BRIEF_16)),
         ),
     }
 }
@@ -167,116 +144,13 @@ impl Differences {
     }
 }
 
-// Writes field k of a plan after a CHG at the front of `out`: the content that names it, otherwise the plan's own. The entries begin at `first`.
-fn put_changed<'a>(own: &'a [u8], said: &'a [u8], first: Cursor, k: usize, out: &mut [u8]) -> usize
-    requires { ⌜ AtEntries (now said) (first .at) × (length (contentIn Role.Changes (now own) (now said) k) ≤ length (now out)) ⌝ }
-    ensures { λ r. ⌜ Puts (contentIn Role.Changes (now (own .entry)) (now (said .entry)) k) r (now (out .entry)) (now (out .exit)) ⌝ }
-{
-    match force::named_from(said, first, k) {
-        Found::At { from, to } => text::put(&said[from..to], out),
-        Found::Nowhere => text::put(own, out),
-    }
-}
-
-// Writes two parts, one behind the other, at the front of `out`.
-fn put_two<'a>(first: &'a [u8], second: &'a [u8], out: &mut [u8]) -> usize
-    requires { ⌜ length (now first ++ now second) ≤ length (now out) ⌝ }
-    ensures { λ r. ⌜ Puts (now (first .entry) ++ now (second .entry)) r (now (out .entry)) (now (out .exit)) ⌝ }
-{
-    let n = text::put(first, out);
-    n + text::put(second, &mut out[n..])
-}
-
-// Writes field k of a plan after a DLA: of field 13 the plan's aerodrome and the DLA's time, otherwise the plan's own.
-fn put_delayed<'a>(own: &'a [u8], said: &'a [u8], k: usize, out: &mut [u8]) -> usize
-    requires { ⌜ length (contentIn Role.Delays (now own) (now said) k) ≤ length (now out) ⌝ }
-    ensures { λ r. ⌜ Puts (contentIn Role.Delays (now (own .entry)) (now (said .entry)) k) r (now (out .entry)) (now (out .exit)) ⌝ }
-{
-    if k == kinds::PLAN_13 {
-        let time = behind_aerodrome(field(said, kinds::BRIEF_13));
-        return put_two(aerodromes::aerodrome_of(own), time, out);
-    }
-    text::put(own, out)
-}
-
-// Writes field k of the amended plan, of which `own` is the plan's.
-fn put_content<'a>(
-    role: Role,
-    own: &'a [u8],
-    said: &'a [u8],
-    first: Cursor,
-    k: usize,
-    out: &mut [u8],
-) -> usize
-    requires { ⌜ AtEntries (now said) (first .at) × (length (contentIn role (now own) (now said) k) ≤ length (now out)) ⌝ }
-    ensures { λ r. ⌜ Puts (contentIn role (now (own .entry)) (now (said .entry)) k) r (now (out .entry)) (now (out .exit)) ⌝ }
-{
-    match role {
-        Role::Changes => put_changed(own, said, first, k, out),
-        Role::Delays => put_delayed(own, said, k, out),
-        Role::Cancels => text::put(own, out),
-        Role::Departs => text::put(own, out),
-        Role::Arrives => text::put(own, out),
-        Role::Files => text::put(own, out),
-        Role::Neither => text::put(own, out),
-    }
-}
-
-// Writes field k of the amended plan behind the byte that leads to it.
-fn put_field<'a>(
-    role: Role,
-    own: &'a [u8],
-    said: &'a [u8],
-    first: Cursor,
-    k: usize,
-    out: &mut [u8],
-) -> usize
-    requires { ⌜ AtEntries (now said) (first .at) × (length (leadOf k ∷ contentIn role (now own) (now said) k) ≤ length (now out)) ⌝ }
-    ensures { λ r. ⌜ Puts (leadOf k ∷ contentIn role (now (own .entry)) (now (said .entry)) k) r (now (out .entry)) (now (out .exit)) ⌝ }
-{
-    out[0] = message::lead_of(k);
-    let n = put_content(role, own, said, first, k, &mut out[1..]);
-    n + 1
-}
-
-// The cursor behind a field that ends at e.
-fn behind(plan: &[u8], e: usize) -> Cursor
-    requires { ⌜ e ≤ length (now plan) ⌝ }
-    ensures { λ r. ⌜ (r .at ≤ length (now (plan .entry))) × (drop (r .at) (now (plan .entry)) ≡ drop (suc e) (now (plan .entry))) ⌝ }
-{
-    if e < plan.len() {
-        return Cursor { at: e + 1 };
-    }
-    Cursor { at: e }
-}
-
-// Writes the amended plan, field by field, at the front of `out`.
-fn write_amended<'a>(role: Role, plan: &'a [u8], said: &'a [u8], out: &mut [u8]) -> usize
-    requires { ⌜ length (newStrip role (now plan) (now said)) ≤ length (now out) ⌝ }
-    ensures { λ r. ⌜ Puts (newStrip role (now (plan .entry)) (now (said .entry))) r (now (out .entry)) (now (out .exit)) ⌝ }
-{
-    let first = force::first_entry(said);
-    let mut o = 0;
-    let mut c = Cursor { at: 0 };
-    let mut k = 0;
-    while k < PLAN_FIELDS {
-        let at = c.at;
-        let e = c.end(plan, b'-');
-        o += put_field(role, &plan[at..e], said, first, k, &mut out[o..]);
-        c = behind(plan, e);
-        k += 1;
-    }
-    out[o] = b')';
-    o + 1
-}
-
 // Numbers 10, 16 and 11 of the amended plan, which is written once, to a scratch with room for strip and message together; then the acceptance.
 fn amend<'a>(role: Role, next: Strip, plan: &'a [u8], said: &'a [u8], out: &mut [u8]) -> Updated
     requires { ⌜ Texts (now plan) (now said) ⌝ }
     ensures { λ r. ⌜ Amends role next (now (plan .entry)) (now (said .entry)) (now (out .entry)) r (now (out .exit)) ⌝ }
 {
     let mut new = [0u8; ROOM];
-    let n = write_amended(role, plan, said, &mut new);
+    let n = amending::write_amended(role, plan, said, &mut new);
     let e = n - 1;
     let field = message::unexplained_in(&new[1..e]);
     if field != 0 {

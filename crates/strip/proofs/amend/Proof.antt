@@ -9,8 +9,8 @@ use Rattle.text.specs.Words.{split}
 use Rattle.supplement.proofs.Turns.{put-same}
 use Rattle.message.specs.Reading.{unexplainedIn}
 use Rattle.opening.proofs.Steps.{front-whole, front-text}
-use Rattle.strip.specs.Updating.{amended, newStrip}
-use Rattle.strip.proofs.Room.{new-room, new-two, new-cut}
+use Rattle.amending.specs.Amended.{amended, newStrip}
+use Rattle.amending.proofs.Room.{new-room, new-two, new-cut}
 use Rattle.strip.proofs.Answers.{left-unexplained, too-long, no-room, fits-room}
 use borrow.Author.Needs.{needs}
 use Rattle.strip.proofs.amend.Statement.{statement}

@@ -18,7 +18,7 @@ use Rattle.kinds.specs.declared.Role.{Role}
 use Rattle.message.specs.Reading.{leadOf}
 use Rattle.message.proofs.Nth.{field-at}
 use Rattle.force.specs.InForce.{fieldsFrom}
-use Rattle.strip.specs.Updating.{contentIn, contentOf, newStrip}
+use Rattle.amending.specs.Amended.{contentIn, contentOf, newStrip}
 
 -- THE WALK OVER THE PLAN: the cursor at its field k
 

@@ -1,4 +1,4 @@
--- `strip::put_delayed` meets its contract. Assumes nothing.
+-- `amending::put_delayed` meets its contract. Assumes nothing.
 use Prim.Native.Nat.{ℕ}
 use mathlib.Core.Path.{_≡_, sym, ap, ap₂, _∙_}
 use mathlib.Core.List.{List, _++_}
@@ -9,10 +9,10 @@ use Rattle.supplement.proofs.Turns.{put-same, room-same}
 use Rattle.kinds.specs.declared.Role.the-variants.{Delays}
 use Rattle.kinds.specs.Kinds.{plan13, brief13}
 use Rattle.force.specs.InForce.{fieldAt}
-use Rattle.strip.specs.Updating.{contentIn}
+use Rattle.amending.specs.Amended.{contentIn}
 use borrow.Author.Needs.{needs}
-use Rattle.strip.proofs.put_delayed.Statement.{statement}
-use Rattle.strip.proofs.put_delayed.Tie as tie
+use Rattle.amending.proofs.put_delayed.Statement.{statement}
+use Rattle.amending.proofs.put_delayed.Tie as tie
 
 -- what is written, at field 13 and at others
 retimed : (own : Word) (said : List ℕ) (k : ℕ) → k ≡ plan13 → take 4 own ++ drop 4 (fieldAt said brief13) ≡ contentIn Delays own said k

@@ -1,4 +1,4 @@
--- `strip::behind` meets its contract. Assumes nothing.
+-- `amending::behind` meets its contract. Assumes nothing.
 use Rattle.text.proofs.Index.{drop-end}
 use Prim.Native.Nat.{ℕ, suc}
 use mathlib.Core.Path.{sym, ap, _∙_}
@@ -6,8 +6,8 @@ use lib.ListN.{drop}
 use native.Mathlib.Numerals.{add-one}
 use native.Mathlib.Omega.{arith}
 use borrow.Author.Needs.{needs}
-use Rattle.strip.proofs.behind.Statement.{statement}
-use Rattle.strip.proofs.behind.Tie as tie
+use Rattle.amending.proofs.behind.Statement.{statement}
+use Rattle.amending.proofs.behind.Tie as tie
 
 add-t5 : tie.Need-add-t5
 add-t5 c = search needs

@@ -20,7 +20,7 @@ use Rattle.kinds.specs.Kinds.{plan13, brief13, firstEntry}
 use Rattle.forms.specs.Field22.{whichOf}
 use Rattle.force.specs.InForce.{entriesOf, lookup, namedBy, fieldAt, fieldsFrom}
 use Rattle.force.proofs.Laws.{fields-are, field-free, in-force-free, nine-cut}
-use Rattle.strip.specs.Updating.{contentOf, amended, newStrip}
+use Rattle.amending.specs.Amended.{contentOf, amended, newStrip}
 
 -- SUMS over n places from j on
 

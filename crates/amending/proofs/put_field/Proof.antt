@@ -1,4 +1,4 @@
--- `strip::put_field` meets its contract. Assumes nothing.
+-- `amending::put_field` meets its contract. Assumes nothing.
 use mathlib.Core.Path.{ap, _∙_}
 use mathlib.Core.List.{_∷_}
 use Prim.Native.Nat.{ℕ}
@@ -8,10 +8,10 @@ use Rattle.text.specs.Lent.{front}
 use Rattle.text.proofs.Index.{rest}
 use Rattle.text.proofs.Lent.{lent}
 use Rattle.message.proofs.Walk.{lead-write}
-use Rattle.strip.specs.Updating.{contentIn}
+use Rattle.amending.specs.Amended.{contentIn}
 use borrow.Author.Needs.{needs}
-use Rattle.strip.proofs.put_field.Statement.{statement}
-use Rattle.strip.proofs.put_field.Tie as tie
+use Rattle.amending.proofs.put_field.Statement.{statement}
+use Rattle.amending.proofs.put_field.Tie as tie
 
 lead-of-requires : tie.Need-lead-of-requires
 lead-of-requires c κs = search needs

@@ -1,10 +1,10 @@
--- `strip::field` meets its contract. Assumes nothing.
+-- `amending::field` meets its contract. Assumes nothing.
 use mathlib.Core.Path.{sym, ap, _∙_}
 use Rattle.text.specs.Words.{before}
 use Rattle.message.proofs.Nth.{field-at}
 use borrow.Author.Needs.{needs}
-use Rattle.strip.proofs.field.Statement.{statement}
-use Rattle.strip.proofs.field.Tie as tie
+use Rattle.amending.proofs.field.Statement.{statement}
+use Rattle.amending.proofs.field.Tie as tie
 
 seek-requires : tie.Need-seek-requires
 seek-requires c κs = search needs

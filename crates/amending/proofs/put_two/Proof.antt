@@ -1,4 +1,4 @@
--- `strip::put_two` meets its contract. Assumes nothing.
+-- `amending::put_two` meets its contract. Assumes nothing.
 use Prim.Native.Nat.{_+_, _≤_}
 use mathlib.Core.Path.{_≡_, ap, _∙_}
 use native.Mathlib.Omega.{arith}
@@ -7,8 +7,8 @@ use Rattle.text.proofs.Index.{rest}
 use Rattle.text.proofs.Lent.{lent, length-front}
 use Rattle.supplement.proofs.Turns.{halves}
 use borrow.Author.Needs.{needs}
-use Rattle.strip.proofs.put_two.Statement.{statement}
-use Rattle.strip.proofs.put_two.Tie as tie
+use Rattle.amending.proofs.put_two.Statement.{statement}
+use Rattle.amending.proofs.put_two.Tie as tie
 
 -- the room for both
 module _ (s : tie.Start) where

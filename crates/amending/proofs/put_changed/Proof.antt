@@ -1,4 +1,4 @@
--- `strip::put_changed` meets its contract. Assumes nothing.
+-- `amending::put_changed` meets its contract. Assumes nothing.
 use mathlib.Core.Path.{_≡_, sym, ap}
 use mathlib.Core.Option.{Option, Option·getD}
 use Rattle.text.specs.Words.{Word}
@@ -7,8 +7,8 @@ use Rattle.force.specs.declared.Found.the-variants.{At}
 use Rattle.force.specs.InForce.{FoundIn}
 use Rattle.force.proofs.Walk.{as-found}
 use borrow.Author.Needs.{needs}
-use Rattle.strip.proofs.put_changed.Statement.{statement}
-use Rattle.strip.proofs.put_changed.Tie as tie
+use Rattle.amending.proofs.put_changed.Statement.{statement}
+use Rattle.amending.proofs.put_changed.Tie as tie
 
 -- the content, once it is known whether the text names the field
 given-by : (own : Word) {o v : Option Word} → o ≡ v → Option·getD v own ≡ Option·getD o own

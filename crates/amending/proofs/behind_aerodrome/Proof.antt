@@ -1,11 +1,11 @@
--- `strip::behind_aerodrome` meets its contract. Assumes nothing.
+-- `amending::behind_aerodrome` meets its contract. Assumes nothing.
 use lib.ListN.{length}
 use mathlib.Core.Path.{sym, _∙_}
 use Rattle.text.proofs.Index.{rest, drop-end}
 use native.Mathlib.Omega.{arith}
 use borrow.Author.Needs.{needs}
-use Rattle.strip.proofs.behind_aerodrome.Statement.{statement}
-use Rattle.strip.proofs.behind_aerodrome.Tie as tie
+use Rattle.amending.proofs.behind_aerodrome.Statement.{statement}
+use Rattle.amending.proofs.behind_aerodrome.Tie as tie
 
 sub-result : tie.Need-sub-result
 sub-result c = search needs

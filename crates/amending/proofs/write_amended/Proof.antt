@@ -1,14 +1,14 @@
--- `strip::write_amended` meets its contract. Assumes nothing.
+-- `amending::write_amended` meets its contract. Assumes nothing.
 use Prim.Native.Nat.{ℕ, _-_}
 use mathlib.Core.List.{List}
 use lib.ListN.{take, drop, length-set}
-use Rattle.strip.specs.Updating.{contentIn}
-use Rattle.strip.proofs.Writing.{AtField, first-field, behind-field, content-to, Amending, amending-starts}
-use Rattle.strip.proofs.Writing.{Turn, turn-room, turn-fits, turn-next, last-long, last-room, last-written}
+use Rattle.amending.specs.Amended.{contentIn}
+use Rattle.amending.proofs.Writing.{AtField, first-field, behind-field, content-to, Amending, amending-starts}
+use Rattle.amending.proofs.Writing.{Turn, turn-room, turn-fits, turn-next, last-long, last-room, last-written}
 use borrow.Author.Needs.{needs}
 use native.Mathlib.Omega.{arith}
-use Rattle.strip.proofs.write_amended.Statement.{statement}
-use Rattle.strip.proofs.write_amended.Tie as tie
+use Rattle.amending.proofs.write_amended.Statement.{statement}
+use Rattle.amending.proofs.write_amended.Tie as tie
 
 abbrev Inv-loop : tie.InvT-loop
 Inv-loop role plan said out₀ first o₀ c₀ k₀ out o c k = Amending role plan said out₀ out o k × AtField plan k (c .at)
