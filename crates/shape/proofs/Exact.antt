@@ -122,7 +122,8 @@ clash-law (t ∷ ts) (u ∷ us) (b ∷ w) c e = go (clash-law ts us w) (disjoint
     h : (inClass t b ≡ true) × (fits ts w ≡ true)
     h = both (inClass t b) (fits ts w) e
 
-    go : (clash ts us ≡ true → fits ts w ≡ true → fits us w ≡ false) → (d : Bool) → disjoint t u ≡ d → cond d true (clash ts us) ≡ true → (inClass u b && fits us w) ≡ false
+    go : (clash ts us ≡ true → fits ts w ≡ true → fits us w ≡ false)
+        → (d : Bool) → disjoint t u ≡ d → cond d true (clash ts us) ≡ true → (inClass u b && fits us w) ≡ false
     go ih true p q = rw (disjoint-law t u b p (h .0))
     go ih false p q = and-false (inClass u b) (fits us w) (ih q (h .1))
 
@@ -153,7 +154,8 @@ form-complete ts s f e =
     (p .0, rw (p .1, v .1))
 
 -- a test that all digits pass, and all letters of a shape, is passed by every byte of a word that fits it
-pub fits-all : (p : ℕ → Bool) → ((b : ℕ) → digit b ≡ true → p b ≡ true) → (t w : Word) → all (λ x. digit x || all p (letters x)) t ≡ true → fits t w ≡ true → all p w ≡ true
+pub fits-all : (p : ℕ → Bool) → ((b : ℕ) → digit b ≡ true → p b ≡ true)
+    → (t w : Word) → all (λ x. digit x || all p (letters x)) t ≡ true → fits t w ≡ true → all p w ≡ true
 fits-all p d [] [] a e = refl
 fits-all p d [] (b ∷ w) a e = absurd (false≢true e)
 fits-all p d (t ∷ ts) [] a e = refl
@@ -203,7 +205,8 @@ pick-elem (t ∷ ts) w e = go (pick-elem ts w) (fits (wide t) w) e
     later v true q = refl
     later v false q = q
 
-    go : (any (wides ts) w ≡ true → elem (pick ts w) ts ≡ true) → (b : Bool) → cond b true (any (wides ts) w) ≡ true → elem (cond b t (pick ts w)) (t ∷ ts) ≡ true
+    go : (any (wides ts) w ≡ true → elem (pick ts w) ts ≡ true)
+        → (b : Bool) → cond b true (any (wides ts) w) ≡ true → elem (cond b t (pick ts w)) (t ∷ ts) ≡ true
     go ih true q = rw (same-self t)
     go ih false q = later (pick ts w) (same (pick ts w) t) (ih q)
 

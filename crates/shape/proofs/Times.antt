@@ -67,8 +67,8 @@ module _ (most n : ℕ) (l : most ≤ 99) (v : validMinutes most n ≡ true) whe
 
   back : (fits (wide hoursMinutes) (spellMinutes n) ≡ true) × (values hoursMinutes (spellMinutes n) ≡ n / 60 ∷ (n % 60 ∷ []))
   back =
-      let z = values-spells hoursMinutes (n / 60 ∷ (n % 60 ∷ [])) (rw (lt-ltb (n / 60) 100 (omega (arith, few)), lt-ltb (n % 60) 100 (omega (arith, in-hour)))) in
-      z
+      values-spells hoursMinutes (n / 60 ∷ (n % 60 ∷ []))
+      (rw (lt-ltb (n / 60) 100 (omega (arith, few)), lt-ltb (n % 60) 100 (omega (arith, in-hour))))
 
   hours-are : hours (spellMinutes n) ≡ n / 60
   hours-are = ap (λ (vs : List ℕ). getD vs 0 0) (back .1)

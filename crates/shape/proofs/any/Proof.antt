@@ -16,6 +16,17 @@ Inv-loop list w at₀ at = (at ≤ length list) × (any (split 32 list) w ≡ an
 abbrev μ-loop : tie.MeasureT-loop
 μ-loop list w at₀ at = length list - at
 
+-- where a shape of the list was tried
+module _ (c : tie.After-fits2 Inv-loop μ-loop) where
+  abbrev found : tie.After-find Inv-loop μ-loop
+  found = c .before .before
+
+  abbrev looped : tie.At-loop Inv-loop μ-loop
+  looped = found .before
+
+  abbrev start : tie.Start Inv-loop μ-loop
+  start = looped .before .before .before
+
 loop-holds : tie.Need-loop-holds Inv-loop μ-loop
 loop-holds c = (search needs, refl)
 
@@ -36,15 +47,17 @@ fits-requires c κs = search needs
 
 returns : tie.Need-returns Inv-loop μ-loop
 returns c =
-    let a = c .before .before .before .before .before .before .before .args in
-    let l = c .before .before .before .before .loop in
-    sym (l .inv .1 ∙ any-found (a .w .now) (a .list .now) (l .at) (c .before .before .before .find .result) (c .before .before .before .find .ensures .0) (sym (c .before .fits2 .ensures) ∙ c .if1 .taken))
+    let r = c .before in
+    let a = start r .args in
+    let tried = sym (r .fits2 .ensures) ∙ c .if1 .taken in
+    sym (looped r .loop .inv .1 ∙ any-found (a .w .now) (a .list .now) (looped r .loop .at) _ (found r .find .ensures .0) tried)
 
 returns-2 : tie.Need-returns-2 Inv-loop μ-loop
 returns-2 c =
-    let a = c .before .before .before .before .before .before .before .before .args in
-    let l = c .before .before .before .before .before .loop in
-    sym (l .inv .1 ∙ any-last (a .w .now) (a .list .now) (l .at) (c .before .before .before .before .find .result) (c .before .before .before .before .find .ensures .0) (sym (c .before .before .fits2 .ensures) ∙ c .before .if1 .left) (omega arith))
+    let r = c .before .before in
+    let a = start r .args in
+    let tried = sym (r .fits2 .ensures) ∙ c .before .if1 .left in
+    sym (looped r .loop .inv .1 ∙ any-last (a .w .now) (a .list .now) (looped r .loop .at) _ (found r .find .ensures .0) tried (omega arith))
 
 add-at : tie.Need-add-at Inv-loop μ-loop
 add-at c = search needs
@@ -54,9 +67,10 @@ loop-less c = search needs
 
 loop-again : tie.Need-loop-again Inv-loop μ-loop
 loop-again c =
-    let a = c .before .before .before .before .before .before .before .before .args in
-    let l = c .before .before .before .before .before .loop in
-    (search needs, l .inv .1 ∙ any-next (a .w .now) (a .list .now) (l .at) (c .before .before .before .before .find .result) (c .before .before .before .before .find .ensures .0) (sym (c .before .before .fits2 .ensures) ∙ c .before .if1 .left) (omega arith))
+    let r = c .before .before in
+    let a = start r .args in
+    let tried = sym (r .fits2 .ensures) ∙ c .before .if1 .left in
+    (search needs, looped r .loop .inv .1 ∙ any-next (a .w .now) (a .list .now) (looped r .loop .at) _ (found r .find .ensures .0) tried (omega arith))
 
 pub any-spec : {M : Type 1} → statement M
 any-spec =

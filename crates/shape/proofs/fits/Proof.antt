@@ -16,6 +16,14 @@ Inv-loop t w i₀ i = (i ≤ length t) × (length t ≡ length w) × (fits t w �
 abbrev μ-loop : tie.MeasureT-loop
 μ-loop t w i₀ i = length t - i
 
+-- where a byte was tried
+module _ (c : tie.After-in-class Inv-loop μ-loop) where
+  abbrev looped : tie.At-loop Inv-loop μ-loop
+  looped = c .before .before .before .before
+
+  abbrev start : tie.Start Inv-loop μ-loop
+  start = looped .before .before .before .before
+
 returns : tie.Need-returns Inv-loop μ-loop
 returns c = let a = c .before .before .before .args in sym (fits-other (a .t .now) (a .w .now) (c .if1 .taken))
 
@@ -33,11 +41,10 @@ in-class-requires c κs = search needs
 
 returns-2 : tie.Need-returns-2 Inv-loop μ-loop
 returns-2 c =
-    let a = c .before .before .before .before .before .before .before .before .before .args in
-    let i = c .before .before .before .before .before .loop .i in
-    sym
-    (c .before .before .before .before .before .loop .inv .2
-    ∙ fits-stop (a .t .now) (a .w .now) i (omega arith) (omega arith) (sym (c .before .in-class .ensures) ∙ not-true _ (c .if2 .taken)))
+    let r = c .before in
+    let a = start r .args in
+    let tried = sym (r .in-class .ensures) ∙ not-true _ (c .if2 .taken) in
+    sym (looped r .loop .inv .2 ∙ fits-stop (a .t .now) (a .w .now) (looped r .loop .i) (omega arith) (omega arith) tried)
 
 add-i : tie.Need-add-i Inv-loop μ-loop
 add-i c = search needs
@@ -47,18 +54,16 @@ loop-less c = search needs
 
 loop-again : tie.Need-loop-again Inv-loop μ-loop
 loop-again c =
-    let a = c .before .before .before .before .before .before .before .before .before .args in
-    let i = c .before .before .before .before .before .loop .i in (
-      omega arith,
-      omega arith,
-      c .before .before .before .before .before .loop .inv .2
-          ∙ fits-next (a .t .now) (a .w .now) i (omega arith) (omega arith) (sym (c .before .in-class .ensures) ∙ not-false _ (c .if2 .left)),
-    )
+    let r = c .before in
+    let a = start r .args in
+    let tried = sym (r .in-class .ensures) ∙ not-false _ (c .if2 .left) in
+    (omega arith, omega arith, looped r .loop .inv .2 ∙ fits-next (a .t .now) (a .w .now) (looped r .loop .i) (omega arith) (omega arith) tried)
 
 returns-3 : tie.Need-returns-3 Inv-loop μ-loop
 returns-3 c =
-    let a = c .before .before .before .before .before .args in
-    sym (c .before .loop .inv .2 ∙ fits-end (a .t .now) (a .w .now) (c .before .loop .i) (omega arith) (omega arith))
+    let l = c .before in
+    let a = l .before .before .before .before .args in
+    sym (l .loop .inv .2 ∙ fits-end (a .t .now) (a .w .now) (l .loop .i) (omega arith) (omega arith))
 
 pub fits-spec : {M : Type 1} → statement M
 fits-spec =

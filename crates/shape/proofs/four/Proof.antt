@@ -57,7 +57,12 @@ add-result-3 : tie.Need-add-result-3
 add-result-3 c = search needs
 
 returns : tie.Need-returns
-returns c = let a = c .before .before .before .before .before .before .before .before .before .args in let e = four-at (a .w .now) (a .i) (search needs) in (omega arith, search needs)
+returns c =
+    let r = c .before .before .before in
+    let q = r .before .before .before in
+    let a = q .before .before .before .args in
+    let e = four-at (a .w .now) (a .i) (search needs) in
+    (omega arith, search needs)
 
 pub four-spec : {M : Type 1} → statement M
 four-spec =

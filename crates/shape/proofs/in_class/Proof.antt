@@ -1,10 +1,36 @@
 -- `shape::in_class` meets its contract. Assumes nothing.
-use mathlib.Core.Path.{sym, _∙_}
+use mathlib.Core.Path.{_≡_, sym, _∙_}
+use mathlib.Core.List.{[], _∷_}
 use borrow.Author.Tests.{eq-eqb, ne-eqb}
-use Rattle.shape.specs.Shape.{letters}
+use Rattle.alphabet.specs.Alphabet.{oneOf}
+use Rattle.shape.specs.Shape.{letters, inClass}
 use borrow.Author.Needs.{needs}
 use Rattle.shape.proofs.in_class.Statement.{statement}
 use Rattle.shape.proofs.in_class.Tie as tie
+
+-- where t is no digit and none of the letters that stand for a few bytes each
+module _ (c : tie.Else7) where
+  abbrev past-k : tie.Else4
+  past-k = c .before .before .before
+
+  abbrev past-digit : tie.Else1
+  past-digit = past-k .before .before .before
+
+  abbrev start : tie.Start
+  start = past-digit .before .before
+
+  itself : inClass (start .args .t) (start .args .b) ≡ oneOf (start .args .b) (start .args .t ∷ [])
+  unfolding letters
+  itself =
+      rw (
+        sym (past-digit .before .is-digit .ensures) ∙ past-digit .if1 .left,
+        ne-eqb _ _ (past-k .before .before .if2 .left),
+        ne-eqb _ _ (past-k .before .if3 .left),
+        ne-eqb _ _ (past-k .if4 .left),
+        ne-eqb _ _ (c .before .before .if5 .left),
+        ne-eqb _ _ (c .before .if6 .left),
+        ne-eqb _ _ (c .if7 .left),
+      )
 
 is-digit-requires : tie.Need-is-digit-requires
 is-digit-requires c κs = search needs
@@ -13,7 +39,6 @@ is-digit-requires-2 : tie.Need-is-digit-requires-2
 is-digit-requires-2 c κs = search needs
 
 returns : tie.Need-returns
-unfolding letters
 returns c = rw (sym (c .before .before .is-digit .ensures) ∙ c .before .if1 .taken) (c .is-digit2 .ensures)
 
 slice-aggregate-one-of : tie.Need-slice-aggregate-one-of
@@ -24,7 +49,7 @@ one-of-requires c κs = search needs
 
 returns-2 : tie.Need-returns-2
 unfolding letters
-returns-2 c = rw (sym (c .before .before .before .before .is-digit .ensures) ∙ c .before .before .before .if1 .left, eq-eqb _ _ (c .before .before .if2 .taken)) (c .one-of .ensures)
+returns-2 c = rw (c .before .before .if2 .taken) (c .one-of .ensures)
 
 slice-aggregate-one-of-2 : tie.Need-slice-aggregate-one-of-2
 slice-aggregate-one-of-2 c = search needs
@@ -34,7 +59,7 @@ one-of-requires-2 c κs = search needs
 
 returns-3 : tie.Need-returns-3
 unfolding letters
-returns-3 c = rw (sym (c .before .before .before .before .before .is-digit .ensures) ∙ c .before .before .before .before .if1 .left, ne-eqb _ _ (c .before .before .before .if2 .left), eq-eqb _ _ (c .before .before .if3 .taken)) (c .one-of2 .ensures)
+returns-3 c = rw (c .before .before .if3 .taken) (c .one-of2 .ensures)
 
 slice-aggregate-one-of-3 : tie.Need-slice-aggregate-one-of-3
 slice-aggregate-one-of-3 c = search needs
@@ -44,7 +69,7 @@ one-of-requires-3 c κs = search needs
 
 returns-4 : tie.Need-returns-4
 unfolding letters
-returns-4 c = rw (sym (c .before .before .before .before .before .before .is-digit .ensures) ∙ c .before .before .before .before .before .if1 .left, ne-eqb _ _ (c .before .before .before .before .if2 .left), ne-eqb _ _ (c .before .before .before .if3 .left), eq-eqb _ _ (c .before .before .if4 .taken)) (c .one-of3 .ensures)
+returns-4 c = rw (c .before .before .if4 .taken) (c .one-of3 .ensures)
 
 slice-aggregate-one-of-4 : tie.Need-slice-aggregate-one-of-4
 slice-aggregate-one-of-4 c = search needs
@@ -54,7 +79,7 @@ one-of-requires-4 c κs = search needs
 
 returns-5 : tie.Need-returns-5
 unfolding letters
-returns-5 c = rw (sym (c .before .before .before .before .before .before .before .is-digit .ensures) ∙ c .before .before .before .before .before .before .if1 .left, ne-eqb _ _ (c .before .before .before .before .before .if2 .left), ne-eqb _ _ (c .before .before .before .before .if3 .left), ne-eqb _ _ (c .before .before .before .if4 .left), eq-eqb _ _ (c .before .before .if5 .taken)) (c .one-of4 .ensures)
+returns-5 c = rw (c .before .before .if5 .taken) (c .one-of4 .ensures)
 
 slice-aggregate-one-of-5 : tie.Need-slice-aggregate-one-of-5
 slice-aggregate-one-of-5 c = search needs
@@ -64,7 +89,7 @@ one-of-requires-5 c κs = search needs
 
 returns-6 : tie.Need-returns-6
 unfolding letters
-returns-6 c = rw (sym (c .before .before .before .before .before .before .before .before .is-digit .ensures) ∙ c .before .before .before .before .before .before .before .if1 .left, ne-eqb _ _ (c .before .before .before .before .before .before .if2 .left), ne-eqb _ _ (c .before .before .before .before .before .if3 .left), ne-eqb _ _ (c .before .before .before .before .if4 .left), ne-eqb _ _ (c .before .before .before .if5 .left), eq-eqb _ _ (c .before .before .if6 .taken)) (c .one-of5 .ensures)
+returns-6 c = rw (c .before .before .if6 .taken) (c .one-of5 .ensures)
 
 slice-aggregate-one-of-6 : tie.Need-slice-aggregate-one-of-6
 slice-aggregate-one-of-6 c = search needs
@@ -74,15 +99,13 @@ one-of-requires-6 c κs = search needs
 
 returns-7 : tie.Need-returns-7
 unfolding letters
-returns-7 c = rw (sym (c .before .before .before .before .before .before .before .before .before .is-digit .ensures) ∙ c .before .before .before .before .before .before .before .before .if1 .left, ne-eqb _ _ (c .before .before .before .before .before .before .before .if2 .left), ne-eqb _ _ (c .before .before .before .before .before .before .if3 .left), ne-eqb _ _ (c .before .before .before .before .before .if4 .left), ne-eqb _ _ (c .before .before .before .before .if5 .left), ne-eqb _ _ (c .before .before .before .if6 .left), eq-eqb _ _ (c .before .before .if7 .taken)) (c .one-of6 .ensures)
+returns-7 c = rw (c .before .before .if7 .taken) (c .one-of6 .ensures)
 
 returns-8 : tie.Need-returns-8
-unfolding letters
-returns-8 c = rw (sym (c .before .before .before .before .before .before .before .before .is-digit .ensures) ∙ c .before .before .before .before .before .before .before .if1 .left, ne-eqb _ _ (c .before .before .before .before .before .before .if2 .left), ne-eqb _ _ (c .before .before .before .before .before .if3 .left), ne-eqb _ _ (c .before .before .before .before .if4 .left), ne-eqb _ _ (c .before .before .before .if5 .left), ne-eqb _ _ (c .before .before .if6 .left), ne-eqb _ _ (c .before .if7 .left), eq-eqb _ _ (c .if8 .taken))
+returns-8 c = rw (itself (c .before), eq-eqb _ _ (c .if8 .taken))
 
 returns-9 : tie.Need-returns-9
-unfolding letters
-returns-9 c = rw (sym (c .before .before .before .before .before .before .before .before .is-digit .ensures) ∙ c .before .before .before .before .before .before .before .if1 .left, ne-eqb _ _ (c .before .before .before .before .before .before .if2 .left), ne-eqb _ _ (c .before .before .before .before .before .if3 .left), ne-eqb _ _ (c .before .before .before .before .if4 .left), ne-eqb _ _ (c .before .before .before .if5 .left), ne-eqb _ _ (c .before .before .if6 .left), ne-eqb _ _ (c .before .if7 .left), ne-eqb _ _ (c .if8 .left))
+returns-9 c = rw (itself (c .before), ne-eqb _ _ (c .if8 .left))
 
 pub in-class-spec : {M : Type 1} → statement M
 in-class-spec =

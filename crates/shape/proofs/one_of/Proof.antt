@@ -21,7 +21,10 @@ shared-slice-read-if1 : tie.Need-shared-slice-read-if1 Inv-loop μ-loop
 shared-slice-read-if1 c = search needs
 
 returns : tie.Need-returns Inv-loop μ-loop
-returns c = let a = c .before .before .before .before .args in sym (c .before .before .before .loop .inv .1 ∙ one-found (a .b) (a .set .now) (c .before .before .before .loop .i) (c .before .before .loop-test .taken) (c .if1 .taken))
+returns c =
+    let l = c .before .before .before in
+    let a = l .before .args in
+    sym (l .loop .inv .1 ∙ one-found (a .b) (a .set .now) (l .loop .i) (c .before .before .loop-test .taken) (c .if1 .taken))
 
 add-i : tie.Need-add-i Inv-loop μ-loop
 add-i c = search needs
@@ -30,10 +33,16 @@ loop-less : tie.Need-loop-less Inv-loop μ-loop
 loop-less c = search needs
 
 loop-again : tie.Need-loop-again Inv-loop μ-loop
-loop-again c = let a = c .before .before .before .before .args in (search needs, c .before .before .before .loop .inv .1 ∙ one-next (a .b) (a .set .now) (c .before .before .before .loop .i) (c .before .before .loop-test .taken) (c .if1 .left))
+loop-again c =
+    let l = c .before .before .before in
+    let a = l .before .args in
+    (search needs, l .loop .inv .1 ∙ one-next (a .b) (a .set .now) (l .loop .i) (c .before .before .loop-test .taken) (c .if1 .left))
 
 returns-2 : tie.Need-returns-2 Inv-loop μ-loop
-returns-2 c = let a = c .before .before .args in sym (c .before .loop .inv .1 ∙ one-end (a .b) (a .set .now) (c .before .loop .i) (c .loop-test .left))
+returns-2 c =
+    let l = c .before in
+    let a = l .before .args in
+    sym (l .loop .inv .1 ∙ one-end (a .b) (a .set .now) (l .loop .i) (c .loop-test .left))
 
 pub one-of-spec : {M : Type 1} → statement M
 one-of-spec =

@@ -42,7 +42,11 @@ add-result-2 : tie.Need-add-result-2
 add-result-2 c = search needs
 
 returns : tie.Need-returns
-returns c = let a = c .before .before .before .before .before .before .before .args in let e = three-at (a .w .now) (a .i) (search needs) in (omega arith, search needs)
+returns c =
+    let r = c .before .before .before .before in
+    let a = r .before .before .before .args in
+    let e = three-at (a .w .now) (a .i) (search needs) in
+    (omega arith, search needs)
 
 pub three-spec : {M : Type 1} → statement M
 three-spec =

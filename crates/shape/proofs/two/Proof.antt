@@ -27,7 +27,11 @@ add-result : tie.Need-add-result
 add-result c = search needs
 
 returns : tie.Need-returns
-returns c = let a = c .before .before .before .before .before .args in let e = two-at (a .w .now) (a .i) (search needs) in (omega arith, search needs)
+returns c =
+    let r = c .before .before .before in
+    let a = r .before .before .args in
+    let e = two-at (a .w .now) (a .i) (search needs) in
+    (omega arith, search needs)
 
 pub two-spec : {M : Type 1} → statement M
 two-spec =
