@@ -98,7 +98,8 @@ module _ (ed : Edition) where
       here : i ≡ j → under (i .key) (j ∷ is) ≡ join 32 (i .first ∷ i .more)
       here q = rw (q, same-self (j .key))
 
-      later : rankIn ed (j .key) < rankIn ed (i .key) → under (i .key) is ≡ join 32 (i .first ∷ i .more) → under (i .key) (j ∷ is) ≡ join 32 (i .first ∷ i .more)
+      later : rankIn ed (j .key) < rankIn ed (i .key)
+          → under (i .key) is ≡ join 32 (i .first ∷ i .more) → under (i .key) (j ∷ is) ≡ join 32 (i .first ∷ i .more)
       later h ih = rw (same-other (j .key) (i .key) (λ q. omega (arith, ap (rankIn ed) q))) ih
 
 -- OF A CONTENT THAT FITS: an item's words stand under its key

@@ -16,7 +16,8 @@ use Rattle.text.proofs.Tidy.{word-free, sign-tidy, text-tidy, text-word-free, t
 use Rattle.shape.specs.Field.{Laws}
 use Rattle.shape.proofs.Fields.{plain}
 use Rattle.other.specs.Rules.{Edition, base, rankIn, ruleIn, wordFits, moreFits}
-use Rattle.other.specs.Field18.{Item, Field18, nothing, items, spelt, spell18, Groups, put, group, itemsFit, valid18, fitFrom, fitsIn, record18, field18In, field18}
+use Rattle.other.specs.Field18.{Item, Field18, nothing, items, spelt, spell18, Groups, put, group, itemsFit, valid18}
+use Rattle.other.specs.Field18.{fitFrom, fitsIn, record18, field18In, field18}
 use Rattle.other.proofs.Texts.{word-text, more-text}
 
 -- WORDS INTO ITEMS AND BACK
@@ -131,7 +132,9 @@ module _ (ed : Edition) (named : all (all sign) (ed .keys) ≡ true) where
   -- a record of items, and valid
   module _ (i : Item) (is : List Item) (e : itemsFit ed 0 (i ∷ is) ≡ true) where
     spelt-words : split 32 (join 32 (spelt (i ∷ is))) ≡ spelt (i ∷ is)
-    spelt-words = split-join 32 (i .key ++ (47 ∷ i .first)) (i .more ++ spelt is) (all-imp tidyWord (free 32) word-free (spelt (i ∷ is)) (spelt-tidy 0 (i ∷ is) e))
+    spelt-words =
+        split-join 32 (i .key ++ (47 ∷ i .first)) (i .more ++ spelt is)
+        (all-imp tidyWord (free 32) word-free (spelt (i ∷ is)) (spelt-tidy 0 (i ∷ is) e))
 
     spelt-groups : group (split 32 (join 32 (spelt (i ∷ is)))) ≡ record { loose = []; grouped = i ∷ is }
     spelt-groups = ap group spelt-words ∙ group-spelt 0 (i ∷ is) e
@@ -143,7 +146,8 @@ module _ (ed : Edition) (named : all (all sign) (ed .keys) ≡ true) where
   unfolding fitsIn record18
   spelled s e = go (same s (bytes "0")) refl e
     where
-      go : (b : Bool) → same s (bytes "0") ≡ b → cond b true (fitFrom ed 0 (split 32 s)) ≡ true → spell18 (cond b nothing (items (group (split 32 s) .grouped))) ≡ s
+      go : (b : Bool) → same s (bytes "0") ≡ b → cond b true (fitFrom ed 0 (split 32 s)) ≡ true
+          → spell18 (cond b nothing (items (group (split 32 s) .grouped))) ≡ s
       go true p q = sym (same-eq s (bytes "0") p)
       go false p q = grouped-spelled s q
 

@@ -10,22 +10,20 @@ use lib.Seq.{drop-drop, length-take-le, take-add}
 use borrow.Author.Tests.{eqb-true, ne-eqb, lt-ltb, le-ltb}
 use Rattle.text.specs.Words.{Word, split, join, after, upTo, holds, before, behind, same}
 use Rattle.text.proofs.Index.{split-at, upTo-le, after-here, after-end, split-cut}
-use Rattle.other.specs.Field18.{group, fromKey, under, wordsFrom, hasKey, wordsOf, Found}
+use Rattle.other.specs.Field18.{Item, group, fromKey, under, wordsFrom, hasKey, wordsOf, Found}
 
 -- THE FIRST ITEM OF A KEY
 
-from-step : (key w : Word) (ws : List Word)
-    → fromKey key (group (w ∷ ws) .grouped)
-    ≡ cond (holds 47 w)
-    (cond (same (before 47 w) key) (record { key = before 47 w; first = behind 47 w; more = group ws .loose } ∷ group ws .grouped) (fromKey key (group ws .grouped)))
-    (fromKey key (group ws .grouped))
+-- the items from the key's on, where b says whether the first word begins an item
+abbrev from-word : Bool → Word → Word → List Word → List Item
+from-word b key w ws =
+    let item : Item = record { key = before 47 w; first = behind 47 w; more = group ws .loose } in
+    cond b (cond (same (item .key) key) (item ∷ group ws .grouped) (fromKey key (group ws .grouped))) (fromKey key (group ws .grouped))
+
+from-step : (key w : Word) (ws : List Word) → fromKey key (group (w ∷ ws) .grouped) ≡ from-word (holds 47 w) key w ws
 from-step key w ws = go (holds 47 w) refl
   where
-    go : (b : Bool) → holds 47 w ≡ b
-        → fromKey key (group (w ∷ ws) .grouped)
-        ≡ cond b
-        (cond (same (before 47 w) key) (record { key = before 47 w; first = behind 47 w; more = group ws .loose } ∷ group ws .grouped) (fromKey key (group ws .grouped)))
-        (fromKey key (group ws .grouped))
+    go : (b : Bool) → holds 47 w ≡ b → fromKey key (group (w ∷ ws) .grouped) ≡ from-word b key w ws
     go true e = rw e
     go false e = rw e
 
@@ -89,7 +87,8 @@ module _ (key s : List ℕ) (at e : ℕ) (end : e ≡ at + upTo 32 (drop at s)) 
         q,
       )
 
-  pub from-plain : length (take (e - at) (drop at s)) ≤ o → fromKey key (group (split 32 (drop at s)) .grouped) ≡ fromKey key (group (after 32 (drop e s)) .grouped)
+  pub from-plain : length (take (e - at) (drop at s)) ≤ o
+      → fromKey key (group (split 32 (drop at s)) .grouped) ≡ fromKey key (group (after 32 (drop e s)) .grouped)
   from-plain h =
       rw (
         split-at 32 s at e end,
@@ -150,7 +149,8 @@ module _ (s : List ℕ) (e next : ℕ) (h : e < length s) (end : next ≡ e + 1 
   pub end-item : o < length (take (next - (e + 1)) (drop (e + 1) s)) → further (drop e s) ≡ []
   end-item l = rw (after-here 32 s e h, split-at 32 s (e + 1) next end, ← cut‴, lt-ltb o (length (take (next - (e + 1)) (drop (e + 1) s))) l)
 
-  further-word : length (take (next - (e + 1)) (drop (e + 1) s)) ≤ o → further (drop e s) ≡ 32 ∷ (take (next - (e + 1)) (drop (e + 1) s) ++ further (drop next s))
+  further-word : length (take (next - (e + 1)) (drop (e + 1) s)) ≤ o
+      → further (drop e s) ≡ 32 ∷ (take (next - (e + 1)) (drop (e + 1) s) ++ further (drop next s))
   further-word l = rw (after-here 32 s e h, split-at 32 s (e + 1) next end, ← cut‴, le-ltb o (length (take (next - (e + 1)) (drop (e + 1) s))) l)
 
   pub end-word : (at : ℕ) → at ≤ e → drop e s ≡ 32 ∷ drop (e + 1) s → length (take (next - (e + 1)) (drop (e + 1) s)) ≤ o

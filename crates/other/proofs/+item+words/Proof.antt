@@ -11,7 +11,6 @@ use Rattle.other.specs.Rules.{Edition, edition, ruleIn, wordFits, moreFi
 use Rattle.other.specs.Field18.{fitFrom, fitMore}
 use Rattle.other.proofs.Index.{item-plain, item-here, words-item, words-word}
 use borrow.Author.Needs.{needs}
-use native.Mathlib.Omega.{arith}
 use Prim.Native.Nat.{ℕ, _+_, _-_, _<_, _≤_}
 use lib.ListN.{length, take, drop}
 use borrow.Fn.Kinds.{In}
@@ -85,58 +84,79 @@ words-μ keys rules s end k e₀ e = length s - e
 
 -- what the definition says where `item` has found the key, and where `words` has read a word
 module _ (t : ℕ) (c : item-lts.After-rank-in-cells (item-calls t) (item-given t) item.Post) where
-  abbrev item-args : item-lts.Args (item-calls t) (item-given t) item.Post (c .before .before .before .before .before .before .before .before .before .κs)
-  item-args = c .before .before .before .before .before .before .before .before .before .args
+  abbrev item-sought : item-lts.After-find2 (item-calls t) (item-given t) item.Post
+  item-sought = c .before .before .before
+
+  abbrev item-ended : item-lts.After-find (item-calls t) (item-given t) item.Post
+  item-ended = item-sought .before .before
+
+  abbrev item-start : item-lts.Start (item-calls t) (item-given t) item.Post
+  item-start = item-ended .before .before .before .before
+
+  abbrev item-content : List ℕ
+  item-content = item-start .args .s .now
 
   abbrev item-edition : Edition
-  item-edition = edition (cells 4 (item-args .keys .now)) (item-args .rules .now)
+  item-edition = edition (cells 4 (item-start .args .keys .now)) (item-start .args .rules .now)
 
   abbrev item-end : ℕ
-  item-end = c .before .before .before .before .before .find .result
+  item-end = item-ended .find .result
 
   abbrev item-cut : ℕ
-  item-cut = c .before .before .before .find2 .result
+  item-cut = item-sought .find2 .result
+
+  abbrev item-rank : ℕ
+  item-rank = c .rank-in-cells .result
 
   abbrev item-word : List ℕ
-  item-word = take (item-end - item-args .at) (drop (item-args .at) (item-args .s .now))
+  item-word = take (item-end - item-start .args .at) (drop (item-start .args .at) item-content)
 
-  item-known : fitFrom item-edition (item-args .last) (split 32 (drop (item-args .at) (item-args .s .now)))
-      ≡ (ltb (item-args .last) (c .rank-in-cells .result)
-      && (wordFits (ruleIn item-edition (c .rank-in-cells .result)) (drop (item-cut + 1) item-word)
-      && fitMore item-edition (c .rank-in-cells .result) (after 32 (drop item-end (item-args .s .now)))))
+  item-known : fitFrom item-edition (item-start .args .last) (split 32 (drop (item-start .args .at) item-content))
+      ≡ (ltb (item-start .args .last) item-rank
+      && (wordFits (ruleIn item-edition item-rank) (drop (item-cut + 1) item-word)
+      && fitMore item-edition item-rank (after 32 (drop item-end item-content))))
   item-known =
-      let f = c .before .before .before .before .before .find in
-      let g = c .before .before .before .find2 in
-      item-here (item-args .s .now) (item-args .at) item-end (f .ensures .0) item-cut (g .ensures .0) item-edition (item-args .last) (c .rank-in-cells .result)
-      (c .before .before .if1 .left) (g .ensures .1 .1) (c .rank-in-cells .ensures)
+      let g = item-sought .find2 in
+      item-here item-content (item-start .args .at) item-end (item-ended .find .ensures .0) item-cut (g .ensures .0) item-edition (item-start .args .last)
+      item-rank (c .before .before .if1 .left) (g .ensures .1 .1) (c .rank-in-cells .ensures)
 
-module _ (t : ℕ) (c : words-lts.Else1 (words-calls t) (words-given t) words.Post words-Inv words-μ) where
-  abbrev words-args : words-lts.Args (words-calls t) (words-given t) words.Post words-Inv words-μ (c .before .before .before .before .before .before .before .before .before .κs)
-  words-args = c .before .before .before .before .before .before .before .before .before .args
+module _ (t : ℕ) (c : words-lts.After-find2 (words-calls t) (words-given t) words.Post words-Inv words-μ) where
+  abbrev words-ended : words-lts.After-find (words-calls t) (words-given t) words.Post words-Inv words-μ
+  words-ended = c .before .before
+
+  abbrev words-looped : words-lts.At-loop (words-calls t) (words-given t) words.Post words-Inv words-μ
+  words-looped = words-ended .before .before
+
+  abbrev words-start : words-lts.Start (words-calls t) (words-given t) words.Post words-Inv words-μ
+  words-start = words-looped .before .before .before .before
+
+  abbrev words-content : List ℕ
+  words-content = words-start .args .s .now
 
   abbrev words-edition : Edition
-  words-edition = edition (cells 4 (words-args .keys .now)) (words-args .rules .now)
+  words-edition = edition (cells 4 (words-start .args .keys .now)) (words-start .args .rules .now)
 
   abbrev words-at : ℕ
-  words-at = c .before .before .before .before .before .loop .e + 1
+  words-at = words-looped .loop .e + 1
 
   abbrev words-end : ℕ
-  words-end = c .before .before .before .find .result
+  words-end = words-ended .find .result
 
-  abbrev words-word-read : List ℕ
-  words-word-read = take (words-end - words-at) (drop words-at (words-args .s .now))
+  -- the words behind the place reached decide
+  words-reached : fitMore words-edition (words-start .args .k) (after 32 (drop (words-start .args .end) words-content))
+      ≡ fitMore words-edition (words-start .args .k) (split 32 (drop words-at words-content))
+  words-reached =
+      let l = words-looped .loop in
+      l .inv .2 ∙ ap (fitMore words-edition (words-start .args .k)) (after-here 32 words-content (l .e) (words-ended .before .loop-test .taken))
 
-  words-known : fitMore words-edition (words-args .k) (after 32 (drop (words-args .end) (words-args .s .now)))
-      ≡ (moreFits (ruleIn words-edition (words-args .k)) words-word-read
-      && fitMore words-edition (words-args .k) (after 32 (drop words-end (words-args .s .now))))
-  words-known =
-      let s = words-args .s .now in
-      let l = c .before .before .before .before .before .loop in
-      let g = c .before .find2 in
-      l .inv .2
-      ∙ ap (fitMore words-edition (words-args .k)) (after-here 32 s (l .e) (c .before .before .before .before .loop-test .taken))
-      ∙ words-word s words-at words-end (c .before .before .before .find .ensures .0) (g .result) (g .ensures .0) words-edition (words-args .k)
-      (c .if1 .left)
+  words-known : length (take (words-end - words-at) (drop words-at words-content)) ≤ c .find2 .result
+      → fitMore words-edition (words-start .args .k) (after 32 (drop (words-start .args .end) words-content))
+      ≡ (moreFits (ruleIn words-edition (words-start .args .k)) (take (words-end - words-at) (drop words-at words-content))
+      && fitMore words-edition (words-start .args .k) (after 32 (drop words-end words-content)))
+  words-known h =
+      let g = c .find2 in
+      words-reached
+      ∙ words-word words-content words-at words-end (words-ended .find .ensures .0) (g .result) (g .ensures .0) words-edition (words-start .args .k) h
 
 item-find-requires : (t : ℕ) → item-lts.Need-find-requires (item-calls t) (item-given t) item.Post
 item-find-requires t c κs = search needs
@@ -155,11 +175,11 @@ item-find-requires-2 t c κs = search needs
 
 item-returns : (t : ℕ) → item-lts.Need-returns (item-calls t) (item-given t) item.Post
 item-returns t c =
-    let a = c .before .before .before .before .before .before .before .args in
-    let f = c .before .before .before .find in
+    let f = c .before .before .before in
     let g = c .before .find2 in
+    let a = f .before .before .before .before .args in
     let ed = edition (cells 4 (a .keys .now)) (a .rules .now) in
-    sym (item-plain (a .s .now) (a .at) (f .result) (f .ensures .0) (g .result) (g .ensures .0) ed (a .last) (c .if1 .taken))
+    sym (item-plain (a .s .now) (a .at) (f .find .result) (f .find .ensures .0) (g .result) (g .ensures .0) ed (a .last) (c .if1 .taken))
 
 item-slice-aggregate-rank-in-cells : (t : ℕ) → item-lts.Need-slice-aggregate-rank-in-cells (item-calls t) (item-given t) item.Post
 item-slice-aggregate-rank-in-cells t c = sym (length-take-le _ _ (c .before .before .find2 .ensures .1 .1))
@@ -190,25 +210,24 @@ item-word-fits-requires t c κs = search needs
 
 item-returns-3 : (t : ℕ) → item-lts.Need-returns-3 (item-calls t) (item-given t) item.Post
 item-returns-3 t c =
-    let w = item-word t (c .before .before .before .before .before) in
-    let i = item-cut t (c .before .before .before .before .before) + 1 in
-    let r = c .before .before .before .rule-at in
-    let e : wordFits (r .result) (drop i w) ≡ false
-    = ap (wordFits (r .result)) (sym (rest w i)) ∙ sym (c .before .word-fits .ensures) ∙ not-true _ (c .if3 .taken) in
-    rw (item-known t (c .before .before .before .before .before), lt-ltb _ _ (c .before .before .before .before .if2 .left), ← r .ensures, e)
+    let r = c .before .before .before in
+    let k = r .before .before in
+    let i = item-cut t k + 1 in
+    let e : wordFits (r .rule-at .result) (drop i (item-word t k)) ≡ false
+    = ap (wordFits (r .rule-at .result)) (sym (rest (item-word t k) i)) ∙ sym (c .before .word-fits .ensures) ∙ not-true _ (c .if3 .taken) in
+    rw (item-known t k, lt-ltb _ _ (r .before .if2 .left), ← r .rule-at .ensures, e)
 
 item-words-requires : (t : ℕ) → item-lts.Need-words-requires (item-calls t) (item-given t) item.Post
 item-words-requires t c κs = search needs
 
 item-returns-4 : (t : ℕ) → item-lts.Need-returns-4 (item-calls t) (item-given t) item.Post
 item-returns-4 t c =
-    let w = item-word t (c .before .before .before .before .before .before) in
-    let i = item-cut t (c .before .before .before .before .before .before) + 1 in
-    let r = c .before .before .before .before .rule-at in
-    let e : wordFits (r .result) (drop i w) ≡ true
-    = ap (wordFits (r .result)) (sym (rest w i)) ∙ sym (c .before .before .word-fits .ensures) ∙ not-false _ (c .before .if3 .left) in
-    rw (item-known t (c .before .before .before .before .before .before), lt-ltb _ _ (c .before .before .before .before .before .if2 .left), ← r .ensures, e, r .ensures)
-    (c .words .ensures)
+    let r = c .before .before .before .before in
+    let k = r .before .before in
+    let i = item-cut t k + 1 in
+    let e : wordFits (r .rule-at .result) (drop i (item-word t k)) ≡ true
+    = ap (wordFits (r .rule-at .result)) (sym (rest (item-word t k) i)) ∙ sym (c .before .before .word-fits .ensures) ∙ not-false _ (c .before .if3 .left) in
+    rw (item-known t k, lt-ltb _ _ (r .before .if2 .left), ← r .rule-at .ensures, e, r .rule-at .ensures) (c .words .ensures)
 
 words-loop-holds : (t : ℕ) → words-lts.Need-loop-holds (words-calls t) (words-given t) words.Post words-Inv words-μ
 words-loop-holds t c = (search needs, search needs, refl)
@@ -236,15 +255,13 @@ words-item-requires t c κs = search needs
 
 words-returns : (t : ℕ) → words-lts.Need-returns (words-calls t) (words-given t) words.Post words-Inv words-μ
 words-returns t c =
-    let a = c .before .before .before .before .before .before .before .before .before .before .args in
-    let l = c .before .before .before .before .before .before .loop in
-    let f = c .before .before .before .before .find in
-    let g = c .before .before .find2 in
-    let ed = edition (cells 4 (a .keys .now)) (a .rules .now) in
+    let r = c .before .before in
+    let f = words-ended t r .find in
+    let g = r .find2 in
+    let h = c .before .if1 .taken in
     rw (
-      l .inv .2,
-      after-here 32 (a .s .now) (l .e) (c .before .before .before .before .before .loop-test .taken),
-      words-item (a .s .now) (l .e + 1) (f .result) (f .ensures .0) (g .result) (g .ensures .0) ed (a .k) (c .before .if1 .taken),
+      words-reached t r,
+      words-item (words-content t r) (words-at t r) (f .result) (f .ensures .0) (g .result) (g .ensures .0) (words-edition t r) (words-start t r .args .k) h,
     ) (c .item .ensures)
 
 words-rule-at-requires : (t : ℕ) → words-lts.Need-rule-at-requires (words-calls t) (words-given t) words.Post words-Inv words-μ
@@ -255,23 +272,25 @@ words-more-fits-requires t c κs = search needs
 
 words-returns-2 : (t : ℕ) → words-lts.Need-returns-2 (words-calls t) (words-given t) words.Post words-Inv words-μ
 words-returns-2 t c =
+    let r = c .before .before in
     let e = sym (c .before .more-fits .ensures) ∙ not-true _ (c .if2 .taken) in
-    rw (words-known t (c .before .before .before), ← c .before .before .rule-at .ensures, e)
+    rw (words-known t (r .before .before) (r .before .if1 .left), ← r .rule-at .ensures, e)
 
 words-loop-less : (t : ℕ) → words-lts.Need-loop-less (words-calls t) (words-given t) words.Post words-Inv words-μ
 words-loop-less t c = search needs
 
 words-loop-again : (t : ℕ) → words-lts.Need-loop-again (words-calls t) (words-given t) words.Post words-Inv words-μ
 words-loop-again t c =
+    let r = c .before .before in
     let e = sym (c .before .more-fits .ensures) ∙ not-false _ (c .if2 .left) in
-    let r = c .before .before .rule-at in
-    (search needs, search needs, rw (words-known t (c .before .before .before), ← r .ensures, e, r .ensures))
+    (search needs, search needs, rw (words-known t (r .before .before) (r .before .if1 .left), ← r .rule-at .ensures, e, r .rule-at .ensures))
 
 words-returns-3 : (t : ℕ) → words-lts.Need-returns-3 (words-calls t) (words-given t) words.Post words-Inv words-μ
 words-returns-3 t c =
-    let a = c .before .before .before .before .before .args in
-    let l = c .before .loop in
-    sym (l .inv .2 ∙ ap (fitMore (edition (cells 4 (a .keys .now)) (a .rules .now)) (a .k)) (after-end 32 (a .s .now) (l .e) (c .loop-test .left)))
+    let l = c .before in
+    let a = l .before .before .before .before .args in
+    let none = after-end 32 (a .s .now) (l .loop .e) (c .loop-test .left) in
+    sym (l .loop .inv .2 ∙ ap (fitMore (edition (cells 4 (a .keys .now)) (a .rules .now)) (a .k)) none)
 
 pub +item+words-spec : {M : Type 1} → statement M
 +item+words-spec = close μ-item μ-words (λ t. item-lts.spec (item-calls t)

@@ -16,6 +16,14 @@ Inv-loop w set i₀ i = (i ≤ length w) × (all (λ b. oneOf b set) w ≡ all (
 abbrev μ-loop : tie.MeasureT-loop
 μ-loop w set i₀ i = length w - i
 
+-- where a byte was tried
+module _ (c : tie.After-one-of Inv-loop μ-loop) where
+  abbrev looped : tie.At-loop Inv-loop μ-loop
+  looped = c .before .before .before
+
+  abbrev start : tie.Start Inv-loop μ-loop
+  start = looped .before .before .before
+
 loop-holds : tie.Need-loop-holds Inv-loop μ-loop
 loop-holds c = (search needs, refl)
 
@@ -27,10 +35,10 @@ one-of-requires c κs = search needs
 
 returns : tie.Need-returns Inv-loop μ-loop
 returns c =
-    let a = c .before .before .before .before .before .before .before .args in
-    let l = c .before .before .before .before .loop in
-    let e = sym (c .before .one-of .ensures) ∙ not-true _ (c .if1 .taken) in
-    sym (l .inv .1 ∙ all-stop (λ b. oneOf b (a .set .now)) (a .w .now) (l .i) (c .before .before .before .loop-test .taken) e)
+    let r = c .before in
+    let a = start r .args in
+    let e = sym (r .one-of .ensures) ∙ not-true _ (c .if1 .taken) in
+    sym (looped r .loop .inv .1 ∙ all-stop (λ b. oneOf b (a .set .now)) (a .w .now) (looped r .loop .i) (r .before .before .loop-test .taken) e)
 
 add-i : tie.Need-add-i Inv-loop μ-loop
 add-i c = search needs
@@ -40,10 +48,10 @@ loop-less c = search needs
 
 loop-again : tie.Need-loop-again Inv-loop μ-loop
 loop-again c =
-    let a = c .before .before .before .before .before .before .before .args in
-    let l = c .before .before .before .before .loop in
-    let e = sym (c .before .one-of .ensures) ∙ not-false _ (c .if1 .left) in
-    (search needs, l .inv .1 ∙ all-next (λ b. oneOf b (a .set .now)) (a .w .now) (l .i) (c .before .before .before .loop-test .taken) e)
+    let r = c .before in
+    let a = start r .args in
+    let e = sym (r .one-of .ensures) ∙ not-false _ (c .if1 .left) in
+    (search needs, looped r .loop .inv .1 ∙ all-next (λ b. oneOf b (a .set .now)) (a .w .now) (looped r .loop .i) (r .before .before .loop-test .taken) e)
 
 returns-2 : tie.Need-returns-2 Inv-loop μ-loop
 returns-2 c =

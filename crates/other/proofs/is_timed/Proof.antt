@@ -43,9 +43,11 @@ fits-requires c κs = search needs
 returns-4 : tie.Need-returns-4
 unfolding timed
 returns-4 c =
-    let e = sym (c .before .before .before .all-of .ensures) ∙ not-false _ (c .before .before .if3 .left) in
-    rw (le-leb _ _ (c .before .before .before .before .before .if1 .left), le-leb _ _ (c .before .before .before .before .if2 .left), e)
-    (c .fits2 .ensures ∙ ap elapsedFits (rest (c .before .before .before .before .before .before .before .args .w .now) _))
+    let l = c .before .before in
+    let f = l .before .before .before in
+    let e = sym (l .before .all-of .ensures) ∙ not-false _ (l .if3 .left) in
+    rw (le-leb _ _ (f .if1 .left), le-leb _ _ (l .before .before .if2 .left), e)
+    (c .fits2 .ensures ∙ ap elapsedFits (rest (f .before .before .args .w .now) _))
 
 pub is-timed-spec : {M : Type 1} → statement M
 is-timed-spec =

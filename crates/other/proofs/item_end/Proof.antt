@@ -18,15 +18,25 @@ Inv-loop s at e₀ e =
 abbrev μ-loop : tie.MeasureT-loop
 μ-loop s at e₀ e = length s - e
 
+-- where the next word's oblique was looked for
+module _ (c : tie.After-find3 Inv-loop μ-loop) where
+  abbrev ended : tie.After-find2 Inv-loop μ-loop
+  ended = c .before .before
+
+  abbrev looped : tie.At-loop Inv-loop μ-loop
+  looped = ended .before .before
+
+  abbrev start : tie.Start Inv-loop μ-loop
+  start = looped .before .before .before
+
 find-requires : tie.Need-find-requires Inv-loop μ-loop
 find-requires c κs = search needs
 
 loop-holds : tie.Need-loop-holds Inv-loop μ-loop
 loop-holds c =
-    let s = c .before .before .args .s .now in
-    let at = c .before .before .args .at in
+    let a = c .before .before .args in
     let f = c .find in
-    (search needs, search needs, space-at s at (f .result) (f .ensures .0), end-first s at (f .result) (f .ensures .0))
+    (search needs, search needs, space-at (a .s .now) (a .at) (f .result) (f .ensures .0), end-first (a .s .now) (a .at) (f .result) (f .ensures .0))
 
 add-find : tie.Need-add-find Inv-loop μ-loop
 add-find c = search needs
@@ -51,12 +61,12 @@ find-requires-3 c κs = search needs
 
 returns : tie.Need-returns Inv-loop μ-loop
 returns c =
-    let s = c .before .before .before .before .before .before .before .before .args .s .now in
-    let at = c .before .before .before .before .before .before .before .before .args .at in
-    let l = c .before .before .before .before .before .loop in
-    let f = c .before .before .before .find2 in
-    let g = c .before .find3 in
-    let none = end-item s (l .e) (f .result) (c .before .before .before .before .loop-test .taken) (f .ensures .0) (g .result) (g .ensures .0) (c .if1 .taken) in
+    let r = c .before in
+    let s = start r .args .s .now in
+    let at = start r .args .at in
+    let l = looped r .loop in
+    let f = ended r .find2 in
+    let none = end-item s (l .e) (f .result) (ended r .before .loop-test .taken) (f .ensures .0) (r .find3 .result) (r .find3 .ensures .0) (c .if1 .taken) in
     (sym (append-nil _) ∙ ap (λ (t : List ℕ). take (l .e - at) (drop at s) ++ t) (sym none) ∙ l .inv .3, search needs)
 
 loop-less : tie.Need-loop-less Inv-loop μ-loop
@@ -64,13 +74,13 @@ loop-less c = search needs
 
 loop-again : tie.Need-loop-again Inv-loop μ-loop
 loop-again c =
-    let s = c .before .before .before .before .before .before .before .before .args .s .now in
-    let at = c .before .before .before .before .before .before .before .before .args .at in
-    let l = c .before .before .before .before .before .loop in
-    let f = c .before .before .before .find2 in
-    let g = c .before .find3 in
-    let t = c .before .before .before .before .loop-test .taken in
-    let word = end-word s (l .e) (f .result) t (f .ensures .0) (g .result) (g .ensures .0) at (l .inv .0) (l .inv .2 t) (c .if1 .left) in
+    let r = c .before in
+    let s = start r .args .s .now in
+    let l = looped r .loop in
+    let f = ended r .find2 in
+    let g = r .find3 in
+    let t = ended r .before .loop-test .taken in
+    let word = end-word s (l .e) (f .result) t (f .ensures .0) (g .result) (g .ensures .0) (start r .args .at) (l .inv .0) (l .inv .2 t) (c .if1 .left) in
     (search needs, search needs, space-at s (l .e + 1) (f .result) (f .ensures .0), sym word ∙ l .inv .3)
 
 returns-2 : tie.Need-returns-2 Inv-loop μ-loop

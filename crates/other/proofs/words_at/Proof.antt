@@ -20,24 +20,38 @@ Inv-loop s key at₀ at = (at ≤ length s) × (fromKey key (group (split 32 s) 
 abbrev μ-loop : tie.MeasureT-loop
 μ-loop s key at₀ at = length s - at
 
--- where the arms meet, the word at `at` is not of the key
-module _ (c : tie.Joined1 Inv-loop μ-loop) where
+-- where the word's oblique was looked for
+module _ (c : tie.After-find2 Inv-loop μ-loop) where
+  abbrev ended : tie.After-find Inv-loop μ-loop
+  ended = c .before .before
+
+  abbrev looped : tie.At-loop Inv-loop μ-loop
+  looped = ended .before
+
+  abbrev start : tie.Start Inv-loop μ-loop
+  start = looped .before .before .before
+
   abbrev content : List ℕ
-  content = c .before .before .before .before .before .before .before .args .s .now
+  content = start .args .s .now
 
   abbrev sought : List ℕ
-  sought = c .before .before .before .before .before .before .before .args .key .now
+  sought = start .args .key .now
 
-  passed : fromKey sought (group (split 32 content) .grouped) ≡ fromKey sought (group (after 32 (drop (c .before .before .before .find .result) content)) .grouped)
-  passed =
-      let l = c .before .before .before .before .loop in
-      let f = c .before .before .before .find in
-      let g = c .before .find2 in
-      l .inv .1
-      ∙ ⊎-elim
-      (λ w. from-other sought content (l .at) (f .result) (f .ensures .0) (g .result) (g .ensures .0) (w .0 .taken) (sym (w .2 .ensures) ∙ w .3 .left))
-      (λ w. from-plain sought content (l .at) (f .result) (f .ensures .0) (g .result) (g .ensures .0) (w .left))
-      (c .if1 .came)
+-- where the arms meet, the word at `at` is not of the key
+passed : (c : tie.Joined1 Inv-loop μ-loop)
+    → let r = c .before in
+    fromKey (sought r) (group (split 32 (content r)) .grouped)
+    ≡ fromKey (sought r) (group (after 32 (drop (ended r .find .result) (content r))) .grouped)
+passed c =
+    let r = c .before in
+    let l = looped r .loop in
+    let f = ended r .find in
+    let g = r .find2 in
+    l .inv .1
+    ∙ ⊎-elim
+    (λ w. from-other (sought r) (content r) (l .at) (f .result) (f .ensures .0) (g .result) (g .ensures .0) (w .0 .taken) (sym (w .2 .ensures) ∙ w .3 .left))
+    (λ w. from-plain (sought r) (content r) (l .at) (f .result) (f .ensures .0) (g .result) (g .ensures .0) (w .left))
+    (c .if1 .came)
 
 loop-holds : tie.Need-loop-holds Inv-loop μ-loop
 loop-holds c = (search needs, refl)
@@ -71,20 +85,19 @@ add-result-2 c = search needs
 
 returns : tie.Need-returns Inv-loop μ-loop
 returns c =
-    let s = c .before .before .before .before .before .before .before .before .before .before .args .s .now in
-    let key = c .before .before .before .before .before .before .before .before .before .before .args .key .now in
-    let l = c .before .before .before .before .before .before .before .loop in
-    let f = c .before .before .before .before .before .before .find in
-    let g = c .before .before .before .before .find2 in
+    let r = c .before .before .before .before in
+    let l = looped r .loop in
+    let f = ended r .find in
+    let g = r .find2 in
     let e = sym (c .before .same-bytes .ensures) ∙ c .if2 .taken in
-    found-here key s (l .at) (f .result) (f .ensures .0) (g .result) (g .ensures .0) (c .before .before .before .if1 .taken) e (f .ensures .1 .1) (l .inv .1)
+    found-here (sought r) (content r) (l .at) (f .result) (f .ensures .0) (g .result) (g .ensures .0) (c .before .before .before .if1 .taken) e
+    (f .ensures .1 .1) (l .inv .1)
 
 returns-2 : tie.Need-returns-2 Inv-loop μ-loop
 returns-2 c =
-    let s = c .before .before .before .before .before .before .before .before .args .s .now in
-    let key = c .before .before .before .before .before .before .before .before .args .key .now in
-    let last = after-end 32 s (c .before .before .before .before .find .result) (omega arith) in
-    found-none key s (passed (c .before) ∙ ap (λ (ws : List Word). fromKey key (group ws .grouped)) last)
+    let r = c .before .before in
+    let last = after-end 32 (content r) (ended r .find .result) (omega arith) in
+    found-none (sought r) (content r) (passed (c .before) ∙ ap (λ (ws : List Word). fromKey (sought r) (group ws .grouped)) last)
 
 add-at : tie.Need-add-at Inv-loop μ-loop
 add-at c = search needs
@@ -94,10 +107,9 @@ loop-less c = search needs
 
 loop-again : tie.Need-loop-again Inv-loop μ-loop
 loop-again c =
-    let s = c .before .before .before .before .before .before .before .before .args .s .now in
-    let key = c .before .before .before .before .before .before .before .before .args .key .now in
-    let next = after-here 32 s (c .before .before .before .before .find .result) (omega arith) in
-    (search needs, passed (c .before) ∙ ap (λ (ws : List Word). fromKey key (group ws .grouped)) next)
+    let r = c .before .before in
+    let next = after-here 32 (content r) (ended r .find .result) (omega arith) in
+    (search needs, passed (c .before) ∙ ap (λ (ws : List Word). fromKey (sought r) (group ws .grouped)) next)
 
 pub words-at-spec : {M : Type 1} → statement M
 words-at-spec =
