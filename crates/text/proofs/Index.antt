@@ -74,7 +74,8 @@ split-cut c [] = refl
 split-cut c (b ∷ s) = go (split-cut c s) (eqb b c)
   where
     go : split c s ≡ take (upTo c s) s ∷ after c (drop (upTo c s) s)
-        → (t : Bool) → cond t ([] ∷ split c s) (onto b (split c s)) ≡ take (cond t 0 (suc (upTo c s))) (b ∷ s) ∷ after c (drop (cond t 0 (suc (upTo c s))) (b ∷ s))
+        → (t : Bool) → let k = cond t 0 (suc (upTo c s)) in
+        cond t ([] ∷ split c s) (onto b (split c s)) ≡ take k (b ∷ s) ∷ after c (drop k (b ∷ s))
     go ih true = refl
     go ih false = ap (onto b) ih
 

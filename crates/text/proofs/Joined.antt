@@ -81,7 +81,8 @@ pub upTo-seam : (c : ℕ) (k f : Word) → free c k ≡ true → upTo c (k ++ (c
 upTo-seam c [] f e = rw (eq-eqb c c refl)
 upTo-seam c (b ∷ k) f e = go (upTo-seam c k f) (eqb b c) e
   where
-    go : (free c k ≡ true → upTo c (k ++ (c ∷ f)) ≡ length k) → (t : Bool) → (not t && free c k) ≡ true → cond t 0 (suc (upTo c (k ++ (c ∷ f)))) ≡ suc (length k)
+    go : (free c k ≡ true → upTo c (k ++ (c ∷ f)) ≡ length k)
+        → (t : Bool) → (not t && free c k) ≡ true → cond t 0 (suc (upTo c (k ++ (c ∷ f)))) ≡ suc (length k)
     go ih true q = absurd (false≢true q)
     go ih false q = ap suc (ih q)
 

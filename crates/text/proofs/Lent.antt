@@ -32,8 +32,8 @@ module _ (whole out₀ out : List ℕ) (o : ℕ) (e : out ≡ take o whole ++ dr
   pub next-out : take o out ++ front w (drop o out) ≡ take (o + length w) whole ++ drop (o + length w) out₀
   unfolding front
   next-out =
-      rw (e, take-at (take o whole) (drop o out₀) o long, drop-at (take o whole) (drop o out₀) o long, drop-drop, take-add o (length w) whole, d, take-append-seam w rest)
-      (sym (append-assoc (take o whole) w _))
+      rw (e, take-at (take o whole) (drop o out₀) o long, drop-at (take o whole) (drop o out₀) o long)
+      (rw (drop-drop, take-add o (length w) whole, d, take-append-seam w rest) (sym (append-assoc (take o whole) w _)))
 
   pub next-rest : drop (o + length w) whole ≡ rest
   next-rest = rw (← drop-drop (length w) o whole, d) (drop-append-seam w rest)

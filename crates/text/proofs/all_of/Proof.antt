@@ -27,11 +27,10 @@ is-kind-requires c κs = search needs
 
 returns : tie.Need-returns Inv-loop μ-loop
 returns c =
-    let a = c .before .before .before .before .before .before .args in
-    let i = c .before .before .before .before .loop .i in
-    sym
-    (c .before .before .before .before .loop .inv .1
-    ∙ all-stop (ofKind (a .k)) (a .w .now) i (c .before .before .before .loop-test .taken) (sym (c .before .is-kind .ensures) ∙ not-true _ (c .if1 .taken)))
+    let l = c .before .before .before .before in
+    let a = l .before .before .args in
+    let e = sym (c .before .is-kind .ensures) ∙ not-true _ (c .if1 .taken) in
+    sym (l .loop .inv .1 ∙ all-stop (ofKind (a .k)) (a .w .now) (l .loop .i) (c .before .before .before .loop-test .taken) e)
 
 add-i : tie.Need-add-i Inv-loop μ-loop
 add-i c = search needs
@@ -41,12 +40,10 @@ loop-less c = search needs
 
 loop-again : tie.Need-loop-again Inv-loop μ-loop
 loop-again c =
-    let a = c .before .before .before .before .before .before .args in
-    let i = c .before .before .before .before .loop .i in (
-      search needs,
-      c .before .before .before .before .loop .inv .1
-          ∙ all-next (ofKind (a .k)) (a .w .now) i (c .before .before .before .loop-test .taken) (sym (c .before .is-kind .ensures) ∙ not-false _ (c .if1 .left)),
-    )
+    let l = c .before .before .before .before in
+    let a = l .before .before .args in
+    let e = sym (c .before .is-kind .ensures) ∙ not-false _ (c .if1 .left) in
+    (search needs, l .loop .inv .1 ∙ all-next (ofKind (a .k)) (a .w .now) (l .loop .i) (c .before .before .before .loop-test .taken) e)
 
 returns-2 : tie.Need-returns-2 Inv-loop μ-loop
 returns-2 c =

@@ -14,7 +14,10 @@ first-in-cell-requires : tie.Need-first-in-cell-requires
 first-in-cell-requires c κs = search needs
 
 returns : tie.Need-returns
-returns c = sym (other-cell (c .before .before .before .before .before .args .w .now) (c .before .before .before .before .before .args .cell .now) (c .before .before .before .before .before .pre) (λ e. c .if1 .taken (e ∙ sym (c .before .first-in-cell .ensures))))
+returns c =
+    let f = c .before in
+    let s = f .before .before .before .before in
+    sym (other-cell (s .args .w .now) (s .args .cell .now) (s .pre) (λ e. c .if1 .taken (e ∙ sym (f .first-in-cell .ensures))))
 
 find-requires : tie.Need-find-requires
 find-requires c κs = search needs
@@ -27,7 +30,8 @@ same-bytes-requires c κs = search needs
 
 returns-2 : tie.Need-returns-2
 returns-2 c =
-    let a = c .before .before .before .before .before .before .before .before .args in
+    let f = c .before .before .before .before in
+    let a = f .before .before .before .before .args in
     c .same-bytes .ensures ∙ ap (same (a .w .now)) (found-before 32 (a .cell .now) _ (c .before .before .find .ensures .0))
 
 pub in-cell-spec : {M : Type 1} → statement M

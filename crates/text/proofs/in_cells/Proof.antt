@@ -14,7 +14,9 @@ rank-in-cells-requires : tie.Need-rank-in-cells-requires
 rank-in-cells-requires c κs = search needs
 
 returns : tie.Need-returns
-returns c = let a = c .before .before .before .args in ap (λ (n : ℕ). not (eqb n 0)) (c .rank-in-cells .ensures) ∙ rank-elem 1 (a .w .now) (cells (a .width) (a .list .now)) (omega arith)
+returns c =
+    let a = c .before .before .before .args in
+    ap (λ (n : ℕ). not (eqb n 0)) (c .rank-in-cells .ensures) ∙ rank-elem 1 (a .w .now) (cells (a .width) (a .list .now)) (omega arith)
 
 pub in-cells-spec : {M : Type 1} → statement M
 in-cells-spec = tie.close (tie.spec rank-in-cells-requires returns)

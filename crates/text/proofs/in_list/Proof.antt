@@ -14,7 +14,9 @@ rank-of-requires : tie.Need-rank-of-requires
 rank-of-requires c κs = search needs
 
 returns : tie.Need-returns
-returns c = let a = c .before .before .before .args in ap (λ (n : ℕ). not (eqb n 0)) (c .rank-of .ensures) ∙ rank-elem 1 (a .w .now) (split 32 (a .list .now)) (omega arith)
+returns c =
+    let a = c .before .before .before .args in
+    ap (λ (n : ℕ). not (eqb n 0)) (c .rank-of .ensures) ∙ rank-elem 1 (a .w .now) (split 32 (a .list .now)) (omega arith)
 
 pub in-list-spec : {M : Type 1} → statement M
 in-list-spec = tie.close (tie.spec rank-of-requires returns)

@@ -38,9 +38,11 @@ in-cell-requires c κs = search needs
 
 returns : tie.Need-returns Inv-loop μ-loop
 returns c =
-    let a = c .before .before .before .before .before .before .before .args in
-    let l = c .before .before .before .before .loop in
-    sym (l .inv .3 ∙ cell-found (l .k) (a .width) (l .at) (a .w .now) (a .list .now) (omega arith) (c .before .before .before .loop-test .taken) (sym (c .before .in-cell .ensures) ∙ c .if1 .taken))
+    let t = c .before .before .before in
+    let a = t .before .before .before .before .args in
+    let l = t .before .loop in
+    let e = sym (c .before .in-cell .ensures) ∙ c .if1 .taken in
+    sym (l .inv .3 ∙ cell-found (l .k) (a .width) (l .at) (a .w .now) (a .list .now) (omega arith) (t .loop-test .taken) e)
 
 add-k : tie.Need-add-k Inv-loop μ-loop
 add-k c = search needs
@@ -50,9 +52,15 @@ loop-less c = search needs
 
 loop-again : tie.Need-loop-again Inv-loop μ-loop
 loop-again c =
-    let a = c .before .before .before .before .before .before .before .args in
-    let l = c .before .before .before .before .loop in
-    (search needs, search needs, search needs, l .inv .3 ∙ cell-next (l .k) (a .width) (l .at) (a .w .now) (a .list .now) (omega arith) (c .before .before .before .loop-test .taken) (sym (c .before .in-cell .ensures) ∙ c .if1 .left))
+    let t = c .before .before .before in
+    let a = t .before .before .before .before .args in
+    let l = t .before .loop in
+    let e = sym (c .before .in-cell .ensures) ∙ c .if1 .left in (
+      search needs,
+      search needs,
+      search needs,
+      l .inv .3 ∙ cell-next (l .k) (a .width) (l .at) (a .w .now) (a .list .now) (omega arith) (t .loop-test .taken) e,
+    )
 
 returns-2 : tie.Need-returns-2 Inv-loop μ-loop
 returns-2 c =

@@ -15,6 +15,17 @@ Inv-loop w list at₀ k₀ at k = (at ≤ length list) × (1 ≤ k) × (k ≤ at
 abbrev μ-loop : tie.MeasureT-loop
 μ-loop w list at₀ k₀ at k = length list - at
 
+-- where a word of the list was compared
+module _ (c : tie.After-same-bytes Inv-loop μ-loop) where
+  abbrev ended : tie.After-find Inv-loop μ-loop
+  ended = c .before .before
+
+  abbrev looped : tie.At-loop Inv-loop μ-loop
+  looped = ended .before
+
+  abbrev start : tie.Start Inv-loop μ-loop
+  start = looped .before .before .before
+
 loop-holds : tie.Need-loop-holds Inv-loop μ-loop
 loop-holds c = (search needs, search needs, search needs, refl)
 
@@ -35,17 +46,19 @@ same-bytes-requires c κs = search needs
 
 returns : tie.Need-returns Inv-loop μ-loop
 returns c =
-    let a = c .before .before .before .before .before .before .before .args in
-    let l = c .before .before .before .before .loop in
-    let f = c .before .before .before .find in
-    sym (l .inv .3 ∙ rank-found (l .k) (a .w .now) (a .list .now) (l .at) (f .result) (f .ensures .0) (sym (c .before .same-bytes .ensures) ∙ c .if1 .taken))
+    let r = c .before in
+    let a = start r .args in
+    let l = looped r .loop in
+    let e = sym (r .same-bytes .ensures) ∙ c .if1 .taken in
+    sym (l .inv .3 ∙ rank-found (l .k) (a .w .now) (a .list .now) (l .at) _ (ended r .find .ensures .0) e)
 
 returns-2 : tie.Need-returns-2 Inv-loop μ-loop
 returns-2 c =
-    let a = c .before .before .before .before .before .before .before .before .args in
-    let l = c .before .before .before .before .before .loop in
-    let f = c .before .before .before .before .find in
-    sym (l .inv .3 ∙ rank-last (l .k) (a .w .now) (a .list .now) (l .at) (f .result) (f .ensures .0) (sym (c .before .before .same-bytes .ensures) ∙ c .before .if1 .left) (omega arith))
+    let r = c .before .before in
+    let a = start r .args in
+    let l = looped r .loop in
+    let e = sym (r .same-bytes .ensures) ∙ c .before .if1 .left in
+    sym (l .inv .3 ∙ rank-last (l .k) (a .w .now) (a .list .now) (l .at) _ (ended r .find .ensures .0) e (omega arith))
 
 add-at : tie.Need-add-at Inv-loop μ-loop
 add-at c = search needs
@@ -58,13 +71,14 @@ loop-less c = search needs
 
 loop-again : tie.Need-loop-again Inv-loop μ-loop
 loop-again c =
-    let a = c .before .before .before .before .before .before .before .before .args in
-    let l = c .before .before .before .before .before .loop in
-    let f = c .before .before .before .before .find in (
+    let r = c .before .before in
+    let a = start r .args in
+    let l = looped r .loop in
+    let e = sym (r .same-bytes .ensures) ∙ c .before .if1 .left in (
       search needs,
       search needs,
       search needs,
-      l .inv .3 ∙ rank-next (l .k) (a .w .now) (a .list .now) (l .at) (f .result) (f .ensures .0) (sym (c .before .before .same-bytes .ensures) ∙ c .before .if1 .left) (omega arith),
+      l .inv .3 ∙ rank-next (l .k) (a .w .now) (a .list .now) (l .at) _ (ended r .find .ensures .0) e (omega arith),
     )
 
 pub rank-of-spec : {M : Type 1} → statement M

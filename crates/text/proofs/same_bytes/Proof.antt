@@ -30,11 +30,9 @@ shared-slice-read-if2-2 c = search needs
 
 returns-2 : tie.Need-returns-2 Inv-loop μ-loop
 returns-2 c =
-    let a = c .before .before .before .before .before .before .args in
-    let i = c .before .before .before .before .loop .i in
-    sym
-    (c .before .before .before .before .loop .inv .2
-    ∙ same-stop (a .a .now) (a .b .now) i (omega arith) (omega arith) (c .if2 .taken))
+    let l = c .before .before .before .before in
+    let a = l .before .before .args in
+    sym (l .loop .inv .2 ∙ same-stop (a .a .now) (a .b .now) (l .loop .i) (omega arith) (omega arith) (c .if2 .taken))
 
 add-i : tie.Need-add-i Inv-loop μ-loop
 add-i c = search needs
@@ -44,13 +42,9 @@ loop-less c = search needs
 
 loop-again : tie.Need-loop-again Inv-loop μ-loop
 loop-again c =
-    let a = c .before .before .before .before .before .before .args in
-    let i = c .before .before .before .before .loop .i in (
-      omega arith,
-      omega arith,
-      c .before .before .before .before .loop .inv .2
-          ∙ same-next (a .a .now) (a .b .now) i (omega arith) (omega arith) (c .if2 .left),
-    )
+    let l = c .before .before .before .before in
+    let a = l .before .before .args in
+    (omega arith, omega arith, l .loop .inv .2 ∙ same-next (a .a .now) (a .b .now) (l .loop .i) (omega arith) (omega arith) (c .if2 .left))
 
 returns-3 : tie.Need-returns-3 Inv-loop μ-loop
 returns-3 c =

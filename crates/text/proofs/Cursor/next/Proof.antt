@@ -14,7 +14,10 @@ returns : tie.Need-returns
 returns c = let a = c .before .before .before .args in stepped (a .c) (a .s .now) (a .self .at) _ (c .before .end .ensures .0) (search needs) (c .if1 .taken)
 
 returns-2 : tie.Need-returns-2
-returns-2 c = let a = c .before .before .before .args in stepped-end (a .c) (a .s .now) (a .self .at) _ (c .before .end .ensures .0) (search needs) (c .before .end .ensures .1 .1) (c .if1 .left)
+returns-2 c =
+    let a = c .before .before .before .args in
+    let f = c .before .end .ensures in
+    stepped-end (a .c) (a .s .now) (a .self .at) _ (f .0) (search needs) (f .1 .1) (c .if1 .left)
 
 pub next-spec : {M : Type 1} → statement M
 next-spec = tie.close (tie.spec end-requires add-t8 returns returns-2)
