@@ -116,7 +116,8 @@ module _ (whole : Bool) (seen : List Bool) (list here : List Word) (w : Word) (w
     pub marked : r < length seen → getD seen r false ≡ false → whole ≡ rest (set seen r true) list ws
     unfolding rest
     marked l e =
-        let m : fresh (set seen r true) list ws ≡ (fresh seen list ws && not (elem w ws)) = rw is-rank (mark seen list w (λ z. n (is-rank ∙ z)) (omega arith) ws) in
+        let m : fresh (set seen r true) list ws ≡ (fresh seen list ws && not (elem w ws))
+        = rw is-rank (mark seen list w (λ z. n (is-rank ∙ z)) (omega arith) ws) in
         turn ∙ rw (← is-rank, e, listed, m) (and-assoc (fresh seen list ws) (not (elem w ws)) (codesFit list ws))
 
     pub comes-again : elem w ws ≡ true → false ≡ whole

@@ -19,13 +19,15 @@ add-result c = search needs
 
 returns : tie.Need-returns
 returns c =
-    let a = c .before .before .before .before .before .args in
-    (code-two (a .s .now) (a .at) (search needs) (search needs) (sym (c .before .is-digit .ensures) ∙ c .if2 .taken), search needs)
+    let d = c .before in
+    let a = d .before .before .before .before .args in
+    (code-two (a .s .now) (a .at) (search needs) (search needs) (sym (d .is-digit .ensures) ∙ c .if2 .taken), search needs)
 
 returns-2 : tie.Need-returns-2
 returns-2 c =
-    let a = c .before .before .before .before .before .args in
-    (code-one (a .s .now) (a .at) (search needs) (search needs) (sym (c .before .is-digit .ensures) ∙ c .if2 .left), search needs)
+    let d = c .before in
+    let a = d .before .before .before .before .args in
+    (code-one (a .s .now) (a .at) (search needs) (search needs) (sym (d .is-digit .ensures) ∙ c .if2 .left), search needs)
 
 returns-3 : tie.Need-returns-3
 returns-3 c =

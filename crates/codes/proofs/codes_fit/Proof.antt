@@ -17,6 +17,14 @@ Inv-loop list s seen₀ at₀ seen at = (at ≤ length s) × (length seen ≡ 64
 abbrev μ-loop : tie.MeasureT-loop
 μ-loop list s seen₀ at₀ seen at = length s - at
 
+-- where a code's rank is known
+module _ (c : tie.After-rank-in-cells Inv-loop μ-loop) where
+  abbrev ended : tie.After-code-end Inv-loop μ-loop
+  ended = c .before .before
+
+  abbrev looped : tie.At-loop Inv-loop μ-loop
+  looped = ended .before .before
+
 loop-holds : tie.Need-loop-holds Inv-loop μ-loop
 loop-holds c = (search needs, refl, rest-starts _ refl _ _)
 
@@ -37,16 +45,18 @@ rank-in-cells-requires c κs = search needs
 
 returns : tie.Need-returns Inv-loop μ-loop
 returns c =
-    let l = c .before .before .before .before .before .loop in
-    not-listed _ (l .seen) _ _ _ _ (c .before .rank-in-cells .result) (l .inv .2) (c .before .before .before .code-end .ensures .0) (c .before .rank-in-cells .ensures) (c .if1 .taken)
+    let r = c .before in
+    let l = looped r .loop in
+    not-listed _ (l .seen) _ _ _ _ _ (l .inv .2) (ended r .code-end .ensures .0) (r .rank-in-cells .ensures) (c .if1 .taken)
 
 array-read-if3 : tie.Need-array-read-if3 Inv-loop μ-loop
 array-read-if3 c = search needs
 
 returns-2 : tie.Need-returns-2 Inv-loop μ-loop
 returns-2 c =
-    let l = c .before .before .before .before .before .before .before .loop in
-    seen-before _ (l .seen) _ _ _ _ (c .before .before .before .rank-in-cells .result) (l .inv .2) (c .before .before .before .before .before .code-end .ensures .0) (c .before .before .before .rank-in-cells .ensures) (c .if3 .taken)
+    let r = c .before .before .before in
+    let l = looped r .loop in
+    seen-before _ (l .seen) _ _ _ _ _ (l .inv .2) (ended r .code-end .ensures .0) (r .rank-in-cells .ensures) (c .if3 .taken)
 
 array-write-seen : tie.Need-array-write-seen Inv-loop μ-loop
 array-write-seen c = search needs
@@ -56,11 +66,12 @@ loop-less c = search needs
 
 loop-again : tie.Need-loop-again Inv-loop μ-loop
 loop-again c =
-    let l = c .before .before .before .before .before .before .before .loop in
-    let r = c .before .before .before .rank-in-cells .result in (
+    let n = c .before .before in
+    let r = n .before in
+    let l = looped r .loop in (
       search needs,
-      length-set (l .seen) r _ ∙ l .inv .1,
-      marked _ (l .seen) _ _ _ _ r (l .inv .2) (c .before .before .before .before .before .code-end .ensures .0) (c .before .before .before .rank-in-cells .ensures) (c .before .before .if1 .left) (omega arith) (c .if3 .left),
+      length-set (l .seen) (r .rank-in-cells .result) _ ∙ l .inv .1,
+      marked _ (l .seen) _ _ _ _ _ (l .inv .2) (ended r .code-end .ensures .0) (r .rank-in-cells .ensures) (n .if1 .left) (omega arith) (c .if3 .left),
     )
 
 comes-requires : tie.Need-comes-requires Inv-loop μ-loop
@@ -68,18 +79,24 @@ comes-requires c κs = search needs
 
 returns-3 : tie.Need-returns-3 Inv-loop μ-loop
 returns-3 c =
-    let l = c .before .before .before .before .before .before .before .before .loop in
-    comes-again _ (l .seen) _ _ _ _ (c .before .before .before .before .rank-in-cells .result) (l .inv .2) (c .before .before .before .before .before .before .code-end .ensures .0) (c .before .before .before .before .rank-in-cells .ensures) (c .before .before .before .if1 .left) (sym (c .before .comes .ensures) ∙ c .if4 .taken)
+    let n = c .before .before .before in
+    let r = n .before in
+    let l = looped r .loop in
+    let e = sym (c .before .comes .ensures) ∙ c .if4 .taken in
+    comes-again _ (l .seen) _ _ _ _ _ (l .inv .2) (ended r .code-end .ensures .0) (r .rank-in-cells .ensures) (n .if1 .left) e
 
 loop-less-2 : tie.Need-loop-less-2 Inv-loop μ-loop
 loop-less-2 c = search needs
 
 loop-again-2 : tie.Need-loop-again-2 Inv-loop μ-loop
 loop-again-2 c =
-    let l = c .before .before .before .before .before .before .before .before .loop in (
+    let n = c .before .before .before in
+    let r = n .before in
+    let l = looped r .loop in
+    let e = sym (c .before .comes .ensures) ∙ c .if4 .left in (
       search needs,
       l .inv .1,
-      comes-once _ (l .seen) _ _ _ _ (c .before .before .before .before .rank-in-cells .result) (l .inv .2) (c .before .before .before .before .before .before .code-end .ensures .0) (c .before .before .before .before .rank-in-cells .ensures) (c .before .before .before .if1 .left) (omega arith) (sym (c .before .comes .ensures) ∙ c .if4 .left),
+      comes-once _ (l .seen) _ _ _ _ _ (l .inv .2) (ended r .code-end .ensures .0) (r .rank-in-cells .ensures) (n .if1 .left) (omega arith) e,
     )
 
 returns-4 : tie.Need-returns-4 Inv-loop μ-loop

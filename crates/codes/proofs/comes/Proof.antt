@@ -34,13 +34,17 @@ same-bytes-requires : tie.Need-same-bytes-requires Inv-loop μ-loop
 same-bytes-requires c κs = search needs
 
 returns : tie.Need-returns Inv-loop μ-loop
-returns c = sym (c .before .before .before .before .before .loop .inv .1 ∙ rw (c .before .before .before .code-end .ensures .0, sym (c .before .same-bytes .ensures) ∙ c .if1 .taken))
+returns c =
+    let e = c .before .before .before in
+    sym (e .before .before .loop .inv .1 ∙ rw (e .code-end .ensures .0, sym (c .before .same-bytes .ensures) ∙ c .if1 .taken))
 
 loop-less : tie.Need-loop-less Inv-loop μ-loop
 loop-less c = search needs
 
 loop-again : tie.Need-loop-again Inv-loop μ-loop
-loop-again c = (search needs, c .before .before .before .before .before .loop .inv .1 ∙ rw (c .before .before .before .code-end .ensures .0, sym (c .before .same-bytes .ensures) ∙ c .if1 .left))
+loop-again c =
+    let e = c .before .before .before in
+    (search needs, e .before .before .loop .inv .1 ∙ rw (e .code-end .ensures .0, sym (c .before .same-bytes .ensures) ∙ c .if1 .left))
 
 returns-2 : tie.Need-returns-2 Inv-loop μ-loop
 returns-2 c = sym (c .before .loop .inv .1 ∙ rw (drop-end _ (c .before .loop .at) (c .loop-test .left)))
