@@ -36,10 +36,11 @@ returns c =
 
 returns-2 : tie.Need-returns-2 Inv-loop μ-loop
 returns-2 c =
-    let s = c .before .before .before .before .before .args .s .now in
-    let l = c .before .before .before .before .loop in
-    let h = inner-paren (getD s (l .i) 0) (omega (arith, c .before .before .shared-slice-known .given (l .i))) (c .before .if1 .left) (c .if2 .taken) in
-    (omega (arith, l .inv .1, count-stop innerByte innerBytes (λ b t. refl) s (l .i) (c .before .before .before .loop-test .taken) h), l .inv .0)
+    let k = c .before .before in
+    let l = k .before .before .loop in
+    let s = k .before .before .before .args .s .now in
+    let h = inner-paren (getD s (l .i) 0) (omega (arith, k .shared-slice-known .given (l .i))) (c .before .if1 .left) (c .if2 .taken) in
+    (omega (arith, l .inv .1, count-stop innerByte innerBytes (λ b t. refl) s (l .i) (k .before .loop-test .taken) h), l .inv .0)
 
 add-i : tie.Need-add-i Inv-loop μ-loop
 add-i c = search needs
@@ -49,10 +50,11 @@ loop-less c = search needs
 
 loop-again : tie.Need-loop-again Inv-loop μ-loop
 loop-again c =
-    let s = c .before .before .before .before .before .args .s .now in
-    let l = c .before .before .before .before .loop in
-    let h = inner-byte (getD s (l .i) 0) (omega (arith, c .before .before .shared-slice-known .given (l .i))) (c .before .if1 .left) (c .if2 .left) in
-    (omega arith, omega (arith, l .inv .1, count-next innerByte innerBytes (λ b t. refl) s (l .i) (c .before .before .before .loop-test .taken) h))
+    let k = c .before .before in
+    let l = k .before .before .loop in
+    let s = k .before .before .before .args .s .now in
+    let h = inner-byte (getD s (l .i) 0) (omega (arith, k .shared-slice-known .given (l .i))) (c .before .if1 .left) (c .if2 .left) in
+    (omega arith, omega (arith, l .inv .1, count-next innerByte innerBytes (λ b t. refl) s (l .i) (k .before .loop-test .taken) h))
 
 returns-3 : tie.Need-returns-3 Inv-loop μ-loop
 returns-3 c =

@@ -15,7 +15,9 @@ is-mark-requires : tie.Need-is-mark-requires
 is-mark-requires c κs = search needs
 
 returns-2 : tie.Need-returns-2
-returns-2 c = rw (text-marks (c .before .before .before .args .b) (search needs), sym (c .before .before .is-sign .ensures) ∙ c .before .if1 .left) (c .is-mark .ensures)
+returns-2 c =
+    let s = c .before .before in
+    rw (text-marks (s .before .args .b) (search needs), sym (s .is-sign .ensures) ∙ c .before .if1 .left) (c .is-mark .ensures)
 
 pub is-text-spec : {M : Type 1} → statement M
 is-text-spec = tie.close (tie.spec is-sign-requires returns is-mark-requires returns-2)
