@@ -17,6 +17,17 @@ Inv-loop list at₀ left₀ at left = (at ≤ length list) × (fewAerodromes mos
 abbrev μ-loop : tie.MeasureT-loop
 μ-loop list at₀ left₀ at left = length list - at
 
+-- where a word was tried
+module _ (c : tie.After-four-letters Inv-loop μ-loop) where
+  abbrev ended : tie.After-find Inv-loop μ-loop
+  ended = c .before .before
+
+  abbrev looped : tie.At-loop Inv-loop μ-loop
+  looped = ended .before .before
+
+  abbrev start : tie.Start Inv-loop μ-loop
+  start = looped .before .before
+
 loop-holds : tie.Need-loop-holds Inv-loop μ-loop
 loop-holds c = (search needs, refl)
 
@@ -43,19 +54,17 @@ four-letters-requires c κs = search needs
 
 returns-2 : tie.Need-returns-2 Inv-loop μ-loop
 returns-2 c =
-    let s = c .before .before .before .before .before .before .before .args .list .now in
-    let l = c .before .before .before .before .before .loop in
-    let f = c .before .before .before .find in
-    let four = sym (c .before .four-letters .ensures) ∙ not-true _ (c .if2 .taken) in
-    sym (l .inv .1 ∙ few-stop (l .left) s (l .at) (f .result) (f .ensures .0) four)
+    let r = c .before in
+    let l = looped r .loop in
+    let four = sym (r .four-letters .ensures) ∙ not-true _ (c .if2 .taken) in
+    sym (l .inv .1 ∙ few-stop (l .left) (start r .args .list .now) (l .at) _ (ended r .find .ensures .0) four)
 
 returns-3 : tie.Need-returns-3 Inv-loop μ-loop
 returns-3 c =
-    let s = c .before .before .before .before .before .before .before .before .args .list .now in
-    let l = c .before .before .before .before .before .before .loop in
-    let f = c .before .before .before .before .find in
-    let four = sym (c .before .before .four-letters .ensures) ∙ not-false _ (c .before .if2 .left) in
-    sym (l .inv .1 ∙ few-last (l .left) s (l .at) (f .result) (f .ensures .0) (omega arith) four (omega arith))
+    let r = c .before .before in
+    let l = looped r .loop in
+    let four = sym (r .four-letters .ensures) ∙ not-false _ (c .before .if2 .left) in
+    sym (l .inv .1 ∙ few-last (l .left) (start r .args .list .now) (l .at) _ (ended r .find .ensures .0) (omega arith) four (omega arith))
 
 add-at : tie.Need-add-at Inv-loop μ-loop
 add-at c = search needs
@@ -68,11 +77,10 @@ loop-less c = search needs
 
 loop-again : tie.Need-loop-again Inv-loop μ-loop
 loop-again c =
-    let s = c .before .before .before .before .before .before .before .before .args .list .now in
-    let l = c .before .before .before .before .before .before .loop in
-    let f = c .before .before .before .before .find in
-    let four = sym (c .before .before .four-letters .ensures) ∙ not-false _ (c .before .if2 .left) in
-    (search needs, l .inv .1 ∙ few-next (l .left) s (l .at) (f .result) (f .ensures .0) (omega arith) four (omega arith))
+    let r = c .before .before in
+    let l = looped r .loop in
+    let four = sym (r .four-letters .ensures) ∙ not-false _ (c .before .if2 .left) in
+    (search needs, l .inv .1 ∙ few-next (l .left) (start r .args .list .now) (l .at) _ (ended r .find .ensures .0) (omega arith) four (omega arith))
 
 pub alternates-spec : {M : Type 1} → statement M
 alternates-spec =

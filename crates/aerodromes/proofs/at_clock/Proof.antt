@@ -20,8 +20,9 @@ four-letters-requires c κs = search needs
 
 returns-2 : tie.Need-returns-2
 returns-2 c =
-    let four = sym (c .before .four-letters .ensures) ∙ not-true _ (c .if2 .taken) in
-    sym (timed-stop clockHours (c .before .before .before .before .before .args .w .now) four)
+    let f = c .before in
+    let four = sym (f .four-letters .ensures) ∙ not-true _ (c .if2 .taken) in
+    sym (timed-stop clockHours (f .before .before .before .before .args .w .now) four)
 
 sub-fits : tie.Need-sub-fits
 sub-fits c = search needs
@@ -37,8 +38,9 @@ fits-requires c κs = search needs
 
 returns-3 : tie.Need-returns-3
 returns-3 c =
-    let four = sym (c .before .before .before .four-letters .ensures) ∙ not-false _ (c .before .before .if2 .left) in
-    c .fits2 .ensures ∙ timed-rest clockHours (c .before .before .before .before .before .before .before .args .w .now) four
+    let f = c .before .before .before in
+    let four = sym (f .four-letters .ensures) ∙ not-false _ (c .before .before .if2 .left) in
+    c .fits2 .ensures ∙ timed-rest clockHours (f .before .before .before .before .args .w .now) four
 
 pub at-clock-spec : {M : Type 1} → statement M
 at-clock-spec =

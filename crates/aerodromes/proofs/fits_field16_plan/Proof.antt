@@ -1,8 +1,7 @@
 -- `aerodromes::fits_field16_plan` meets its contract. Assumes nothing.
-use Prim.Native.Nat.{_+_}
+use Prim.Native.Nat.{ℕ, _+_}
 use mathlib.Core.Path.{sym, ap, _∙_}
 use mathlib.Core.List.{List}
-use Prim.Native.Nat.{ℕ}
 use lib.Seq.{length-take-le}
 use borrow.Author.Tests.{not-true, not-false}
 use Rattle.text.specs.Words.{split}
@@ -13,6 +12,14 @@ use native.Mathlib.Omega.{arith}
 use borrow.Author.Needs.{needs}
 use Rattle.aerodromes.proofs.fits_field16_plan.Statement.{statement}
 use Rattle.aerodromes.proofs.fits_field16_plan.Tie as tie
+
+-- where the first word was tried
+module _ (c : tie.After-at-elapsed) where
+  abbrev ended : tie.After-find
+  ended = c .before .before
+
+  abbrev start : tie.Start
+  start = ended .before .before
 
 find-requires : tie.Need-find-requires
 find-requires c κs = search needs
@@ -25,15 +32,15 @@ at-elapsed-requires c κs = search needs
 
 returns : tie.Need-returns
 returns c =
-    let f = c .before .before .before .find in
-    let first = sym (c .before .at-elapsed .ensures) ∙ not-true _ (c .if1 .taken) in
-    sym (plan-stop (c .before .before .before .before .before .args .s .now) (f .result) (f .ensures .0) first)
+    let r = c .before in
+    let first = sym (r .at-elapsed .ensures) ∙ not-true _ (c .if1 .taken) in
+    sym (plan-stop (start r .args .s .now) _ (ended r .find .ensures .0) first)
 
 returns-2 : tie.Need-returns-2
 returns-2 c =
-    let f = c .before .before .before .before .find in
-    let first = sym (c .before .before .at-elapsed .ensures) ∙ not-false _ (c .before .if1 .left) in
-    sym (plan-last (c .before .before .before .before .before .before .args .s .now) (f .result) (f .ensures .0) first (omega arith))
+    let r = c .before .before in
+    let first = sym (r .at-elapsed .ensures) ∙ not-false _ (c .before .if1 .left) in
+    sym (plan-last (start r .args .s .now) _ (ended r .find .ensures .0) first (omega arith))
 
 add-alternates : tie.Need-add-alternates
 add-alternates c = search needs
@@ -52,9 +59,10 @@ alternates-requires c κs = search needs
 
 returns-3 : tie.Need-returns-3
 returns-3 c =
-    let s = c .before .before .before .before .before .before .before .before .args .s .now in
-    let f = c .before .before .before .before .before .before .find in
-    let first = sym (c .before .before .before .before .at-elapsed .ensures) ∙ not-false _ (c .before .before .before .if1 .left) in
+    let r = c .before .before .before .before in
+    let s = start r .args .s .now in
+    let f = ended r .find in
+    let first = sym (r .at-elapsed .ensures) ∙ not-false _ (c .before .before .before .if1 .left) in
     c .alternates .ensures
     ∙ ap (λ (t : List ℕ). fewAerodromes mostAlternates (split 32 t)) (rest s (f .result + 1))
     ∙ sym (plan-next s (f .result) (f .ensures .0) first (omega arith))

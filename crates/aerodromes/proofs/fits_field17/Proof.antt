@@ -1,17 +1,42 @@
 -- `aerodromes::fits_field17` meets its contract. Assumes nothing.
 use Prim.Native.Nat.{ℕ, _+_}
-use mathlib.Core.Path.{sym, ap, _∙_}
+use mathlib.Core.Path.{_≡_, sym, ap, _∙_}
+use mathlib.Core.Bool.{true}
 use mathlib.Core.List.{List}
+use lib.ListN.{take}
 use lib.Seq.{length-take-le}
 use borrow.Author.Tests.{not-true, not-false}
 use Rattle.text.specs.Words.{Word, all, same, split, textWord}
 use Rattle.text.proofs.Index.{rest}
+use Rattle.shape.specs.Time.{clockHours}
+use Rattle.aerodromes.specs.Aerodromes.{timed}
 use Rattle.aerodromes.specs.Field17.{unlisted}
 use Rattle.aerodromes.proofs.Index.{landed-stop, landed-other, landed-bare, landed-place}
 use native.Mathlib.Omega.{arith}
 use borrow.Author.Needs.{needs}
 use Rattle.aerodromes.proofs.fits_field17.Statement.{statement}
 use Rattle.aerodromes.proofs.fits_field17.Tie as tie
+
+-- where the aerodrome of a content whose first word fits was compared with ZZZZ
+module _ (c : tie.After-same-bytes) where
+  abbrev fitting : tie.Else1
+  fitting = c .before .before .before .before
+
+  abbrev ended : tie.After-find
+  ended = fitting .before .before .before
+
+  abbrev content : List ℕ
+  content = ended .before .before .args .s .now
+
+  abbrev end : ℕ
+  end = ended .find .result
+
+  first : timed clockHours (take end content) ≡ true
+  first = sym (fitting .before .at-clock .ensures) ∙ not-false _ (fitting .if1 .left)
+
+  compared : same (take 4 (take end content)) unlisted ≡ c .same-bytes .result
+  unfolding unlisted
+  compared = ap (λ (w : Word). same w unlisted) (sym (c .before .before .aerodrome-of .ensures)) ∙ sym (c .same-bytes .ensures)
 
 find-requires : tie.Need-find-requires
 find-requires c κs = search needs
@@ -24,9 +49,9 @@ at-clock-requires c κs = search needs
 
 returns : tie.Need-returns
 returns c =
-    let f = c .before .before .before .find in
+    let f = c .before .before .before in
     let first = sym (c .before .at-clock .ensures) ∙ not-true _ (c .if1 .taken) in
-    sym (landed-stop (c .before .before .before .before .before .args .s .now) (f .result) (f .ensures .0) first)
+    sym (landed-stop (f .before .before .args .s .now) _ (f .find .ensures .0) first)
 
 slice-aggregate-aerodrome-of : tie.Need-slice-aggregate-aerodrome-of
 slice-aggregate-aerodrome-of c = sym (length-take-le _ _ (c .before .before .before .before .find .ensures .1 .1))
@@ -41,25 +66,16 @@ same-bytes-requires : tie.Need-same-bytes-requires
 same-bytes-requires c κs = search needs
 
 returns-2 : tie.Need-returns-2
-unfolding unlisted
 returns-2 c =
-    let d = c .before .before .before .before .before in
-    let s = d .before .before .before .before .before .args .s .now in
-    let f = d .before .before .before .find in
-    let first = sym (d .before .at-clock .ensures) ∙ not-false _ (d .if1 .left) in
-    let zzzz = ap (λ (w : Word). same w unlisted) (sym (c .before .before .before .aerodrome-of .ensures)) ∙ sym (c .before .same-bytes .ensures) in
-    sym (landed-other s (f .result) (f .ensures .0) (f .ensures .1 .1) first (zzzz ∙ not-true _ (c .if2 .taken)))
+    let r = c .before in
+    let f = ended r .find in
+    sym (landed-other (content r) (end r) (f .ensures .0) (f .ensures .1 .1) (first r) (compared r ∙ not-true _ (c .if2 .taken)))
 
 returns-3 : tie.Need-returns-3
-unfolding unlisted
 returns-3 c =
     let b = c .before in
-    let d = b .before .before .before .before .before in
-    let s = d .before .before .before .before .before .args .s .now in
-    let f = d .before .before .before .find in
-    let first = sym (d .before .at-clock .ensures) ∙ not-false _ (d .if1 .left) in
-    let zzzz = ap (λ (w : Word). same w unlisted) (sym (b .before .before .before .aerodrome-of .ensures)) ∙ sym (b .before .same-bytes .ensures) in
-    sym (landed-bare s (f .result) (f .ensures .0) first (zzzz ∙ not-false _ (b .if2 .left)) (omega arith))
+    let r = b .before in
+    sym (landed-bare (content r) (end r) (ended r .find .ensures .0) (first r) (compared r ∙ not-false _ (b .if2 .left)) (omega arith))
 
 add-text-words : tie.Need-add-text-words
 add-text-words c = search needs
@@ -77,17 +93,12 @@ text-words-requires : tie.Need-text-words-requires
 text-words-requires c κs = search needs
 
 returns-4 : tie.Need-returns-4
-unfolding unlisted
 returns-4 c =
     let b = c .before .before .before in
-    let d = b .before .before .before .before .before in
-    let s = d .before .before .before .before .before .args .s .now in
-    let f = d .before .before .before .find in
-    let first = sym (d .before .at-clock .ensures) ∙ not-false _ (d .if1 .left) in
-    let zzzz = ap (λ (w : Word). same w unlisted) (sym (b .before .before .before .aerodrome-of .ensures)) ∙ sym (b .before .same-bytes .ensures) in
+    let r = b .before in
     c .text-words .ensures
-    ∙ ap (λ (t : List ℕ). all textWord (split 32 t)) (rest s (f .result + 1))
-    ∙ sym (landed-place s (f .result) (f .ensures .0) first (zzzz ∙ not-false _ (b .if2 .left)) (omega arith))
+    ∙ ap (λ (t : List ℕ). all textWord (split 32 t)) (rest (content r) (end r + 1))
+    ∙ sym (landed-place (content r) (end r) (ended r .find .ensures .0) (first r) (compared r ∙ not-false _ (b .if2 .left)) (omega arith))
 
 pub fits-field17-spec : {M : Type 1} → statement M
 fits-field17-spec =

@@ -36,11 +36,11 @@ in-list-requires c κs = search needs
 
 returns-2 : tie.Need-returns-2
 returns-2 c =
-    let a = c .before .before .before .before .before .before .args in
-    let f = c .before .before .before .find in
+    let f = c .before .before .before in
+    let a = f .before .before .before .args in
     c .in-list .ensures
-    ∙ ap (λ (t : List ℕ). elem (a .name .now) (split 32 t)) (rest (a .s .now) (f .result + 1))
-    ∙ sym (ap (elem (a .name .now)) (others-here (a .s .now) (f .result) (f .ensures .0) (omega arith)))
+    ∙ ap (λ (t : List ℕ). elem (a .name .now) (split 32 t)) (rest (a .s .now) (f .find .result + 1))
+    ∙ sym (ap (elem (a .name .now)) (others-here (a .s .now) (f .find .result) (f .find .ensures .0) (omega arith)))
 
 pub has-alternate-spec : {M : Type 1} → statement M
 has-alternate-spec =

@@ -16,6 +16,17 @@ Inv-loop list at₀ at = (at ≤ length list) × (all textWord (split 32 list) �
 abbrev μ-loop : tie.MeasureT-loop
 μ-loop list at₀ at = length list - at
 
+-- where a word was tried
+module _ (c : tie.After-is-text-word Inv-loop μ-loop) where
+  abbrev ended : tie.After-find Inv-loop μ-loop
+  ended = c .before .before
+
+  abbrev looped : tie.At-loop Inv-loop μ-loop
+  looped = ended .before
+
+  abbrev start : tie.Start Inv-loop μ-loop
+  start = looped .before .before
+
 loop-holds : tie.Need-loop-holds Inv-loop μ-loop
 loop-holds c = (search needs, refl)
 
@@ -36,19 +47,17 @@ is-text-word-requires c κs = search needs
 
 returns : tie.Need-returns Inv-loop μ-loop
 returns c =
-    let s = c .before .before .before .before .before .before .args .list .now in
-    let l = c .before .before .before .before .loop in
-    let f = c .before .before .before .find in
-    let word = sym (c .before .is-text-word .ensures) ∙ not-true _ (c .if1 .taken) in
-    sym (l .inv .1 ∙ each-stop textWord s (l .at) (f .result) (f .ensures .0) word)
+    let r = c .before in
+    let l = looped r .loop in
+    let word = sym (r .is-text-word .ensures) ∙ not-true _ (c .if1 .taken) in
+    sym (l .inv .1 ∙ each-stop textWord (start r .args .list .now) (l .at) _ (ended r .find .ensures .0) word)
 
 returns-2 : tie.Need-returns-2 Inv-loop μ-loop
 returns-2 c =
-    let s = c .before .before .before .before .before .before .before .args .list .now in
-    let l = c .before .before .before .before .before .loop in
-    let f = c .before .before .before .before .find in
-    let word = sym (c .before .before .is-text-word .ensures) ∙ not-false _ (c .before .if1 .left) in
-    sym (l .inv .1 ∙ each-last textWord s (l .at) (f .result) (f .ensures .0) word (omega arith))
+    let r = c .before .before in
+    let l = looped r .loop in
+    let word = sym (r .is-text-word .ensures) ∙ not-false _ (c .before .if1 .left) in
+    sym (l .inv .1 ∙ each-last textWord (start r .args .list .now) (l .at) _ (ended r .find .ensures .0) word (omega arith))
 
 add-at : tie.Need-add-at Inv-loop μ-loop
 add-at c = search needs
@@ -58,11 +67,10 @@ loop-less c = search needs
 
 loop-again : tie.Need-loop-again Inv-loop μ-loop
 loop-again c =
-    let s = c .before .before .before .before .before .before .before .args .list .now in
-    let l = c .before .before .before .before .before .loop in
-    let f = c .before .before .before .before .find in
-    let word = sym (c .before .before .is-text-word .ensures) ∙ not-false _ (c .before .if1 .left) in
-    (search needs, l .inv .1 ∙ each-next textWord s (l .at) (f .result) (f .ensures .0) word (omega arith))
+    let r = c .before .before in
+    let l = looped r .loop in
+    let word = sym (r .is-text-word .ensures) ∙ not-false _ (c .before .if1 .left) in
+    (search needs, l .inv .1 ∙ each-next textWord (start r .args .list .now) (l .at) _ (ended r .find .ensures .0) word (omega arith))
 
 pub text-words-spec : {M : Type 1} → statement M
 text-words-spec =

@@ -26,8 +26,10 @@ is-letter-requires-3 c κs = search needs
 
 returns-3 : tie.Need-returns-3
 returns-3 c =
-    let one = sym (c .before .before .before .before .before .is-letter .ensures) ∙ not-false _ (c .before .before .before .before .if1 .left) in
-    let two = sym (c .before .before .before .is-letter2 .ensures) ∙ not-false _ (c .before .before .if2 .left) in
+    let d = c .before .before in
+    let e = d .before .before in
+    let one = sym (e .before .is-letter .ensures) ∙ not-false _ (e .if1 .left) in
+    let two = sym (d .before .is-letter2 .ensures) ∙ not-false _ (d .if2 .left) in
     let three = sym (c .before .is-letter3 .ensures) ∙ not-true _ (c .if3 .taken) in
     rw (one, two, three)
 
@@ -36,10 +38,12 @@ is-letter-requires-4 c κs = search needs
 
 returns-4 : tie.Need-returns-4
 returns-4 c =
-    let d = c .before in
-    let one = sym (d .before .before .before .before .before .is-letter .ensures) ∙ not-false _ (d .before .before .before .before .if1 .left) in
-    let two = sym (d .before .before .before .is-letter2 .ensures) ∙ not-false _ (d .before .before .if2 .left) in
-    let three = sym (d .before .is-letter3 .ensures) ∙ not-false _ (d .if3 .left) in
+    let f = c .before in
+    let d = f .before .before in
+    let e = d .before .before in
+    let one = sym (e .before .is-letter .ensures) ∙ not-false _ (e .if1 .left) in
+    let two = sym (d .before .is-letter2 .ensures) ∙ not-false _ (d .if2 .left) in
+    let three = sym (f .before .is-letter3 .ensures) ∙ not-false _ (f .if3 .left) in
     rw (one, two, three) (last-test _ _ (c .is-letter4 .ensures))
 
 pub is-letters-spec : {M : Type 1} → statement M
