@@ -7,6 +7,14 @@ use borrow.Author.Needs.{needs}
 use Rattle.route.proofs.element.Statement.{statement}
 use Rattle.route.proofs.element.Tie as tie
 
+-- where what stands before the oblique was compared with C
+module _ (c : tie.After-same-bytes) where
+  abbrev ended : tie.After-find
+  ended = c .before .before .before .before
+
+  abbrev start : tie.Start
+  start = ended .before .before
+
 find-requires : tie.Need-find-requires
 find-requires c κs = search needs
 
@@ -44,20 +52,22 @@ climb-requires c κs = search needs
 
 returns-2 : tie.Need-returns-2
 returns-2 c =
-    let a = c .before .before .before .before .before .before .before .before .before .args in
-    let f = c .before .before .before .before .before .before .before .find in
-    let at = element-at (a .w .now) (f .result) (f .ensures .0) (a .last) (c .before .before .before .before .before .before .if1 .left) (f .ensures .1 .1) in
-    rw (at, sym (c .before .before .before .same-bytes .ensures) ∙ c .before .before .if2 .taken) (c .climb .ensures ∙ climbs-rest (a .w .now) (f .result + 1))
+    let r = c .before .before .before in
+    let a = start r .args in
+    let f = ended r .find in
+    let at = element-at (a .w .now) (f .result) (f .ensures .0) (a .last) (r .before .before .before .if1 .left) (f .ensures .1 .1) in
+    rw (at, sym (r .same-bytes .ensures) ∙ c .before .before .if2 .taken) (c .climb .ensures ∙ climbs-rest (a .w .now) (f .result + 1))
 
 change-requires : tie.Need-change-requires
 change-requires c κs = search needs
 
 returns-3 : tie.Need-returns-3
 returns-3 c =
-    let a = c .before .before .before .before .before .before .before .before .args in
-    let f = c .before .before .before .before .before .before .find in
-    let at = element-at (a .w .now) (f .result) (f .ensures .0) (a .last) (c .before .before .before .before .before .if1 .left) (f .ensures .1 .1) in
-    rw (at, sym (c .before .before .same-bytes .ensures) ∙ c .before .if2 .left) (c .change .ensures)
+    let r = c .before .before in
+    let a = start r .args in
+    let f = ended r .find in
+    let at = element-at (a .w .now) (f .result) (f .ensures .0) (a .last) (r .before .before .before .if1 .left) (f .ensures .1 .1) in
+    rw (at, sym (r .same-bytes .ensures) ∙ c .before .if2 .left) (c .change .ensures)
 
 pub element-spec : {M : Type 1} → statement M
 element-spec =

@@ -37,10 +37,10 @@ element-requires c κs = search needs
 
 returns : tie.Need-returns Inv-loop μ-loop
 returns c =
-    let l = c .before .before .before .before .loop in
-    let f = c .before .before .before .find in
-    let s = c .before .before .before .before .before .before .args .s .now in
-    c .element .ensures ∙ sym (l .inv .1 ∙ route-last s (l .at) (f .result) (f .ensures .0) (omega arith))
+    let e = c .before .before .before in
+    let l = e .before in
+    let s = l .before .before .args .s .now in
+    c .element .ensures ∙ sym (l .loop .inv .1 ∙ route-last s (l .loop .at) (e .find .result) (e .find .ensures .0) (omega arith))
 
 sub-element-2 : tie.Need-sub-element-2 Inv-loop μ-loop
 sub-element-2 c = search needs
@@ -56,10 +56,10 @@ element-requires-2 c κs = search needs
 
 returns-2 : tie.Need-returns-2 Inv-loop μ-loop
 returns-2 c =
-    let l = c .before .before .before .before .before .loop in
-    let f = c .before .before .before .before .find in
-    let next = route-next (c .before .before .before .before .before .before .before .args .s .now) (l .at) (f .result) (f .ensures .0) (omega arith) in
-    sym (l .inv .1 ∙ rw (next, sym (c .before .element2 .ensures) ∙ not-true _ (c .if2 .taken)))
+    let e = c .before .before .before .before in
+    let l = e .before in
+    let next = route-next (l .before .before .args .s .now) (l .loop .at) (e .find .result) (e .find .ensures .0) (omega arith) in
+    sym (l .loop .inv .1 ∙ rw (next, sym (c .before .element2 .ensures) ∙ not-true _ (c .if2 .taken)))
 
 add-at : tie.Need-add-at Inv-loop μ-loop
 add-at c = search needs
@@ -69,10 +69,10 @@ loop-less c = search needs
 
 loop-again : tie.Need-loop-again Inv-loop μ-loop
 loop-again c =
-    let l = c .before .before .before .before .before .loop in
-    let f = c .before .before .before .before .find in
-    let next = route-next (c .before .before .before .before .before .before .before .args .s .now) (l .at) (f .result) (f .ensures .0) (omega arith) in
-    (search needs, l .inv .1 ∙ rw (next, sym (c .before .element2 .ensures) ∙ not-false _ (c .if2 .left)))
+    let e = c .before .before .before .before in
+    let l = e .before in
+    let next = route-next (l .before .before .args .s .now) (l .loop .at) (e .find .result) (e .find .ensures .0) (omega arith) in
+    (search needs, l .loop .inv .1 ∙ rw (next, sym (c .before .element2 .ensures) ∙ not-false _ (c .if2 .left)))
 
 pub elements-spec : {M : Type 1} → statement M
 elements-spec =

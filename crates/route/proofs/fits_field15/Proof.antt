@@ -1,14 +1,23 @@
 -- `route::fits_field15` meets its contract. Assumes nothing.
+use Prim.Native.Nat.{ℕ}
 use mathlib.Core.Path.{sym, _∙_}
+use mathlib.Core.List.{List}
 use native.Mathlib.Omega.{arith}
 use lib.ListN.{take}
 use lib.Seq.{length-take-le}
 use borrow.Author.Tests.{not-true, not-false}
-use Rattle.shape.specs.Shape.{any}
 use Rattle.route.proofs.Index.{field-one, field-more, starts-list}
 use borrow.Author.Needs.{needs}
 use Rattle.route.proofs.fits_field15.Statement.{statement}
 use Rattle.route.proofs.fits_field15.Tie as tie
+
+-- where the first word was tried
+module _ (c : tie.After-any) where
+  abbrev ended : tie.After-find
+  ended = c .before .before .before .before
+
+  abbrev content : List ℕ
+  content = ended .before .before .args .s .now
 
 find-requires : tie.Need-find-requires
 find-requires c κs = search needs
@@ -29,10 +38,10 @@ any-requires c κs = search needs
 
 returns-2 : tie.Need-returns-2
 returns-2 c =
-    let s = c .before .before .before .before .before .before .before .args .s .now in
-    let f = c .before .before .before .before .before .find in
-    let start = sym (c .before .any .ensures ∙ starts-list (take (f .result) s)) ∙ not-true _ (c .if2 .taken) in
-    rw (field-more s (f .result) (f .ensures .0) (omega arith), start)
+    let r = c .before in
+    let f = ended r .find in
+    let start = sym (r .any .ensures ∙ starts-list (take (f .result) (content r))) ∙ not-true _ (c .if2 .taken) in
+    rw (field-more (content r) (f .result) (f .ensures .0) (omega arith), start)
 
 add-elements : tie.Need-add-elements
 add-elements c = search needs
@@ -42,10 +51,10 @@ elements-requires c κs = search needs
 
 returns-3 : tie.Need-returns-3
 returns-3 c =
-    let s = c .before .before .before .before .before .before .before .before .args .s .now in
-    let f = c .before .before .before .before .before .before .find in
-    let start = sym (c .before .before .any .ensures ∙ starts-list (take (f .result) s)) ∙ not-false _ (c .before .if2 .left) in
-    rw (field-more s (f .result) (f .ensures .0) (omega arith), start) (c .elements .ensures)
+    let r = c .before .before in
+    let f = ended r .find in
+    let start = sym (r .any .ensures ∙ starts-list (take (f .result) (content r))) ∙ not-false _ (c .before .if2 .left) in
+    rw (field-more (content r) (f .result) (f .ensures .0) (omega arith), start) (c .elements .ensures)
 
 pub fits-field15-spec : {M : Type 1} → statement M
 fits-field15-spec =

@@ -4,7 +4,6 @@ use lib.Seq.{length-take-le}
 use borrow.Author.Tests.{not-true, not-false}
 use Rattle.text.specs.Words.{split}
 use Rattle.text.proofs.Index.{rest}
-use Rattle.shape.specs.Shape.{any}
 use Rattle.route.proofs.Index.{pair-none, pair-at}
 use borrow.Author.Needs.{needs}
 use Rattle.route.proofs.pair.Statement.{statement}
@@ -48,9 +47,10 @@ any-requires c κs = search needs
 
 returns-3 : tie.Need-returns-3
 returns-3 c =
-    let k = c .before .before .before .before .before in
+    let p = c .before .before .before in
+    let k = p .before .before in
     let f = k .before .find in
-    let point = sym (c .before .before .before .point .ensures) ∙ not-false _ (c .before .before .if2 .left) in
+    let point = sym (p .point .ensures) ∙ not-false _ (c .before .before .if2 .left) in
     rw (pair-at _ (f .result) (f .ensures .0) _ (k .if1 .left) (f .ensures .1 .1), point) (rw rest at (c .any .ensures))
 
 pub pair-spec : {M : Type 1} → statement M

@@ -29,7 +29,8 @@ fits-requires-2 c κs = search needs
 
 in-minutes-requires : tie.Need-in-minutes-requires
 in-minutes-requires c κs =
-    let w = c .before .before .before .before .before .before .before .args .w .now in
+    let k = c .before .before .before in
+    let w = k .before .before .before .before .args .w .now in
     fits-lengths (bytes "9999n99999e") w (sym (c .before .fits3 .ensures) ∙ c .if2 .taken)
 
 returns-2 : tie.Need-returns-2

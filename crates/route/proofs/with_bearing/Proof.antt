@@ -1,17 +1,31 @@
 -- `route::with_bearing` meets its contract. Assumes nothing.
 use mathlib.Core.Path.{_≡_, sym, ap, _∙_}
-use Prim.Native.Nat.{_-_}
+use Prim.Native.Nat.{ℕ, _-_}
 use native.Mathlib.Omega.{arith}
 use mathlib.Core.Bool.{true, false}
-use lib.ListN.{length}
+use mathlib.Core.List.{List}
+use lib.ListN.{length, take}
 use lib.Seq.{length-take-le}
 use borrow.Author.Tests.{not-true, not-false, le-leb, lt-leb}
+use Rattle.alphabet.specs.Alphabet.{sign}
+use Rattle.text.specs.Words.{all}
 use Rattle.text.proofs.Index.{rest}
 use Rattle.shape.specs.Shape.{fits, wide}
 use Rattle.route.specs.Points.{polar, polarOf, radialFits}
 use borrow.Author.Needs.{needs}
 use Rattle.route.proofs.with_bearing.Statement.{statement}
 use Rattle.route.proofs.with_bearing.Tie as tie
+
+-- where the front is of signs
+module _ (c : tie.Else2) where
+  abbrev short : tie.Else1
+  short = c .before .before .before
+
+  abbrev word : List ℕ
+  word = short .before .before .args .w .now
+
+  signs : all sign (take (length word - 6) word) ≡ true
+  signs = sym (c .before .all-of .ensures) ∙ not-false _ (c .if2 .left)
 
 returns : tie.Need-returns
 unfolding radialFits
@@ -48,11 +62,11 @@ fits-requires c κs = search needs
 returns-3 : tie.Need-returns-3
 unfolding radialFits
 returns-3 c =
-    let w = c .before .before .before .before .before .before .before .before .before .args .w .now in
-    let signs = sym (c .before .before .before .before .before .all-of .ensures) ∙ not-false _ (c .before .before .before .before .if2 .left) in
-    let shape : fits (wide polar) (polarOf w) ≡ false
-    = ap (fits (wide polar)) (sym (rest w (length w - 6))) ∙ sym (c .before .fits2 .ensures) ∙ not-true _ (c .if3 .taken) in
-    rw (le-leb _ _ (c .before .before .before .before .before .before .before .if1 .left), signs, shape)
+    let f = c .before in
+    let d = f .before .before .before in
+    let shape : fits (wide polar) (polarOf (word d)) ≡ false
+    = ap (fits (wide polar)) (sym (rest (word d) (length (word d) - 6))) ∙ sym (f .fits2 .ensures) ∙ not-true _ (c .if3 .taken) in
+    rw (le-leb _ _ (short d .if1 .left), signs d, shape)
 
 three-requires : tie.Need-three-requires
 three-requires c κs = search needs
@@ -60,11 +74,11 @@ three-requires c κs = search needs
 returns-4 : tie.Need-returns-4
 unfolding radialFits
 returns-4 c =
-    let w = c .before .before .before .before .before .before .before .before .before .before .args .w .now in
-    let signs = sym (c .before .before .before .before .before .before .all-of .ensures) ∙ not-false _ (c .before .before .before .before .before .if2 .left) in
-    let shape : fits (wide polar) (polarOf w) ≡ true
-    = ap (fits (wide polar)) (sym (rest w (length w - 6))) ∙ sym (c .before .before .fits2 .ensures) ∙ not-false _ (c .before .if3 .left) in
-    rw (le-leb _ _ (c .before .before .before .before .before .before .before .before .if1 .left), signs, shape, c .three .ensures .0)
+    let f = c .before .before in
+    let d = f .before .before .before in
+    let shape : fits (wide polar) (polarOf (word d)) ≡ true
+    = ap (fits (wide polar)) (sym (rest (word d) (length (word d) - 6))) ∙ sym (f .fits2 .ensures) ∙ not-false _ (c .before .if3 .left) in
+    rw (le-leb _ _ (short d .if1 .left), signs d, shape, c .three .ensures .0)
 
 pub with-bearing-spec : {M : Type 1} → statement M
 with-bearing-spec =
