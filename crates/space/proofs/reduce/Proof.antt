@@ -1,9 +1,9 @@
 -- `space::reduce` meets its contract. Assumes nothing.
-use Prim.Native.Nat.{_+_, _-_}
-use mathlib.Core.Path.{refl, sym, ap, _∙_}
-use mathlib.Core.Bool.{Bool}
-use lib.ListN.{length, drop, getD}
-use Rattle.space.specs.Reduced.{opens, standsForRun}
+use Prim.Native.Nat.{ℕ, _-_}
+use mathlib.Core.Path.{refl}
+use mathlib.Core.List.{List}
+use lib.ListN.{length, getD}
+use Rattle.space.specs.Reduced.{opens}
 use Rattle.space.proofs.Index.{Reducing, turn-byte, turn-space, turn-out, reducing-starts, reducing-ends}
 use borrow.Author.Needs.{needs}
 use native.Mathlib.Omega.{arith}
@@ -15,6 +15,14 @@ Inv-loop msg buf₀ n₀ i₀ last₀ buf n i last = Reducing msg buf₀ buf n i
 
 abbrev μ-loop : tie.MeasureT-loop
 μ-loop msg buf₀ n₀ i₀ last₀ buf n i last = length msg - i
+
+-- where a byte was tried
+module _ (c : tie.After-is-white Inv-loop μ-loop) where
+  abbrev looped : tie.At-loop Inv-loop μ-loop
+  looped = c .before .before .before
+
+  abbrev message : List ℕ
+  message = looped .before .before .before .args .msg .now
 
 loop-holds : tie.Need-loop-holds Inv-loop μ-loop
 unfolding opens
@@ -46,20 +54,18 @@ loop-less c = search needs
 
 loop-again : tie.Need-loop-again Inv-loop μ-loop
 loop-again c =
-    let l = c .before .before .before .before .before .before .before .loop in
-    let m = c .before .before .before .before .before .before .before .before .before .before .args .msg .now in
-    let run = ap (λ (a : Bool). standsForRun a (drop (l .i + 1) m)) (sym (c .before .before .is-opening .ensures)) ∙ sym (c .before .stands-for-run .ensures) ∙ c .if2 .taken in
-    turn-space m _ (l .buf) (l .n) (l .i) (opens (l .last)) (l .inv) (omega arith) (omega arith) (cc) run
+    let r = c .before .before .before .before in
+    let l = looped r .loop in
+    turn-space (message r) _ (l .buf) (l .n) (l .i) (opens (l .last)) (l .inv) (omega arith) (omega arith) (cc) (cc)
 
 loop-less-2 : tie.Need-loop-less-2 Inv-loop μ-loop
 loop-less-2 c = search needs
 
 loop-again-2 : tie.Need-loop-again-2 Inv-loop μ-loop
 loop-again-2 c =
-    let l = c .before .before .before .before .before .before .before .loop in
-    let m = c .before .before .before .before .before .before .before .before .before .before .args .msg .now in
-    let run = ap (λ (a : Bool). standsForRun a (drop (l .i + 1) m)) (sym (c .before .before .is-opening .ensures)) ∙ sym (c .before .stands-for-run .ensures) ∙ c .if2 .left in
-    turn-out m _ (l .buf) (l .n) (l .i) (opens (l .last)) (l .inv) (omega arith) (cc) run
+    let r = c .before .before .before .before in
+    let l = looped r .loop in
+    turn-out (message r) _ (l .buf) (l .n) (l .i) (opens (l .last)) (l .inv) (omega arith) (cc) (cc)
 
 slice-write-buf-2 : tie.Need-slice-write-buf-2 Inv-loop μ-loop
 slice-write-buf-2 c = search needs
@@ -72,9 +78,10 @@ loop-less-3 c = search needs
 
 loop-again-3 : tie.Need-loop-again-3 Inv-loop μ-loop
 loop-again-3 c =
-    let l = c .before .before .before .before .loop in
-    let m = c .before .before .before .before .before .before .before .args .msg .now in
-    turn-byte m _ (l .buf) (l .n) (l .i) (opens (l .last)) (l .inv) (omega arith) (omega arith) (cc) (opens (getD m (l .i) 0)) refl
+    let r = c .before in
+    let l = looped r .loop in
+    let b = getD (message r) (l .i) 0 in
+    turn-byte (message r) _ (l .buf) (l .n) (l .i) (opens (l .last)) (l .inv) (omega arith) (omega arith) (cc) (opens b) refl
 
 same-length : tie.Need-same-length Inv-loop μ-loop
 same-length c = search needs

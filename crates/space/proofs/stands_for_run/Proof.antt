@@ -21,7 +21,8 @@ is-closing-requires c κs = search needs
 
 returns-3 : tie.Need-returns-3
 returns-3 c =
-    let k = c .before .before .before .before .before in
+    let w = c .before .before .before in
+    let k = w .before .before in
     let a = k .before .before .args in
     stands-before (a .msg .now) (a .after) (a .at) (k .if1 .taken) (c .is-closing .result) (cc) (cc) (cc)
 
