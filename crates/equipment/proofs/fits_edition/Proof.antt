@@ -4,20 +4,27 @@ use borrow.Author.Tests.{not-true, not-false}
 use lib.Seq.{length-take-le}
 use Rattle.text.specs.Words.{cells}
 use Rattle.text.proofs.Index.{rest}
-use Rattle.equipment.specs.Field10.{edition}
+use Rattle.equipment.specs.Field10.{Edition, edition}
 use Rattle.equipment.proofs.Laws.{no-oblique, at-oblique}
 use borrow.Author.Needs.{needs}
 use Rattle.equipment.proofs.fits_edition.Statement.{statement}
 use Rattle.equipment.proofs.fits_edition.Tie as tie
+
+-- where the oblique was looked for
+module _ (c : tie.After-find) where
+  abbrev start : tie.Start
+  start = c .before .before .before .before
+
+  abbrev asked : Edition
+  asked = edition (cells 2 (start .args .left .now)) (start .args .most-left) (cells 2 (start .args .right .now)) (start .args .most-right)
 
 find-requires : tie.Need-find-requires
 find-requires c κs = search needs
 
 returns : tie.Need-returns
 returns c =
-    let a = c .before .before .before .before .before .args in
-    let e = edition (cells 2 (a .left .now)) (a .most-left) (cells 2 (a .right .now)) (a .most-right) in
-    sym (no-oblique e (a .s .now) (c .before .find .result) (c .before .find .ensures .0) (c .if1 .taken))
+    let r = c .before in
+    sym (no-oblique (asked r) (start r .args .s .now) (r .find .result) (r .find .ensures .0) (c .if1 .taken))
 
 slice-aggregate-side : tie.Need-slice-aggregate-side
 slice-aggregate-side c = sym (length-take-le _ _ (c .before .before .find .ensures .1 .1))
@@ -27,11 +34,11 @@ side-requires c κs = search needs
 
 returns-2 : tie.Need-returns-2
 returns-2 c =
-    let a = c .before .before .before .before .before .before .before .before .args in
-    let e = edition (cells 2 (a .left .now)) (a .most-left) (cells 2 (a .right .now)) (a .most-right) in
-    let f = c .before .before .before .before .find in
+    let n = c .before .before .before in
+    let r = n .before in
+    let f = r .find in
     rw (
-      at-oblique e (a .s .now) (f .result) (f .ensures .0) (c .before .before .before .if1 .left) (f .ensures .1 .1),
+      at-oblique (asked r) (start r .args .s .now) (f .result) (f .ensures .0) (n .if1 .left) (f .ensures .1 .1),
       sym (c .before .side .ensures) ∙ not-true _ (c .if2 .taken),
     )
 
@@ -52,12 +59,13 @@ side-requires-2 c κs = search needs
 
 returns-3 : tie.Need-returns-3
 returns-3 c =
-    let a = c .before .before .before .before .before .before .before .before .before .before .args in
-    let e = edition (cells 2 (a .left .now)) (a .most-left) (cells 2 (a .right .now)) (a .most-right) in
-    let f = c .before .before .before .before .before .before .find in
+    let s = c .before .before .before in
+    let n = s .before .before in
+    let r = n .before in
+    let f = r .find in
     rw (
-      at-oblique e (a .s .now) (f .result) (f .ensures .0) (c .before .before .before .before .before .if1 .left) (f .ensures .1 .1),
-      sym (c .before .before .before .side .ensures) ∙ not-false _ (c .before .before .if2 .left),
+      at-oblique (asked r) (start r .args .s .now) (f .result) (f .ensures .0) (n .if1 .left) (f .ensures .1 .1),
+      sym (s .side .ensures) ∙ not-false _ (c .before .before .if2 .left),
     )
     (rw rest at (c .side2 .ensures))
 
