@@ -27,9 +27,10 @@ is-white-requires c κs = search needs
 
 returns : tie.Need-returns Inv-loop μ-loop
 returns c =
-    let a = c .before .before .before .before .before .before .args in
-    let i = c .before .before .before .before .loop .i in
-    omega (arith, white-stop (a .s .now) i (c .before .before .before .loop-test .taken) (sym (c .before .is-white .ensures) ∙ not-true _ (c .if1 .taken)))
+    let t = c .before .before .before in
+    let l = t .before in
+    let white = sym (c .before .is-white .ensures) ∙ not-true _ (c .if1 .taken) in
+    omega (arith, white-stop (l .before .before .args .s .now) (l .loop .i) (t .loop-test .taken) white)
 
 add-i : tie.Need-add-i Inv-loop μ-loop
 add-i c = search needs
@@ -39,9 +40,10 @@ loop-less c = search needs
 
 loop-again : tie.Need-loop-again Inv-loop μ-loop
 loop-again c =
-    let a = c .before .before .before .before .before .before .args in
-    let i = c .before .before .before .before .loop .i in
-    omega (arith, white-next (a .s .now) i (c .before .before .before .loop-test .taken) (sym (c .before .is-white .ensures) ∙ not-false _ (c .if1 .left)))
+    let t = c .before .before .before in
+    let l = t .before in
+    let white = sym (c .before .is-white .ensures) ∙ not-false _ (c .if1 .left) in
+    omega (arith, white-next (l .before .before .args .s .now) (l .loop .i) (t .loop-test .taken) white)
 
 returns-2 : tie.Need-returns-2 Inv-loop μ-loop
 returns-2 c =
