@@ -45,10 +45,11 @@ inner-bytes-requires c κs = search needs
 returns-5 : tie.Need-returns-5
 returns-5 c =
     let t = c .before .before .before .before in
-    let m = t .before .before .before .before .before .args .msg .now in
+    let s = t .before .before .before in
+    let m = s .before .before .args .msg .now in
     let i : length m - 1 - 1 ≡ length m - 2 = omega arith in
     let f : Framed m = record { long = t .before .before .if2 .left; first = t .if3 .left; last = c .before .before .if4 .left } in
-    walked m (t .before .before .before .if1 .left) f _ (c .inner-bytes .result) (ap (λ (k : ℕ). take k (drop 1 m)) i) (c .inner-bytes .ensures .0)
+    walked m (s .if1 .left) f _ (c .inner-bytes .result) (ap (λ (k : ℕ). take k (drop 1 m)) i) (c .inner-bytes .ensures .0)
 
 pub passes-spec : {M : Type 1} → statement M
 passes-spec =
