@@ -63,7 +63,8 @@ unfolding total
 join-total c w [] = omega arith
 join-total c w (v ∷ ws) = omega (arith, length-append w (c ∷ join c (v ∷ ws)), join-total c v ws)
 
-total-shorter : (fs : List Field) → LawsAll fs → (rs : Records fs) → validAll fs rs ≡ true → total (contentsOf fs (canonicalAll fs rs)) ≤ total (contentsOf fs rs)
+total-shorter : (fs : List Field) → LawsAll fs → (rs : Records fs) → validAll fs rs ≡ true
+    → total (contentsOf fs (canonicalAll fs rs)) ≤ total (contentsOf fs rs)
 unfolding total
 total-shorter [] k rs v = omega arith
 total-shorter (f ∷ fs) k rs v =
