@@ -1,12 +1,32 @@
 -- `plan::departure_unexplained` meets its contract. Assumes nothing.
-use mathlib.Core.Path.{ap}
-use mathlib.Core.Bool.{not}
+use mathlib.Core.Path.{_≡_, ap}
+use mathlib.Core.Bool.{Bool, not}
 use Rattle.alphabet.specs.Text.{bytes}
 use Rattle.plan.proofs.Laws.{told}
 use Rattle.aerodromes.specs.Aerodromes.{aerodromeOf}
+use Rattle.plan.specs.Unexplained.{unlisted, filedInFlight}
 use borrow.Author.Needs.{needs}
 use Rattle.plan.proofs.departure_unexplained.Statement.{statement}
 use Rattle.plan.proofs.departure_unexplained.Tie as tie
+
+-- where the aerodrome was compared with ZZZZ
+module _ (c : tie.After-same-bytes) where
+  abbrev named : tie.After-aerodrome-of
+  named = c .before .before
+
+  abbrev start : tie.Start
+  start = named .before .before .before
+
+  zzzz : {b : Bool} → c .same-bytes .result ≡ b → unlisted (aerodromeOf (start .args .thirteen .now)) ≡ b
+  zzzz = told _ (bytes "ZZZZ") (named .aerodrome-of .ensures) (c .same-bytes .ensures)
+
+-- where it was compared with AFIL
+module _ (c : tie.After-same-bytes2) where
+  abbrev other : tie.Else1
+  other = c .before .before .before
+
+  afil : {b : Bool} → c .same-bytes2 .result ≡ b → filedInFlight (aerodromeOf (start (other .before) .args .thirteen .now)) ≡ b
+  afil = told _ (bytes "AFIL") (c .before .before .aerodrome-of2 .ensures) (c .same-bytes2 .ensures)
 
 aerodrome-of-requires : tie.Need-aerodrome-of-requires
 aerodrome-of-requires c κs = search needs
@@ -24,7 +44,7 @@ has-key-requires : tie.Need-has-key-requires
 has-key-requires c κs = search needs
 
 returns : tie.Need-returns
-returns c = rw (told (aerodromeOf (c .before .before .before .before .before .before .before .before .args .thirteen .now)) (bytes "ZZZZ") (c .before .before .before .before .before .aerodrome-of .ensures) (c .before .before .before .same-bytes .ensures) (c .before .before .if1 .taken)) (ap not (c .has-key .ensures))
+returns c = rw (zzzz (c .before .before .before) (c .before .before .if1 .taken)) (ap not (c .has-key .ensures))
 
 aerodrome-of-requires-2 : tie.Need-aerodrome-of-requires-2
 aerodrome-of-requires-2 c κs = search needs
@@ -43,14 +63,12 @@ has-key-requires-2 c κs = search needs
 
 returns-2 : tie.Need-returns-2
 returns-2 c =
-    let a = aerodromeOf (c .before .before .before .before .before .before .before .before .before .before .before .before .args .thirteen .now) in
-    rw (told a (bytes "ZZZZ") (c .before .before .before .before .before .before .before .before .before .aerodrome-of .ensures) (c .before .before .before .before .before .before .before .same-bytes .ensures) (c .before .before .before .before .before .before .if1 .left), told a (bytes "AFIL") (c .before .before .before .before .before .aerodrome-of2 .ensures) (c .before .before .before .same-bytes2 .ensures) (c .before .before .if2 .taken))
-    (ap not (c .has-key2 .ensures))
+    let d = c .before .before .before in
+    let e = other d in
+    rw (zzzz (e .before) (e .if1 .left), afil d (c .before .before .if2 .taken)) (ap not (c .has-key2 .ensures))
 
 returns-3 : tie.Need-returns-3
-returns-3 c =
-    let a = aerodromeOf (c .before .before .before .before .before .before .before .before .before .before .args .thirteen .now) in
-    rw (told a (bytes "ZZZZ") (c .before .before .before .before .before .before .before .aerodrome-of .ensures) (c .before .before .before .before .before .same-bytes .ensures) (c .before .before .before .before .if1 .left), told a (bytes "AFIL") (c .before .before .before .aerodrome-of2 .ensures) (c .before .same-bytes2 .ensures) (c .if2 .left))
+returns-3 c = let e = other (c .before) in rw (zzzz (e .before) (e .if1 .left), afil (c .before) (c .if2 .left))
 
 pub departure-unexplained-spec : {M : Type 1} → statement M
 departure-unexplained-spec =

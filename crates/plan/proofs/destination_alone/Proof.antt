@@ -3,7 +3,6 @@ use mathlib.Core.Path.{ap}
 use mathlib.Core.Bool.{not}
 use Rattle.alphabet.specs.Text.{bytes}
 use Rattle.plan.proofs.Laws.{told}
-use Rattle.aerodromes.specs.Aerodromes.{aerodromeOf}
 use borrow.Author.Needs.{needs}
 use Rattle.plan.proofs.destination_alone.Statement.{statement}
 use Rattle.plan.proofs.destination_alone.Tie as tie
@@ -24,10 +23,15 @@ has-key-requires : tie.Need-has-key-requires
 has-key-requires c κs = search needs
 
 returns : tie.Need-returns
-returns c = rw (told (aerodromeOf (c .before .before .before .before .before .before .before .before .args .sixteen .now)) (bytes "ZZZZ") (c .before .before .before .before .before .aerodrome-of .ensures) (c .before .before .before .same-bytes .ensures) (c .before .before .if1 .taken)) (ap not (c .has-key .ensures))
+returns c =
+    let compared = c .before .before .before in
+    rw (told _ (bytes "ZZZZ") (compared .before .before .aerodrome-of .ensures) (compared .same-bytes .ensures) (c .before .before .if1 .taken))
+    (ap not (c .has-key .ensures))
 
 returns-2 : tie.Need-returns-2
-returns-2 c = rw (told (aerodromeOf (c .before .before .before .before .before .before .args .sixteen .now)) (bytes "ZZZZ") (c .before .before .before .aerodrome-of .ensures) (c .before .same-bytes .ensures) (c .if1 .left))
+returns-2 c =
+    let compared = c .before in
+    rw (told _ (bytes "ZZZZ") (compared .before .before .aerodrome-of .ensures) (compared .same-bytes .ensures) (c .if1 .left))
 
 pub destination-alone-spec : {M : Type 1} → statement M
 destination-alone-spec =

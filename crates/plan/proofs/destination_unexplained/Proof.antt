@@ -24,10 +24,16 @@ has-key-requires : tie.Need-has-key-requires
 has-key-requires c κs = search needs
 
 returns-2 : tie.Need-returns-2
-returns-2 c = rw (sym (c .before .before .before .before .before .before .destination-alone .ensures) ∙ c .before .before .before .before .before .if1 .left, sym (c .before .before .before .has-alternate .ensures) ∙ c .before .before .if2 .taken) (ap not (c .has-key .ensures))
+returns-2 c =
+    let d = c .before .before .before in
+    let other = d .before .before in
+    rw (sym (other .before .destination-alone .ensures) ∙ other .if1 .left, sym (d .has-alternate .ensures) ∙ c .before .before .if2 .taken)
+    (ap not (c .has-key .ensures))
 
 returns-3 : tie.Need-returns-3
-returns-3 c = rw (sym (c .before .before .before .before .destination-alone .ensures) ∙ c .before .before .before .if1 .left, sym (c .before .has-alternate .ensures) ∙ c .if2 .left)
+returns-3 c =
+    let other = c .before .before .before in
+    rw (sym (other .before .destination-alone .ensures) ∙ other .if1 .left, sym (c .before .has-alternate .ensures) ∙ c .if2 .left)
 
 pub destination-unexplained-spec : {M : Type 1} → statement M
 destination-unexplained-spec =

@@ -3,8 +3,6 @@ use mathlib.Core.Path.{ap}
 use mathlib.Core.Bool.{not}
 use Rattle.alphabet.specs.Text.{bytes}
 use Rattle.plan.proofs.Laws.{told}
-use Rattle.text.specs.Words.{before}
-use Rattle.head.specs.Field9.{aircraft}
 use borrow.Author.Needs.{needs}
 use Rattle.plan.proofs.type_unexplained.Statement.{statement}
 use Rattle.plan.proofs.type_unexplained.Tie as tie
@@ -25,10 +23,15 @@ has-key-requires : tie.Need-has-key-requires
 has-key-requires c κs = search needs
 
 returns : tie.Need-returns
-returns c = rw (told (before 47 (aircraft (c .before .before .before .before .before .before .before .before .args .nine .now))) (bytes "ZZZZ") (c .before .before .before .before .before .aircraft-type .ensures) (c .before .before .before .same-bytes .ensures) (c .before .before .if1 .taken)) (ap not (c .has-key .ensures))
+returns c =
+    let compared = c .before .before .before in
+    rw (told _ (bytes "ZZZZ") (compared .before .before .aircraft-type .ensures) (compared .same-bytes .ensures) (c .before .before .if1 .taken))
+    (ap not (c .has-key .ensures))
 
 returns-2 : tie.Need-returns-2
-returns-2 c = rw (told (before 47 (aircraft (c .before .before .before .before .before .before .args .nine .now))) (bytes "ZZZZ") (c .before .before .before .aircraft-type .ensures) (c .before .same-bytes .ensures) (c .if1 .left))
+returns-2 c =
+    let compared = c .before in
+    rw (told _ (bytes "ZZZZ") (compared .before .before .aircraft-type .ensures) (compared .same-bytes .ensures) (c .if1 .left))
 
 pub type-unexplained-spec : {M : Type 1} → statement M
 type-unexplained-spec =

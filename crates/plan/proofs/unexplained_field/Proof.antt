@@ -17,18 +17,34 @@ departure-unexplained-requires c κs = search needs
 
 returns-2 : tie.Need-returns-2
 unfolding unexplained
-returns-2 c = rw (sym (c .before .before .before .type-unexplained .ensures) ∙ c .before .before .if1 .left, sym (c .before .departure-unexplained .ensures) ∙ c .if2 .taken)
+returns-2 c =
+    let typed = c .before .before in
+    rw (sym (typed .before .type-unexplained .ensures) ∙ typed .if1 .left, sym (c .before .departure-unexplained .ensures) ∙ c .if2 .taken)
 
 destination-unexplained-requires : tie.Need-destination-unexplained-requires
 destination-unexplained-requires c κs = search needs
 
 returns-3 : tie.Need-returns-3
 unfolding unexplained
-returns-3 c = rw (sym (c .before .before .before .before .before .type-unexplained .ensures) ∙ c .before .before .before .before .if1 .left, sym (c .before .before .before .departure-unexplained .ensures) ∙ c .before .before .if2 .left, sym (c .before .destination-unexplained .ensures) ∙ c .if3 .taken)
+returns-3 c =
+    let departed = c .before .before in
+    let typed = departed .before .before in
+    rw (
+      sym (typed .before .type-unexplained .ensures) ∙ typed .if1 .left,
+      sym (departed .before .departure-unexplained .ensures) ∙ departed .if2 .left,
+      sym (c .before .destination-unexplained .ensures) ∙ c .if3 .taken,
+    )
 
 returns-4 : tie.Need-returns-4
 unfolding unexplained
-returns-4 c = rw (sym (c .before .before .before .before .before .type-unexplained .ensures) ∙ c .before .before .before .before .if1 .left, sym (c .before .before .before .departure-unexplained .ensures) ∙ c .before .before .if2 .left, sym (c .before .destination-unexplained .ensures) ∙ c .if3 .left)
+returns-4 c =
+    let departed = c .before .before in
+    let typed = departed .before .before in
+    rw (
+      sym (typed .before .type-unexplained .ensures) ∙ typed .if1 .left,
+      sym (departed .before .departure-unexplained .ensures) ∙ departed .if2 .left,
+      sym (c .before .destination-unexplained .ensures) ∙ c .if3 .left,
+    )
 
 pub unexplained-field-spec : {M : Type 1} → statement M
 unexplained-field-spec =
