@@ -23,15 +23,15 @@ fits-form-requires c κs = search needs
 
 returns-2 : tie.Need-returns-2
 returns-2 c =
-    let a = c .before .before .before .before .before .args in
-    let n = c .before .before .before .number .ensures in
-    other-fault (a .f) (a .s .now) _ n (a .again) true (sym (c .if2 .taken) ∙ c .before .fits-form .ensures) (c .before .before .if1 .left)
+    let other = c .before .before in
+    let a = other .before .before .before .args in
+    other-fault (a .f) (a .s .now) _ (other .before .number .ensures) (a .again) true (sym (c .if2 .taken) ∙ c .before .fits-form .ensures) (other .if1 .left)
 
 returns-3 : tie.Need-returns-3
 returns-3 c =
-    let a = c .before .before .before .before .before .args in
-    let n = c .before .before .before .number .ensures in
-    other-fault (a .f) (a .s .now) _ n (a .again) false (sym (c .if2 .left) ∙ c .before .fits-form .ensures) (c .before .before .if1 .left)
+    let other = c .before .before in
+    let a = other .before .before .before .args in
+    other-fault (a .f) (a .s .now) _ (other .before .number .ensures) (a .again) false (sym (c .if2 .left) ∙ c .before .fits-form .ensures) (other .if1 .left)
 
 pub fault-of-spec : {M : Type 1} → statement M
 fault-of-spec =

@@ -22,24 +22,30 @@ returns-2 c =
 
 returns-3 : tie.Need-returns-3
 returns-3 c =
-    let n = sym (c .before .before .before .before .is-numbered .ensures) ∙ not-false _ (c .before .before .before .if1 .left) in
-    repeated _ _ n (λ e. c .before .if2 .left (c .before .before .rank-of-entry .ensures .0 ∙ e)) (c .if3 .taken)
+    let listed = c .before in
+    let numbered = listed .before .before in
+    let n = sym (numbered .before .is-numbered .ensures) ∙ not-false _ (numbered .if1 .left) in
+    repeated _ _ n (λ e. listed .if2 .left (listed .before .rank-of-entry .ensures .0 ∙ e)) (c .if3 .taken)
 
 fits-entry-requires : tie.Need-fits-entry-requires
 fits-entry-requires c κs = search needs
 
 returns-4 : tie.Need-returns-4
 returns-4 c =
-    let n = sym (c .before .before .before .before .before .before .is-numbered .ensures) ∙ not-false _ (c .before .before .before .before .before .if1 .left) in
-    right _ _ n (λ e. c .before .before .before .if2 .left (c .before .before .before .before .rank-of-entry .ensures .0 ∙ e))
-    (c .before .before .if3 .left)
+    let alone = c .before .before in
+    let listed = alone .before in
+    let numbered = listed .before .before in
+    let n = sym (numbered .before .is-numbered .ensures) ∙ not-false _ (numbered .if1 .left) in
+    right _ _ n (λ e. listed .if2 .left (listed .before .rank-of-entry .ensures .0 ∙ e)) (alone .if3 .left)
     (sym (c .before .fits-entry .ensures) ∙ c .if4 .taken)
 
 returns-5 : tie.Need-returns-5
 returns-5 c =
-    let n = sym (c .before .before .before .before .before .before .is-numbered .ensures) ∙ not-false _ (c .before .before .before .before .before .if1 .left) in
-    wrong _ _ n (λ e. c .before .before .before .if2 .left (c .before .before .before .before .rank-of-entry .ensures .0 ∙ e))
-    (c .before .before .if3 .left)
+    let alone = c .before .before in
+    let listed = alone .before in
+    let numbered = listed .before .before in
+    let n = sym (numbered .before .is-numbered .ensures) ∙ not-false _ (numbered .if1 .left) in
+    wrong _ _ n (λ e. listed .if2 .left (listed .before .rank-of-entry .ensures .0 ∙ e)) (alone .if3 .left)
     (sym (c .before .fits-entry .ensures) ∙ c .if4 .left)
 
 pub fault-of-entry-spec : {M : Type 1} → statement M

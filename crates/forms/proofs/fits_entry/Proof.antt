@@ -10,7 +10,7 @@ find-requires : tie.Need-find-requires
 find-requires c κs = search needs
 
 returns : tie.Need-returns
-returns c = none-fit (c .before .before .before .args .s .now) _ (c .before .find .ensures .0) (c .if1 .taken)
+returns c = none-fit _ _ (c .before .find .ensures .0) (c .if1 .taken)
 
 rank-of-entry-requires : tie.Need-rank-of-entry-requires
 rank-of-entry-requires c κs = search needs
@@ -32,9 +32,10 @@ fits-named-requires c κs = search needs
 
 returns-2 : tie.Need-returns-2
 returns-2 c =
-    let s = c .before .before .before .before .before .before .args .s .now in
-    let f = c .before .before .before .before .find .ensures in
-    c .fits-named .ensures ∙ rest-fits s _ (f .0) (c .before .before .before .if1 .left) (f .1 .1) _ _ (c .before .before .rank-of-entry .ensures .0) (rest s _)
+    let cut = c .before .before .before in
+    let s = cut .before .before .before .args .s .now in
+    let f = cut .before .find .ensures in
+    c .fits-named .ensures ∙ rest-fits s _ (f .0) (cut .if1 .left) (f .1 .1) _ _ (c .before .before .rank-of-entry .ensures .0) (rest s _)
 
 pub fits-entry-spec : {M : Type 1} → statement M
 fits-entry-spec =

@@ -19,9 +19,10 @@ returns-2 c =
 
 returns-3 : tie.Need-returns-3
 returns-3 c =
-    let a = c .before .before .before .before .before .args in
-    let f = c .before .before .before .find .ensures in
-    long-numbered (a .s .now) _ (f .0) (c .before .before .if1 .left) (f .1 .1) (c .before .if2 .left) (c .if3 .taken)
+    let cut = c .before .before in
+    let s = cut .before .before .before .args .s .now in
+    let f = cut .before .find .ensures in
+    long-numbered s _ (f .0) (cut .if1 .left) (f .1 .1) (c .before .if2 .left) (c .if3 .taken)
 
 slice-aggregate-all-of : tie.Need-slice-aggregate-all-of
 slice-aggregate-all-of c = sym (length-take-le _ _ (c .before .before .before .before .find .ensures .1 .1))
@@ -31,10 +32,11 @@ all-of-requires c κs = search needs
 
 returns-4 : tie.Need-returns-4
 returns-4 c =
-    let a = c .before .before .before .before .before .before .before .args in
-    let f = c .before .before .before .before .before .find .ensures in
-    let n = c .before .before .before .before .if1 .left in
-    c .all-of .ensures ∙ short-numbered (a .s .now) _ (f .0) n (f .1 .1) (c .before .before .before .if2 .left) (c .before .before .if3 .left)
+    let short = c .before .before in
+    let cut = short .before .before in
+    let s = cut .before .before .before .args .s .now in
+    let f = cut .before .find .ensures in
+    c .all-of .ensures ∙ short-numbered s _ (f .0) (cut .if1 .left) (f .1 .1) (short .before .if2 .left) (short .if3 .left)
 
 pub is-numbered-spec : {M : Type 1} → statement M
 is-numbered-spec =

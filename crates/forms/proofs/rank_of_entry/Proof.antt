@@ -21,7 +21,7 @@ rank-in-cells-requires c κs = search needs
 
 returns : tie.Need-returns
 unfolding labels
-returns c = rank-known (c .before .before .before .before .before .args .s .now) _ (c .before .before .before .find .ensures .0) _ (c .rank-in-cells .ensures)
+returns c = rank-known _ _ (c .before .before .before .find .ensures .0) _ (c .rank-in-cells .ensures)
 
 pub rank-of-entry-spec : {M : Type 1} → statement M
 rank-of-entry-spec =
