@@ -80,14 +80,16 @@ pub record Faultless (earlier : List ℕ) (fs : List Form) (cs : List Word) : Ty
   pub new : fresh earlier (ranksIn fs cs) ≡ true
   pub once : noneTwice (ranksIn fs cs) ≡ true
 
-pub clear-faultless : (earlier : List ℕ) (j : ℕ) (fs : List Form) (cs : List Word) → length fs ≡ length cs → faultFrom earlier j fs cs ≡ Clear → Faultless earlier fs cs
+pub clear-faultless : (earlier : List ℕ) (j : ℕ) (fs : List Form) (cs : List Word) → length fs ≡ length cs → faultFrom earlier j fs cs ≡ Clear
+    → Faultless earlier fs cs
 clear-faultless earlier j [] [] l e = record { fit = refl; new = refl; once = refl }
 clear-faultless earlier j [] (c ∷ cs) l e = absurd (omega arith)
 clear-faultless earlier j (f ∷ fs) [] l e = absurd (omega arith)
 clear-faultless earlier j (f ∷ fs) (c ∷ cs) l e =
     go (clear-faultless (rankIn f c ∷ earlier) (suc j) fs cs (omega arith)) (eqb (faultOf (oneOf (rankIn f c) earlier) f c) 0) refl e
   where
-    step : faultOf (oneOf (rankIn f c) earlier) f c ≡ 0 → Faultless (rankIn f c ∷ earlier) fs cs → (b : Bool) → isEntry f ≡ b → Faultless earlier (f ∷ fs) (c ∷ cs)
+    step : faultOf (oneOf (rankIn f c) earlier) f c ≡ 0 → Faultless (rankIn f c ∷ earlier) fs cs → (b : Bool) → isEntry f ≡ b
+        → Faultless earlier (f ∷ fs) (c ∷ cs)
     step z k true p =
         let w : rankIn f c ≡ whichOf c = rw p in
         let new : fresh (whichOf c ∷ earlier) (ranksIn fs cs) ≡ true = ap (λ (r : ℕ). fresh (r ∷ earlier) (ranksIn fs cs)) (sym w) ∙ k .new in
@@ -106,7 +108,8 @@ clear-faultless earlier j (f ∷ fs) (c ∷ cs) l e =
 
     go : (faultFrom (rankIn f c ∷ earlier) (suc j) fs cs ≡ Clear → Faultless (rankIn f c ∷ earlier) fs cs) → (b : Bool)
         → eqb (faultOf (oneOf (rankIn f c) earlier) f c) 0 ≡ b
-        → cond b (faultFrom (rankIn f c ∷ earlier) (suc j) fs cs) (At (faultOf (oneOf (rankIn f c) earlier) f c) j) ≡ Clear → Faultless earlier (f ∷ fs) (c ∷ cs)
+        → cond b (faultFrom (rankIn f c ∷ earlier) (suc j) fs cs) (At (faultOf (oneOf (rankIn f c) earlier) f c) j) ≡ Clear
+        → Faultless earlier (f ∷ fs) (c ∷ cs)
     go ih true p q = step (eqb-true (faultOf (oneOf (rankIn f c) earlier) f c) 0 p) (ih q) (isEntry f) refl
     go ih false p q = let z : _≡_ {A = ℕ} 0 1 = cc in absurd (omega arith)
 
@@ -118,7 +121,8 @@ faultless-clear earlier j (f ∷ fs) (c ∷ cs) k = go (faultless-clear (rankIn 
     h : (fieldOf f .fits c ≡ true) × (fitAll (map fieldOf fs) cs ≡ true)
     h = both (fieldOf f .fits c) (fitAll (map fieldOf fs) cs) (k .fit)
 
-    go : (Faultless (rankIn f c ∷ earlier) fs cs → faultFrom (rankIn f c ∷ earlier) (suc j) fs cs ≡ Clear) → (b : Bool) → isEntry f ≡ b → faultFrom earlier j (f ∷ fs) (c ∷ cs) ≡ Clear
+    go : (Faultless (rankIn f c ∷ earlier) fs cs → faultFrom (rankIn f c ∷ earlier) (suc j) fs cs ≡ Clear) → (b : Bool) → isEntry f ≡ b
+        → faultFrom earlier j (f ∷ fs) (c ∷ cs) ≡ Clear
     go ih true p =
         let w : rankIn f c ≡ whichOf c = rw p in
         let new : (not (oneOf (whichOf c) earlier) && fresh earlier (ranksIn fs cs)) ≡ true = rw p at (k .new) in

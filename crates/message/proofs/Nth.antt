@@ -63,5 +63,6 @@ unfolding behindHyphen
 behind-both zero n s = let z : n ≡ 0 + n = omega arith in ap (λ (k : ℕ). behindHyphen k s) z
 behind-both (suc j) n s = let z : suc (j + n) ≡ suc j + n = omega arith in behind-both j n (behind 45 s) ∙ ap (λ (k : ℕ). behindHyphen k s) z
 
-pub further : (j n : ℕ) (s : List ℕ) (at next : ℕ) → drop at s ≡ behindHyphen j s → drop next s ≡ behindHyphen n (drop at s) → drop next s ≡ behindHyphen (j + n) s
+pub further : (j n : ℕ) (s : List ℕ) (at next : ℕ) → drop at s ≡ behindHyphen j s → drop next s ≡ behindHyphen n (drop at s)
+    → drop next s ≡ behindHyphen (j + n) s
 further j n s at next d e = e ∙ ap (behindHyphen n) d ∙ behind-both j n s

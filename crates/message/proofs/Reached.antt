@@ -18,7 +18,8 @@ use Rattle.kinds.specs.Kinds.{leastOf, greatestOf, typeNamed}
 use Rattle.message.specs.declared.Fault.{Fault}
 use Rattle.message.specs.declared.Fault.the-variants.{Clear, At}
 use Rattle.message.specs.declared.Answer.the-variants.{Accepted, Refused}
-use Rattle.message.specs.Reading.{countOf, spellingOf, faultIn, isPlan, unexplainedIn, roomAs, explainedAs, faultAs, countAs, typeAs, three, outerAs, answerOf}
+use Rattle.message.specs.Reading.{countOf, spellingOf, faultIn, isPlan, unexplainedIn}
+use Rattle.message.specs.Reading.{roomAs, explainedAs, faultAs, countAs, typeAs, three, outerAs, answerOf}
 
 -- the field that is left unexplained; 0 for none, and in other types than FPL
 abbrev pub unexplainedAs : MessageType → List ℕ → ℕ
@@ -42,7 +43,8 @@ reached-room t m room r =
     ∙ rw (le-ltb (countOf m) (leastOf t) (r .least), le-ltb (greatestOf t) (countOf m) (r .most))
     (ap (λ (f : Fault). faultAs f t m room) (r .clear) ∙ ap (λ (u : ℕ). explainedAs u t m room) (r .explained))
 
-pub reached-accepted : (t : MessageType) (m : List ℕ) (room : ℕ) → Reached t m → length (spellingOf t m) ≤ room → answerOf m room ≡ Accepted t (length (spellingOf t m))
+pub reached-accepted : (t : MessageType) (m : List ℕ) (room : ℕ) → Reached t m → length (spellingOf t m) ≤ room
+    → answerOf m room ≡ Accepted t (length (spellingOf t m))
 reached-accepted t m room r h = reached-room t m room r ∙ rw (le-ltb room (length (spellingOf t m)) h)
 
 -- and an accepted one has passed them
@@ -80,7 +82,8 @@ module _ (t : MessageType) (m : List ℕ) (room n : ℕ) where
       (faultIn u (countOf m) (contents m)) refl e
 
   at-least : (u : MessageType) → outer m ≡ Good → typeNamed (three m) ≡ Read u → (b : Bool) → ltb (countOf m) (leastOf u) ≡ b → (place place′ : ℕ)
-      → cond b (Refused 6 0 place) (cond (ltb (greatestOf u) (countOf m)) (Refused 6 0 place′) (faultAs (faultIn u (countOf m) (contents m)) u m room)) ≡ Accepted t n
+      → cond b (Refused 6 0 place)
+      (cond (ltb (greatestOf u) (countOf m)) (Refused 6 0 place′) (faultAs (faultIn u (countOf m) (contents m)) u m room)) ≡ Accepted t n
       → Taken t m room n
   at-least u g k true p place place′ e = let z : _≡_ {A = ℕ} 0 1 = cc in absurd (omega arith)
   at-least u g k false p place place′ e =

@@ -28,7 +28,8 @@ use Rattle.message.specs.declared.Fault.{Fault}
 use Rattle.message.specs.declared.Fault.the-variants.{Clear, At}
 use Rattle.message.specs.declared.Answer.{Answer}
 use Rattle.message.specs.declared.Answer.the-variants.{Accepted, Refused}
-use Rattle.message.specs.Reading.{textOf, countOf, spelledFrom, spellingOf, faultIn, isPlan, unexplainedIn, placeInPlan, roomAs, faultAs, fieldsAs, countAs, Counted, typeAs, three, outerAs, answerOf, writtenAs, outAfter}
+use Rattle.message.specs.Reading.{textOf, countOf, spelledFrom, spellingOf, faultIn, isPlan, unexplainedIn, placeInPlan, Counted, three}
+use Rattle.message.specs.Reading.{roomAs, faultAs, fieldsAs, countAs, typeAs, outerAs, answerOf, writtenAs, outAfter}
 
 -- WHAT IS ANSWERED, AND WHAT IS WRITTEN
 
@@ -81,7 +82,8 @@ module _ (t : MessageType) (m : List ℕ) (count : ℕ) (s : List ℕ) (k : Coun
   fault-is : faultIn t count (split 45 s) ≡ faultIn t (countOf m) (contents m)
   fault-is = ap₂ (faultIn t) (k .count-is) contents-are
 
-  pub field-fault : (room number j : ℕ) → faultIn t count (split 45 s) ≡ At number j → fieldsAs t m room ≡ Refused number (numberOf (formAt t count j)) (placeOfHyphen j m)
+  pub field-fault : (room number j : ℕ) → faultIn t count (split 45 s) ≡ At number j
+      → fieldsAs t m room ≡ Refused number (numberOf (formAt t count j)) (placeOfHyphen j m)
   field-fault room number j e =
       ap (λ (f : Fault). faultAs f t m room) (sym fault-is ∙ e)
       ∙ ap₂ (λ (n p : ℕ). Refused number (numberOf (formAt t n j)) p) (sym (k .count-is)) (either (eqb number 7))
@@ -116,7 +118,8 @@ module _ (m buf : List ℕ) (n : ℕ) (g : outer m ≡ Good) (long : n ≡ lengt
   -- so the fields can be read there
   pub counted : (t : MessageType) (count : ℕ) → count ≡ countOf m → leastOf t ≤ count → count ≤ greatestOf t → (s : List ℕ) → s ≡ textOf m → Counted t m count s
   counted t count c l u s e =
-      let w : length s ≤ length (reduced m) = omega (arith, ap length e, length-take (length (reduced m) - 2) (drop 1 (reduced m)), length-drop 1 (reduced m)) in
+      let r = reduced m in
+      let w : length s ≤ length r = omega (arith, ap length e, length-take (length r - 2) (drop 1 r), length-drop 1 r) in
       record {
         count-is = c;
         text-is = e;
@@ -164,6 +167,7 @@ unfolding answerOf
 outer-as m room o e = ap (λ (x : Outer). outerAs x m room) e
 
 -- the whole: what is due is the answer, and the output after it
-pub whole-answer : (m out : List ℕ) (answer : Answer) (after : List ℕ) → Due (answerOf m (length out)) m out answer after → (answer ≡ answerOf m (length out)) × (after ≡ outAfter m out)
+pub whole-answer : (m out : List ℕ) (answer : Answer) (after : List ℕ) → Due (answerOf m (length out)) m out answer after
+    → (answer ≡ answerOf m (length out)) × (after ≡ outAfter m out)
 unfolding outAfter
 whole-answer m out answer after d = d

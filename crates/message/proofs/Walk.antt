@@ -32,10 +32,6 @@ abbrev pub Even : MessageType → ℕ → List ℕ → ℕ → ℕ → Type 0
 Even t n s at j = length (drop j (formsOf t n)) ≡ length (split 45 (drop at s))
 
 module _ (t : MessageType) (n : ℕ) (s : List ℕ) (at j e : ℕ) (end : e ≡ at + upTo 45 (drop at s)) (even : Even t n s at j) where
-  -- the content here
-  part : Word
-  part = take (e - at) (drop at s)
-
   pub parts-here : split 45 (drop at s) ≡ take (e - at) (drop at s) ∷ after 45 (drop e s)
   parts-here = split-at 45 s at e end
 
@@ -62,9 +58,6 @@ module _ (t : MessageType) (n : ℕ) (s : List ℕ) (at j e : ℕ) (end : e ≡ 
   -- FAULTS
 
   module _ (earlier : List ℕ) where
-    rank : ℕ
-    rank = rankIn (formAt t n j) (take (e - at) (drop at s))
-
     fault-turn : faultFrom earlier j (drop j (formsOf t n)) (split 45 (drop at s))
         ≡ cond (eqb (faultOf (oneOf (rankIn (formAt t n j) (take (e - at) (drop at s))) earlier) (formAt t n j) (take (e - at) (drop at s))) 0)
         (faultFrom (rankIn (formAt t n j) (take (e - at) (drop at s)) ∷ earlier) (suc j) (drop (j + 1) (formsOf t n)) (after 45 (drop e s)))
@@ -86,7 +79,8 @@ module _ (t : MessageType) (n : ℕ) (s : List ℕ) (at j e : ℕ) (end : e ≡ 
     fault-last z h = fault-turn earlier ∙ rw (number-is, eq-eqb number 0 z, last-form h)
 
     pub fault-next : number ≡ 0 → e < length s
-        → faultFrom earlier j (drop j (formsOf t n)) (split 45 (drop at s)) ≡ faultFrom (k ∷ earlier) (j + 1) (drop (j + 1) (formsOf t n)) (split 45 (drop (e + 1) s))
+        → faultFrom earlier j (drop j (formsOf t n)) (split 45 (drop at s))
+        ≡ faultFrom (k ∷ earlier) (j + 1) (drop (j + 1) (formsOf t n)) (split 45 (drop (e + 1) s))
     fault-next z h = fault-turn earlier ∙ rw (number-is, eq-eqb number 0 z, rank-is, after-here 45 s e h, add-one j)
 
   -- THE SPELLING
@@ -99,7 +93,8 @@ module _ (t : MessageType) (n : ℕ) (s : List ℕ) (at j e : ℕ) (end : e ≡ 
   spelled-last h = rw (last-form h)
 
   pub spelled-next : e < length s
-      → spelledFrom 45 (drop (j + 1) (formsOf t n)) (after 45 (drop e s)) ≡ spelledFrom (leadOf (j + 1)) (drop (j + 1) (formsOf t n)) (split 45 (drop (e + 1) s))
+      → spelledFrom 45 (drop (j + 1) (formsOf t n)) (after 45 (drop e s))
+      ≡ spelledFrom (leadOf (j + 1)) (drop (j + 1) (formsOf t n)) (split 45 (drop (e + 1) s))
   spelled-next h = rw (after-here 45 s e h, ne-eqb (j + 1) 0 (λ z. omega arith))
 
 -- WHICH RANKS HAVE BEEN SEEN
@@ -132,7 +127,8 @@ lead-write (b ∷ bs) w x h = refl
 
 -- TO A FIELD, hyphen by hyphen
 
-pub hyphen-turn : (s u : List ℕ) (at next left : ℕ) → Stepped 45 s at next → 0 < left → behindHyphen left (drop at s) ≡ u → behindHyphen (left - 1) (drop next s) ≡ u
+pub hyphen-turn : (s u : List ℕ) (at next left : ℕ) → Stepped 45 s at next → 0 < left → behindHyphen left (drop at s) ≡ u
+    → behindHyphen (left - 1) (drop next s) ≡ u
 unfolding behindHyphen
 hyphen-turn s u at next zero k h e = absurd (omega arith)
 hyphen-turn s u at next (suc left) k h e =
@@ -150,7 +146,8 @@ all-false [] e k = refl
 all-false (b ∷ l) e zero = not-true b (both (not b) (all not l) e .0)
 all-false (b ∷ l) e (suc k) = all-false l (both (not b) (all not l) e .1) k
 
-pub walk-starts : (t : MessageType) (n : ℕ) (s : List ℕ) (seen : List Bool) → length seen ≡ 9 → all not seen ≡ true → length (formsOf t n) ≡ length (split 45 s) → Walked t n s seen 0 0
+pub walk-starts : (t : MessageType) (n : ℕ) (s : List ℕ) (seen : List Bool) → length seen ≡ 9 → all not seen ≡ true
+    → length (formsOf t n) ≡ length (split 45 s) → Walked t n s seen 0 0
 walk-starts t n s seen l e even =
     record { inside = omega arith; few = omega arith; nine = l; even = even; earlier = []; marks = λ k h. all-false seen e k; same = refl }
 
@@ -188,11 +185,13 @@ module _ (t : MessageType) (n : ℕ) (s : List ℕ) (at j e : ℕ) (end : e ≡ 
   pub part-short : e ≤ length s → k ≤ e - at
   part-short h = omega (arith, written-short f (take (e - at) (drop at s)), length-take (e - at) (drop at s))
 
-  turn : length (spelledFrom (leadOf j) (drop j (formsOf t n)) (split 45 (drop at s))) ≡ 1 + k + length (spelledFrom 45 (drop (j + 1) (formsOf t n)) (after 45 (drop e s)))
+  turn : length (spelledFrom (leadOf j) (drop j (formsOf t n)) (split 45 (drop at s)))
+      ≡ 1 + k + length (spelledFrom 45 (drop (j + 1) (formsOf t n)) (after 45 (drop e s)))
   turn =
       let w = writtenOf (formAt t n j) (take (e - at) (drop at s)) in
+      let others = spelledFrom 45 (drop (j + 1) (formsOf t n)) (after 45 (drop e s)) in
       let z : k ≡ length w = is-long ∙ ap (λ (g : Form). length (writtenOf g (take (e - at) (drop at s)))) is-form in
-      omega (arith, ap length (spelled-turn t n s at j e end even), length-append (leadOf j ∷ w) (spelledFrom 45 (drop (j + 1) (formsOf t n)) (after 45 (drop e s))))
+      omega (arith, ap length (spelled-turn t n s at j e end even), length-append (leadOf j ∷ w) others)
 
   pub length-last : length s ≤ e → length (spelledFrom (leadOf j) (drop j (formsOf t n)) (split 45 (drop at s))) ≡ 1 + k + 1
   length-last h = turn ∙ ap (λ (l : List ℕ). 1 + k + length l) (spelled-last t n s at j e end even h)

@@ -1,9 +1,8 @@
 -- `message::fields_fault` meets its contract. Assumes nothing.
-use Rattle.message.proofs.Walk.{walk-starts, walk-found, walk-clear, walk-next}
 use Prim.Native.Nat.{_-_}
 use mathlib.Core.Path.{refl}
 use lib.ListN.{length}
-use Rattle.message.proofs.Walk.{Walked}
+use Rattle.message.proofs.Walk.{Walked, walk-starts, walk-found, walk-clear, walk-next}
 use borrow.Author.Needs.{needs}
 use native.Mathlib.Omega.{arith}
 use Rattle.message.proofs.fields_fault.Statement.{statement}
@@ -14,6 +13,20 @@ Inv-loop t count s seen₀ at₀ j₀ seen at j = Walked t count s seen at j
 
 abbrev μ-loop : tie.MeasureT-loop
 μ-loop t count s seen₀ at₀ j₀ seen at j = length s - at
+
+-- where a field's fault is known
+module _ (c : tie.After-fault-of Inv-loop μ-loop) where
+  abbrev ranked : tie.After-rank-in Inv-loop μ-loop
+  ranked = c .before .before
+
+  abbrev formed : tie.After-form-at Inv-loop μ-loop
+  formed = ranked .before .before
+
+  abbrev ended : tie.After-find Inv-loop μ-loop
+  ended = formed .before
+
+  abbrev so-far : tie.At-loop Inv-loop μ-loop
+  so-far = ended .before
 
 loop-holds : tie.Need-loop-holds Inv-loop μ-loop
 loop-holds c = let a = c .before in walk-starts (a .args .t) (a .args .count) (a .args .s .now) _ refl refl (a .pre)
@@ -53,17 +66,17 @@ fault-of-requires c κs = search needs
 
 returns : tie.Need-returns Inv-loop μ-loop
 returns c =
-    let a = c .before .before .before .before .before .before .before .before .before .args in
-    let l = c .before .before .before .before .before .before .before .loop in
-    walk-found (a .t) (a .count) (a .s .now) (l .seen) (l .at) (l .j) (c .before .before .before .before .before .before .find .result) (l .inv) (c .before .before .before .before .before .before .find .ensures .0) (c .before .before .before .before .before .form-at .result) (c .before .before .before .rank-in .result) (c .before .fault-of .result)
-    (c .before .before .before .before .before .form-at .ensures) (c .before .before .before .rank-in .ensures .0) (c .before .before .before .rank-in .ensures .1) (c .before .fault-of .ensures) (c .if1 .taken)
+    let d = c .before in
+    let r = ranked d .rank-in .ensures in
+    walk-found _ _ _ _ _ _ _ (so-far d .loop .inv) (ended d .find .ensures .0) _ _ _ (formed d .form-at .ensures) (r .0) (r .1) (d .fault-of .ensures)
+    (c .if1 .taken)
 
 returns-2 : tie.Need-returns-2 Inv-loop μ-loop
 returns-2 c =
-    let a = c .before .before .before .before .before .before .before .before .before .before .args in
-    let l = c .before .before .before .before .before .before .before .before .loop in
-    walk-clear (a .t) (a .count) (a .s .now) (l .seen) (l .at) (l .j) (c .before .before .before .before .before .before .before .find .result) (l .inv) (c .before .before .before .before .before .before .before .find .ensures .0) (c .before .before .before .before .before .before .form-at .result) (c .before .before .before .before .rank-in .result) (c .before .before .fault-of .result)
-    (c .before .before .before .before .before .before .form-at .ensures) (c .before .before .before .before .rank-in .ensures .0) (c .before .before .before .before .rank-in .ensures .1) (c .before .before .fault-of .ensures) (c .before .if1 .left) (omega arith)
+    let d = c .before .before in
+    let r = ranked d .rank-in .ensures in
+    walk-clear _ _ _ _ _ _ _ (so-far d .loop .inv) (ended d .find .ensures .0) _ _ _ (formed d .form-at .ensures) (r .0) (r .1) (d .fault-of .ensures)
+    (c .before .if1 .left) (omega arith)
 
 array-write-seen : tie.Need-array-write-seen Inv-loop μ-loop
 array-write-seen c = search needs
@@ -79,10 +92,10 @@ loop-less c = search needs
 
 loop-again : tie.Need-loop-again Inv-loop μ-loop
 loop-again c =
-    let a = c .before .before .before .before .before .before .before .before .before .before .args in
-    let l = c .before .before .before .before .before .before .before .before .loop in
-    walk-next (a .t) (a .count) (a .s .now) (l .seen) (l .at) (l .j) (c .before .before .before .before .before .before .before .find .result) (l .inv) (c .before .before .before .before .before .before .before .find .ensures .0) (c .before .before .before .before .before .before .form-at .result) (c .before .before .before .before .rank-in .result) (c .before .before .fault-of .result)
-    (c .before .before .before .before .before .before .form-at .ensures) (c .before .before .before .before .rank-in .ensures .0) (c .before .before .before .before .rank-in .ensures .1) (c .before .before .fault-of .ensures) (c .before .if1 .left) (omega arith)
+    let d = c .before .before in
+    let r = ranked d .rank-in .ensures in
+    walk-next _ _ _ _ _ _ _ (so-far d .loop .inv) (ended d .find .ensures .0) _ _ _ (formed d .form-at .ensures) (r .0) (r .1) (d .fault-of .ensures)
+    (c .before .if1 .left) (omega arith)
 
 pub fields-fault-spec : {M : Type 1} → statement M
 fields-fault-spec =

@@ -21,8 +21,9 @@ loop-holds c = (c .before .pre, refl)
 
 returns : tie.Need-returns Inv-loop μ-loop
 returns c =
-    let l = c .before .before .before .loop in
-    (l .inv .0, hyphen-end (c .before .before .before .before .before .args .s .now) _ (l .c .at) (l .left) (omega arith) (l .inv .1))
+    let looped = c .before .before .before in
+    let l = looped .loop in
+    (l .inv .0, hyphen-end (looped .before .before .args .s .now) _ (l .c .at) (l .left) (omega arith) (l .inv .1))
 
 next-requires : tie.Need-next-requires Inv-loop μ-loop
 next-requires c κs = search needs
@@ -35,10 +36,10 @@ loop-less c = search needs
 
 loop-again : tie.Need-loop-again Inv-loop μ-loop
 loop-again c =
-    let s = c .before .before .before .before .before .before .args .s .now in
-    let l = c .before .before .before .before .loop in
+    let inside = c .before .before .before in
+    let l = inside .before .loop in
     let n = c .next .ensures in
-    (n .inside, hyphen-turn s _ (l .c .at) _ (l .left) n (c .before .before .before .loop-test .taken) (l .inv .1))
+    (n .inside, hyphen-turn _ _ (l .c .at) _ (l .left) n (inside .loop-test .taken) (l .inv .1))
 
 returns-2 : tie.Need-returns-2 Inv-loop μ-loop
 returns-2 c = let p = c .before .loop in (p .inv .0, hyphen-done _ _ (p .left) (c .loop-test .left) (p .inv .1))

@@ -1,34 +1,68 @@
 -- `message::read_count` meets its contract. Assumes nothing.
-use Prim.Native.Nat.{_+_}
-use mathlib.Core.Path.{refl, sym, ap, _∙_}
+use Prim.Native.Nat.{ℕ, _+_, _≤_}
+use mathlib.Core.Path.{_≡_, refl, sym, ap, _∙_}
+use mathlib.Core.List.{List}
 use lib.ListN.{length}
-use Prim.Native.Nat.{ℕ}
 use Rattle.space.specs.Hyphens.{placeOfHyphen}
+use Rattle.kinds.specs.Kinds.{leastOf, greatestOf}
 use Rattle.message.specs.declared.Answer.the-variants.{Refused}
-use Rattle.message.specs.Reading.{fieldsAs, countAs}
+use Rattle.message.specs.Reading.{countOf}
 use Rattle.message.proofs.Steps.{told, passed-on, too-few, too-many, enough, some-bytes}
 use native.Mathlib.Omega.{arith}
 use borrow.Author.Needs.{needs}
 use Rattle.message.proofs.read_count.Statement.{statement}
 use Rattle.message.proofs.read_count.Tie as tie
 
+-- where the hyphens are counted
+module _ (c : tie.After-count-hyphens) where
+  abbrev start : tie.Start
+  start = c .before .before .before
+
+  abbrev msg : List ℕ
+  msg = start .args .msg .now
+
+  abbrev out : List ℕ
+  out = start .args .out .now
+
+  abbrev count : ℕ
+  count = c .count-hyphens .result + 1
+
+  count-is : count ≡ countOf msg
+  count-is = ap (λ (k : ℕ). k + 1) (c .count-hyphens .ensures)
+
+-- where the fields are as many as the type asks for
+module _ (c : tie.Else1) where
+  abbrev counted : tie.After-count-hyphens
+  counted = c .before .before
+
+  at-least : leastOf (start counted .args .t) ≤ count counted
+  at-least = omega (arith, c .before .least .ensures, c .if1 .left)
+
+-- and no more than it allows
+module _ (c : tie.Else2) where
+  abbrev many : tie.Else1
+  many = c .before .before
+
+  at-most : count (counted many) ≤ greatestOf (start (counted many) .args .t)
+  at-most = omega (arith, c .before .greatest .ensures, c .if2 .left)
+
 count-hyphens-requires : tie.Need-count-hyphens-requires
 count-hyphens-requires c κs = search needs
 
 add-count : tie.Need-add-count
-add-count c = omega (arith, c .count-hyphens .ensures, some-bytes (c .before .before .before .args .msg .now) (c .before .before .before .pre))
+add-count c = omega (arith, c .count-hyphens .ensures, some-bytes (msg c) (start c .pre))
 
 least-requires : tie.Need-least-requires
 least-requires c κs = search needs
 
 sub-t9 : tie.Need-sub-t9
-sub-t9 c = omega (arith, some-bytes (c .before .before .before .before .before .args .msg .now) (c .before .before .before .before .before .pre))
+sub-t9 c = let d = c .before .before in omega (arith, some-bytes (msg d) (start d .pre))
 
 returns : tie.Need-returns
 returns c =
-    let a = c .before .before .before .before .before .args in
-    told (countAs (a .t) (a .msg .now) (length (a .out .now))) _ (a .msg .now) (a .out .now) _
-    (too-few (a .t) (a .msg .now) (length (a .out .now)) (c .before .before .count-hyphens .result + 1) (ap (λ (k : ℕ). k + 1) (c .before .before .count-hyphens .ensures)) (omega (arith, c .before .least .ensures, c .if1 .taken))) refl
+    let d = c .before .before in
+    told _ _ (msg d) (out d) _
+    (too-few (start d .args .t) (msg d) (length (out d)) _ (count-is d) (omega (arith, c .before .least .ensures, c .if1 .taken))) refl
 
 greatest-requires : tie.Need-greatest-requires
 greatest-requires c κs = search needs
@@ -38,23 +72,29 @@ place-of-hyphen-requires c κs = search needs
 
 returns-2 : tie.Need-returns-2
 returns-2 c =
-    let a = c .before .before .before .before .before .before .before .before .args in
-    told (countAs (a .t) (a .msg .now) (length (a .out .now))) _ (a .msg .now) (a .out .now) _
-    (too-many (a .t) (a .msg .now) (length (a .out .now)) (c .before .before .before .before .before .count-hyphens .result + 1) (ap (λ (k : ℕ). k + 1) (c .before .before .before .before .before .count-hyphens .ensures)) (omega (arith, c .before .before .before .before .least .ensures, c .before .before .before .if1 .left)) (omega (arith, c .before .before .greatest .ensures, c .before .if2 .taken))
-    ∙ ap (λ (p : ℕ). Refused 6 0 p) (sym (c .place-of-hyphen .ensures ∙ ap (λ (j : ℕ). placeOfHyphen j (a .msg .now)) (c .before .before .greatest .ensures)))) refl
+    let g = c .before .before in
+    let d = counted (g .before) in
+    let place = c .place-of-hyphen .ensures ∙ ap (λ (j : ℕ). placeOfHyphen j (msg d)) (g .greatest .ensures) in
+    told _ _ (msg d) (out d) _
+    (too-many (start d .args .t) (msg d) (length (out d)) _ (count-is d) (at-least (g .before)) (omega (arith, g .greatest .ensures, c .before .if2 .taken))
+    ∙ ap (Refused 6 0) (sym place)) refl
 
 read-reduced-requires : tie.Need-read-reduced-requires
-read-reduced-requires c κs = (c .before .before .before .before .before .before .before .before .pre, ap (λ (k : ℕ). k + 1) (c .before .before .before .before .before .count-hyphens .ensures), omega (arith, c .before .before .before .before .least .ensures, c .before .before .before .if1 .left), omega (arith, c .before .before .greatest .ensures, c .before .if2 .left))
+read-reduced-requires c κs =
+    let m = many (c .before) in
+    let d = counted m in
+    (start d .pre, count-is d, at-least m, at-most (c .before))
 
 same-length : tie.Need-same-length
 same-length c = search needs
 
 returns-3 : tie.Need-returns-3
 returns-3 c =
-    let a = c .before .before .before .before .before .before .before .before .before .before .before .args in
-    passed-on (countAs (a .t) (a .msg .now) (length (a .out .now))) (fieldsAs (a .t) (a .msg .now) (length (a .out .now))) _ (a .msg .now) (a .out .now) _
-    (enough (a .t) (a .msg .now) (length (a .out .now)) (c .before .before .before .before .before .before .before .before .count-hyphens .result + 1) (ap (λ (k : ℕ). k + 1) (c .before .before .before .before .before .before .before .before .count-hyphens .ensures)) (omega (arith, c .before .before .before .before .before .before .before .least .ensures, c .before .before .before .before .before .before .if1 .left)) (omega (arith, c .before .before .before .before .before .greatest .ensures, c .before .before .before .before .if2 .left)))
-    (c .before .before .read-reduced .ensures)
+    let r = c .before .before in
+    let e = r .before .before in
+    let m = many e in
+    let d = counted m in
+    passed-on _ _ _ (msg d) (out d) _ (enough (start d .args .t) (msg d) (length (out d)) _ (count-is d) (at-least m) (at-most e)) (r .read-reduced .ensures)
 
 pub read-count-spec : {M : Type 1} → statement M
 read-count-spec =

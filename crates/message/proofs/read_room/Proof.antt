@@ -1,47 +1,61 @@
 -- `message::read_room` meets its contract. Assumes nothing.
-use native.Mathlib.Omega.{arith}
+use Prim.Native.Nat.{ℕ}
 use mathlib.Core.Path.{refl, sym, ap, _∙_}
+use mathlib.Core.List.{List}
+use native.Mathlib.Omega.{arith}
 use lib.ListN.{length}
 use borrow.Author.Tests.{leb-true, leb-false, not-true, not-false}
 use Rattle.text.specs.Words.{split}
-use Rattle.kinds.specs.Kinds.{formsOf}
-use Rattle.message.specs.Reading.{spelledFrom, roomAs}
-use Rattle.message.proofs.Steps.{told, room-short, room-enough, spelling-is}
 use Rattle.text.specs.Lent.{front}
-use mathlib.Core.List.{List}
-use Prim.Native.Nat.{ℕ}
+use Rattle.kinds.specs.Kinds.{formsOf}
+use Rattle.message.specs.Reading.{spelledFrom}
+use Rattle.message.proofs.Steps.{told, room-short, room-enough, spelling-is}
 use borrow.Author.Needs.{needs}
 use Rattle.message.proofs.read_room.Statement.{statement}
 use Rattle.message.proofs.read_room.Tie as tie
+
+-- where it is known whether the spelling fits
+module _ (c : tie.After-has-room) where
+  abbrev start : tie.Start
+  start = c .before .before .before .before
+
+  abbrev msg : List ℕ
+  msg = start .args .msg .now
+
+  abbrev out : List ℕ
+  out = start .args .out .now
+
+  -- how many bytes it takes
+  abbrev long : ℕ
+  long = length (spelledFrom 40 (formsOf (start .args .t) (start .args .count)) (split 45 (start .args .s .now)))
 
 has-room-requires : tie.Need-has-room-requires
 has-room-requires c κs = (c .before .before .before .pre .short, c .before .before .before .pre .even)
 
 returns : tie.Need-returns
 returns c =
-    let a = c .before .before .before .before .before .args in
-    let due = length (spelledFrom 40 (formsOf (a .t) (a .count)) (split 45 (a .s .now))) in
-    let h = leb-false due (length (a .out .now)) (sym (c .before .has-room .ensures) ∙ not-true _ (c .if1 .taken)) in
-    told (roomAs (a .t) (a .msg .now) (length (a .out .now))) _ (a .msg .now) (a .out .now) _
-    (room-short (a .t) (a .msg .now) (a .count) (a .s .now) (c .before .before .before .before .before .pre) (length (a .out .now)) due refl h) refl
+    let d = c .before in
+    let h = leb-false (long d) (length (out d)) (sym (d .has-room .ensures) ∙ not-true _ (c .if1 .taken)) in
+    told _ _ (msg d) (out d) _ (room-short _ _ _ _ (start d .pre) (length (out d)) (long d) refl h) refl
 
 write-fields-requires : tie.Need-write-fields-requires
 write-fields-requires c κs =
-    (leb-true _ _ (sym (c .before .before .has-room .ensures) ∙ not-false _ (c .before .if1 .left)), c .before .before .before .before .before .before .pre .even)
+    let d = c .before .before in
+    (leb-true _ _ (sym (d .has-room .ensures) ∙ not-false _ (c .before .if1 .left)), start d .pre .even)
 
 same-length : tie.Need-same-length
 same-length c = search needs
 
 returns-2 : tie.Need-returns-2
 returns-2 c =
-    let a = c .before .before .before .before .before .before .before .before .before .args in
-    let k = c .before .before .before .before .before .before .before .before .before .pre in
-    let p = c .before .before .write-fields in
-    let due = length (spelledFrom 40 (formsOf (a .t) (a .count)) (split 45 (a .s .now))) in
-    let h = leb-true due (length (a .out .now)) (sym (c .before .before .before .before .before .has-room .ensures) ∙ not-false _ (c .before .before .before .before .if1 .left)) in
-    told (roomAs (a .t) (a .msg .now) (length (a .out .now))) _ (a .msg .now) (a .out .now) _
-    (room-enough (a .t) (a .msg .now) (a .count) (a .s .now) k (length (a .out .now)) (p .result) (p .ensures .0) (omega (arith, p .ensures .0, h)))
-    (p .ensures .1 ∙ ap (λ (l : List ℕ). front l (a .out .now)) (spelling-is (a .t) (a .msg .now) (a .count) (a .s .now) k))
+    let w = c .before .before in
+    let e = w .before .before in
+    let d = e .before in
+    let k = start d .pre in
+    let h = leb-true (long d) (length (out d)) (sym (d .has-room .ensures) ∙ not-false _ (e .if1 .left)) in
+    told _ _ (msg d) (out d) _
+    (room-enough _ _ _ _ k (length (out d)) _ (w .write-fields .ensures .0) (omega (arith, w .write-fields .ensures .0, h)))
+    (w .write-fields .ensures .1 ∙ ap (λ (l : List ℕ). front l (out d)) (spelling-is _ _ _ _ k))
 
 pub read-room-spec : {M : Type 1} → statement M
 read-room-spec =

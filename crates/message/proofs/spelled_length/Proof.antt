@@ -20,6 +20,27 @@ Inv-loop t count s n₀ at₀ j₀ n at j =
 abbrev μ-loop : tie.MeasureT-loop
 μ-loop t count s n₀ at₀ j₀ n at j = length s - at
 
+-- where the length of a field's spelling is known
+module _ (c : tie.After-spelled-length Inv-loop μ-loop) where
+  abbrev formed : tie.After-form-at Inv-loop μ-loop
+  formed = c .before .before
+
+  abbrev ended : tie.After-find Inv-loop μ-loop
+  ended = formed .before
+
+  abbrev so-far : tie.At-loop Inv-loop μ-loop
+  so-far = ended .before
+
+  abbrev start : tie.Start Inv-loop μ-loop
+  start = so-far .before .before
+
+  short : c .spelled-length .result ≤ ended .find .result - so-far .loop .at
+  short =
+      let a = start .args in
+      let l = so-far .loop in
+      let f = ended .find .ensures in
+      part-short (a .t) (a .count) (a .s .now) (l .at) (l .j) _ (f .0) (l .inv .3) _ _ (formed .form-at .ensures) (c .spelled-length .ensures) (f .1 .1)
+
 loop-holds : tie.Need-loop-holds Inv-loop μ-loop
 loop-holds c = let p = c .before .pre in (search needs, search needs, search needs, p .1, zero-add _)
 
@@ -42,19 +63,24 @@ spelled-length-requires : tie.Need-spelled-length-requires Inv-loop μ-loop
 spelled-length-requires c κs = search needs
 
 add-n : tie.Need-add-n Inv-loop μ-loop
-add-n c = let a = c .before .before .before .before .before .before .args in let l = c .before .before .before .before .loop in omega (arith, part-short (a .t) (a .count) (a .s .now) (l .at) (l .j) (c .before .before .before .find .result) (c .before .before .before .find .ensures .0) (l .inv .3) (c .before .before .form-at .result) (c .spelled-length .result) (c .before .before .form-at .ensures) (c .spelled-length .ensures) (c .before .before .before .find .ensures .1 .1), c .before .before .before .before .before .before .pre .0)
+add-n c = omega (arith, short c, start c .pre .0)
 
 add-n-2 : tie.Need-add-n-2 Inv-loop μ-loop
-add-n-2 c = let a = c .before .before .before .before .before .before .args in let l = c .before .before .before .before .loop in omega (arith, part-short (a .t) (a .count) (a .s .now) (l .at) (l .j) (c .before .before .before .find .result) (c .before .before .before .find .ensures .0) (l .inv .3) (c .before .before .form-at .result) (c .spelled-length .result) (c .before .before .form-at .ensures) (c .spelled-length .ensures) (c .before .before .before .find .ensures .1 .1), c .before .before .before .before .before .before .pre .0)
+add-n-2 c = omega (arith, short c, start c .pre .0)
 
 add-result : tie.Need-add-result Inv-loop μ-loop
-add-result c = let a = c .before .before .before .before .before .before .before .args in let l = c .before .before .before .before .before .loop in omega (arith, part-short (a .t) (a .count) (a .s .now) (l .at) (l .j) (c .before .before .before .before .find .result) (c .before .before .before .before .find .ensures .0) (l .inv .3) (c .before .before .before .form-at .result) (c .before .spelled-length .result) (c .before .before .before .form-at .ensures) (c .before .spelled-length .ensures) (c .before .before .before .before .find .ensures .1 .1), c .before .before .before .before .before .before .before .pre .0)
+add-result c = omega (arith, short (c .before), start (c .before) .pre .0)
 
 returns : tie.Need-returns Inv-loop μ-loop
 returns c =
-    let a = c .before .before .before .before .before .before .before .args in
-    let l = c .before .before .before .before .before .loop in
-    omega (arith, l .inv .4, length-last (a .t) (a .count) (a .s .now) (l .at) (l .j) (c .before .before .before .before .find .result) (c .before .before .before .before .find .ensures .0) (l .inv .3) (c .before .before .before .form-at .result) (c .before .spelled-length .result) (c .before .before .before .form-at .ensures) (c .before .spelled-length .ensures) (omega arith))
+    let d = c .before in
+    let a = start d .args in
+    let l = so-far d .loop in
+    let h : length (a .s .now) ≤ ended d .find .result = omega arith in
+    let last
+    = length-last (a .t) (a .count) (a .s .now) (l .at) (l .j) _ (ended d .find .ensures .0) (l .inv .3) _ _ (formed d .form-at .ensures)
+    (d .spelled-length .ensures) h in
+    omega (arith, l .inv .4, last)
 
 add-at : tie.Need-add-at Inv-loop μ-loop
 add-at c = search needs
@@ -67,16 +93,19 @@ loop-less c = search needs
 
 loop-again : tie.Need-loop-again Inv-loop μ-loop
 loop-again c =
-    let a = c .before .before .before .before .before .before .before .args in
-    let l = c .before .before .before .before .before .loop in
-    let f = c .before .before .before .before .find in
-    let p = part-short (a .t) (a .count) (a .s .now) (l .at) (l .j) (f .result) (f .ensures .0) (l .inv .3) (c .before .before .before .form-at .result) (c .before .spelled-length .result) (c .before .before .before .form-at .ensures) (c .before .spelled-length .ensures) (f .ensures .1 .1) in
-    let h : f .result < length (a .s .now) = omega arith in (
+    let d = c .before in
+    let a = start d .args in
+    let l = so-far d .loop in
+    let f = ended d .find in
+    let h : f .result < length (a .s .now) = omega arith in
+    let next
+    = length-next (a .t) (a .count) (a .s .now) (l .at) (l .j) (f .result) (f .ensures .0) (l .inv .3) _ _ (formed d .form-at .ensures)
+    (d .spelled-length .ensures) h in (
       search needs,
       search needs,
-      omega (arith, p, f .ensures .1 .0),
+      omega (arith, short d, f .ensures .1 .0),
       even-next (a .t) (a .count) (a .s .now) (l .at) (l .j) (f .result) (f .ensures .0) (l .inv .3) h,
-      omega (arith, l .inv .4, length-next (a .t) (a .count) (a .s .now) (l .at) (l .j) (f .result) (f .ensures .0) (l .inv .3) (c .before .before .before .form-at .result) (c .before .spelled-length .result) (c .before .before .before .form-at .ensures) (c .before .spelled-length .ensures) h),
+      omega (arith, l .inv .4, next),
     )
 
 pub spelled-length-spec : {M : Type 1} → statement M

@@ -36,11 +36,13 @@ same-length c = c .before .out .given .1 ∙ simp length-set
 
 returns : tie.Need-returns
 returns c =
-    let d = c .before .before .before .before .before .before in
+    let p = c .before .before in
+    let d = p .before .before .before .before in
     let a = d .args in
-    let p = c .before .before .write-form in
-    let w = writtenOf (a .form) (a .part .now) in
-    (omega (arith, p .ensures .0), lent (set (a .out .now) 0 (a .lead)) w 1 _ (p .ensures .1) ∙ lead-write (a .out .now) w (a .lead) (omega (arith, d .pre)))
+    let w = writtenOf (a .form) (a .part .now) in (
+      omega (arith, p .write-form .ensures .0),
+      lent (set (a .out .now) 0 (a .lead)) w 1 _ (p .write-form .ensures .1) ∙ lead-write (a .out .now) w (a .lead) (omega (arith, d .pre)),
+    )
 
 pub write-field-spec : {M : Type 1} → statement M
 write-field-spec =

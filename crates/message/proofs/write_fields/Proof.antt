@@ -14,6 +14,26 @@ Inv-loop t count s out₀ o₀ at₀ j₀ out o at j = Writing t count s out₀ 
 abbrev μ-loop : tie.MeasureT-loop
 μ-loop t count s out₀ o₀ at₀ j₀ out o at j = length s - at
 
+-- where a field's form is known
+module _ (c : tie.After-form-at Inv-loop μ-loop) where
+  abbrev ended : tie.After-find Inv-loop μ-loop
+  ended = c .before .before
+
+  abbrev so-far : tie.At-loop Inv-loop μ-loop
+  so-far = ended .before
+
+  abbrev start : tie.Start Inv-loop μ-loop
+  start = so-far .before .before .before
+
+  turn : Turn (start .args .t) (start .args .count) (start .args .s .now) (start .args .out .now)
+      (so-far .loop .out) (so-far .loop .o) (so-far .loop .at) (so-far .loop .j) (ended .find .result) (c .before .lead-of .result) (c .form-at .result)
+  turn = record { so-far = so-far .loop .inv; end = ended .find .ensures .0; is-lead = c .before .lead-of .ensures; is-form = c .form-at .ensures }
+
+-- where the field is written
+module _ (c : tie.After-write-field Inv-loop μ-loop) where
+  abbrev formed : tie.After-form-at Inv-loop μ-loop
+  formed = c .before .before .before
+
 loop-holds : tie.Need-loop-holds Inv-loop μ-loop
 loop-holds c = let a = c .before .before in writing-starts (a .args .t) (a .args .count) (a .args .s .now) (a .args .out .now) (a .pre .0) (a .pre .1)
 
@@ -44,50 +64,39 @@ part-write-field-start-2 c = search needs
 part-write-field-end-2 : tie.Need-part-write-field-end-2 Inv-loop μ-loop
 part-write-field-end-2 c = search needs
 
--- the turn, once the field's form is known
-abbrev Looped : tie.After-form-at Inv-loop μ-loop → tie.At-loop Inv-loop μ-loop
-Looped d = d .before .before .before
-
-abbrev Started : tie.After-form-at Inv-loop μ-loop → tie.Start Inv-loop μ-loop
-Started d = Looped d .before .before .before
-
-turn : (d : tie.After-form-at Inv-loop μ-loop)
-    → Turn (Started d .args .t) (Started d .args .count) (Started d .args .s .now) (Started d .args .out .now)
-    (Looped d .loop .out) (Looped d .loop .o) (Looped d .loop .at) (Looped d .loop .j)
-    (d .before .before .find .result) (d .before .lead-of .result) (d .form-at .result)
-turn d =
-    record { so-far = Looped d .loop .inv; end = d .before .before .find .ensures .0; is-lead = d .before .lead-of .ensures; is-form = d .form-at .ensures }
-
 write-field-requires : tie.Need-write-field-requires Inv-loop μ-loop
 write-field-requires c κs = turn-fits (turn (c .before .before))
 
 add-o : tie.Need-add-o Inv-loop μ-loop
 add-o c =
-    let d = c .before .before .before .before .before in
-    omega (arith, turn-room (turn d), c .before .before .write-field .ensures .0, Looped d .loop .inv .room, Started d .good)
+    let w = c .before .before in
+    let d = formed w in
+    omega (arith, turn-room (turn d), w .write-field .ensures .0, so-far d .loop .inv .room, start d .good)
 
 slice-write-out : tie.Need-slice-write-out Inv-loop μ-loop
 slice-write-out c =
-    let p = c .before .before .before .write-field in
-    rw (p .ensures .0) (last-room (turn (c .before .before .before .before .before .before)) (p .ensures .1) (omega arith) (c .before .before .out .given .1))
+    let w = c .before .before .before in
+    let p = w .write-field .ensures in
+    rw (p .0) (last-room (turn (formed w)) (p .1) (omega arith) (c .before .before .out .given .1))
 
 add-result : tie.Need-add-result Inv-loop μ-loop
 add-result c =
-    let d = c .before .before .before .before .before .before in
-    let p = c .before .before .before .write-field in
-    let l = last-long (turn d) (p .ensures .1) (omega arith) (c .before .before .out .given .1) in
-    omega (arith, p .ensures .0, l, Looped d .loop .inv .room, Started d .good)
+    let w = c .before .before .before in
+    let d = formed w in
+    let p = w .write-field .ensures in
+    let l = last-long (turn d) (p .1) (omega arith) (c .before .before .out .given .1) in
+    omega (arith, p .0, l, so-far d .loop .inv .room, start d .good)
 
 same-length : tie.Need-same-length Inv-loop μ-loop
-same-length c =
-    simp length-set (c .before .before .out .given .1 ∙ c .before .before .before .before .before .before .before .before .before .loop .inv .long)
+same-length c = simp length-set (c .before .before .out .given .1 ∙ so-far (formed (c .before .before .before)) .loop .inv .long)
 
 returns : tie.Need-returns Inv-loop μ-loop
 returns c =
-    let u = turn (c .before .before .before .before .before .before) in
-    let p = c .before .before .before .write-field in
+    let w = c .before .before .before in
+    let u = turn (formed w) in
+    let p = w .write-field .ensures in
     let l = c .before .before .out .given .1 in
-    (rw (p .ensures .0) (last-long u (p .ensures .1) (omega arith) l), rw (p .ensures .0) (last-written u (p .ensures .1) (omega arith) l))
+    (rw (p .0) (last-long u (p .1) (omega arith) l), rw (p .0) (last-written u (p .1) (omega arith) l))
 
 add-at : tie.Need-add-at Inv-loop μ-loop
 add-at c = search needs
@@ -100,8 +109,9 @@ loop-less c = search needs
 
 loop-again : tie.Need-loop-again Inv-loop μ-loop
 loop-again c =
-    let p = c .before .before .before .write-field in
-    rw (p .ensures .0) (turn-next (turn (c .before .before .before .before .before .before)) (p .ensures .1) (omega arith) (c .before .before .out .given .1))
+    let w = c .before .before .before in
+    let p = w .write-field .ensures in
+    rw (p .0) (turn-next (turn (formed w)) (p .1) (omega arith) (c .before .before .out .given .1))
 
 pub write-fields-spec : {M : Type 1} → statement M
 write-fields-spec =
