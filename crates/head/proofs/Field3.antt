@@ -18,7 +18,8 @@ use Rattle.shape.specs.Field.{Laws}
 use Rattle.shape.proofs.Numbers.{value-below, digits-value, digits-length, value-digits, digits-digits}
 use Rattle.shape.proofs.Fields.{Facts, plain}
 use Rattle.head.specs.Runs.{lead}
-use Rattle.head.specs.Field3.{Number, Field3, spellNumber, spellNumbers, spell3, types, unit, validNumber, valid3, first, others, serial, receiver, numberFits, numberOf, numbersFit, numbersOf, fits3, record3, field3}
+use Rattle.head.specs.Field3.{Number, Field3, spellNumber, spellNumbers, spell3, types, unit, validNumber, valid3, first, others}
+use Rattle.head.specs.Field3.{serial, receiver, numberFits, numberOf, numbersFit, numbersOf, fits3, record3, field3}
 use Rattle.head.proofs.Laws.{within, ends, lead-seam, letter-no-digit, three-letters, type-letters}
 
 -- A UNIT

@@ -92,7 +92,8 @@ tidied : (s : List ℕ) → fits7 s ≡ true → tidy s ≡ true
 unfolding fits7
 tidied s e = go (holds 47 s) refl e
   where
-    go : (b : Bool) → holds 47 s ≡ b → cond b (identificationFits (before 47 s) && fits (bytes "Aoooo") (behind 47 s)) (identificationFits s) ≡ true → tidy s ≡ true
+    go : (b : Bool) → holds 47 s ≡ b → cond b (identificationFits (before 47 s) && fits (bytes "Aoooo") (behind 47 s)) (identificationFits s) ≡ true
+        → tidy s ≡ true
     go true p q =
         let h = both (identificationFits (before 47 s)) (fits (bytes "Aoooo") (behind 47 s)) q in
         let a = signs-tidy (before 47 s) (h .0) in

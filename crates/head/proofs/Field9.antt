@@ -20,7 +20,8 @@ use Rattle.shape.specs.Field.{Laws}
 use Rattle.shape.proofs.Numbers.{value-below, digits-value, value-digits, digits-digits}
 use Rattle.shape.proofs.Fields.{Facts, plain}
 use Rattle.head.specs.Runs.{lead}
-use Rattle.head.specs.Field9.{Field9, spellCount, spell9, typeFits, wakeFits, valid9, number, aircraft, countFits, countOf, wakeOf, isWake, aircraftFits, fits9, record9, field9}
+use Rattle.head.specs.Field9.{Field9, spellCount, spell9, typeFits, wakeFits, valid9, number, aircraft}
+use Rattle.head.specs.Field9.{countFits, countOf, wakeOf, isWake, aircraftFits, fits9, record9, field9}
 use Rattle.head.proofs.Laws.{within, ends, lead-within, lead-seam, letter-no-digit}
 
 -- THE NUMBER, as its digits
@@ -152,7 +153,9 @@ module _ (n : ℕ) (w : Word) (b : ℕ) (l : 1 ≤ n) (m : n ≤ 99) (e : typeFi
 
   cut : lead true whole ≡ length (spellCount n)
   unfolding whole tail
-  cut = lead-seam true (spellCount n) (w ++ (47 ∷ (b ∷ []))) (digits-run (spellCount n) (count-back n l m .0)) (starts-append w (47 ∷ (b ∷ [])) (typed w e .some-signs) (typed w e .starts))
+  cut =
+      let t = typed w e in
+      lead-seam true (spellCount n) tail (digits-run (spellCount n) (count-back n l m .0)) (starts-append w (47 ∷ (b ∷ [])) (t .some-signs) (t .starts))
 
   number-is : number whole ≡ spellCount n
   unfolding whole

@@ -1,6 +1,7 @@
 -- `head::are_numbers` meets its contract. Assumes nothing.
-use Prim.Native.Nat.{_+_, _≤_, _<_}
+use Prim.Native.Nat.{ℕ, _+_, _≤_, _<_}
 use mathlib.Core.Path.{sym, _∙_}
+use mathlib.Core.List.{List}
 use lib.ListN.{length}
 use lib.Seq.{length-take-le}
 use borrow.Author.Tests.{not-true, not-false}
@@ -12,6 +13,11 @@ use native.Mathlib.Omega.{arith}
 use borrow.Author.Needs.{needs}
 use Rattle.head.proofs.are_numbers.Statement.{statement}
 use Rattle.head.proofs.are_numbers.Tie as tie
+
+-- where the front without digits is known
+module _ (c : tie.After-run) where
+  abbrev content : List ℕ
+  content = c .before .before .before .args .w .now
 
 returns : tie.Need-returns
 returns c = sym (numbers-none (c .before .before .args .w .now) (c .if1 .taken))
@@ -27,9 +33,9 @@ is-number-requires c κs = search needs
 
 returns-2 : tie.Need-returns-2
 returns-2 c =
-    let w = c .before .before .before .before .before .args .w .now in
-    let h : length w ≤ lead false w + 3 = omega (arith, c .before .before .run .ensures .0) in
-    c .is-number .ensures ∙ sym (numbers-one w (c .before .before .before .if1 .left) h)
+    let r = c .before .before in
+    let h : length (content r) ≤ lead false (content r) + 3 = omega (arith, r .run .ensures .0) in
+    c .is-number .ensures ∙ sym (numbers-one (content r) (r .before .if1 .left) h)
 
 add-e : tie.Need-add-e
 add-e c = search needs
@@ -42,9 +48,9 @@ is-number-requires-2 c κs = search needs
 
 returns-3 : tie.Need-returns-3
 returns-3 c =
-    let w = c .before .before .before .before .before .before .before .args .w .now in
-    let h : lead false w + 3 < length w = omega (arith, c .before .before .before .before .run .ensures .0) in
-    rw (numbers-two w h, ← c .before .before .before .before .run .ensures .0, sym (c .before .is-number2 .ensures) ∙ not-true _ (c .if3 .taken))
+    let r = c .before .before .before .before in
+    let h : lead false (content r) + 3 < length (content r) = omega (arith, r .run .ensures .0) in
+    rw (numbers-two (content r) h, ← r .run .ensures .0, sym (c .before .is-number2 .ensures) ∙ not-true _ (c .if3 .taken))
 
 sub-is-number : tie.Need-sub-is-number
 sub-is-number c = search needs
@@ -60,9 +66,11 @@ is-number-requires-3 c κs = search needs
 
 returns-4 : tie.Need-returns-4
 returns-4 c =
-    let w = c .before .before .before .before .before .before .before .before .before .args .w .now in
-    let h : lead false w + 3 < length w = omega (arith, c .before .before .before .before .before .before .run .ensures .0) in
-    rw (numbers-two w h, ← c .before .before .before .before .before .before .run .ensures .0, sym (c .before .before .before .is-number2 .ensures) ∙ not-false _ (c .before .before .if3 .left)) (rw rest at (c .is-number3 .ensures))
+    let first = c .before .before in
+    let r = first .before .before .before .before in
+    let h : lead false (content r) + 3 < length (content r) = omega (arith, r .run .ensures .0) in
+    rw (numbers-two (content r) h, ← r .run .ensures .0, sym (first .before .is-number2 .ensures) ∙ not-false _ (first .if3 .left))
+    (rw rest at (c .is-number3 .ensures))
 
 pub are-numbers-spec : {M : Type 1} → statement M
 are-numbers-spec =

@@ -1,11 +1,10 @@
 -- `head::fits_field3` meets its contract. Assumes nothing.
-use Rattle.head.proofs.Laws.{type-not, type-is}
 use mathlib.Core.Path.{sym, _∙_}
 use lib.Seq.{length-take-le}
 use borrow.Author.Tests.{not-true, not-false}
 use Rattle.text.proofs.Index.{rest}
 use Rattle.head.specs.Field3.{types}
-use Rattle.head.proofs.Laws.{no-type-content}
+use Rattle.head.proofs.Laws.{type-not, type-is, no-type-content}
 use native.Mathlib.Omega.{arith}
 use borrow.Author.Needs.{needs}
 use Rattle.head.proofs.fits_field3.Statement.{statement}
@@ -25,7 +24,7 @@ in-cells-requires c κs = search needs
 
 returns-2 : tie.Need-returns-2
 unfolding types
-returns-2 c = sym (type-not (c .before .before .before .before .before .before .args .s .now) (sym (c .before .in-cells .ensures) ∙ not-true _ (c .if2 .taken)))
+returns-2 c = sym (type-not _ (sym (c .before .in-cells .ensures) ∙ not-true _ (c .if2 .taken)))
 
 sub-are-numbers : tie.Need-sub-are-numbers
 sub-are-numbers c = search needs
@@ -42,8 +41,8 @@ are-numbers-requires c κs = search needs
 returns-3 : tie.Need-returns-3
 unfolding types
 returns-3 c =
-    let s = c .before .before .before .before .before .before .before .before .args .s .now in
-    rw rest at (c .are-numbers .ensures) ∙ sym (type-is s (sym (c .before .before .before .in-cells .ensures) ∙ not-false _ (c .before .before .if2 .left)))
+    let typed = c .before .before in
+    rw rest at (c .are-numbers .ensures) ∙ sym (type-is _ (sym (typed .before .in-cells .ensures) ∙ not-false _ (typed .if2 .left)))
 
 pub fits-field3-spec : {M : Type 1} → statement M
 fits-field3-spec =

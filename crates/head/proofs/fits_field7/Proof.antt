@@ -16,7 +16,9 @@ is-identification-requires c κs = search needs
 
 returns : tie.Need-returns
 unfolding fits7
-returns c = let a = c .before .before .before .before .args in rw (found-none 47 (a .s .now) _ (c .before .before .find .ensures .0) (c .before .if1 .taken)) (c .is-identification .ensures)
+returns c =
+    let looked = c .before .before in
+    rw (found-none 47 (looked .before .before .args .s .now) _ (looked .find .ensures .0) (c .before .if1 .taken)) (c .is-identification .ensures)
 
 slice-aggregate-is-identification : tie.Need-slice-aggregate-is-identification
 slice-aggregate-is-identification c = sym (length-take-le _ _ (c .before .before .find .ensures .1 .1))
@@ -27,9 +29,10 @@ is-identification-requires-2 c κs = search needs
 returns-2 : tie.Need-returns-2
 unfolding fits7
 returns-2 c =
-    let a = c .before .before .before .before .before .before .args in
-    let f = c .before .before .before .before .find in
-    rw (found 47 (a .s .now) _ (f .ensures .0) (c .before .before .before .if1 .left) (f .ensures .1 .1), ← found-before 47 (a .s .now) _ (f .ensures .0), sym (c .before .is-identification2 .ensures) ∙ not-true _ (c .if2 .taken))
+    let cut = c .before .before .before in
+    let s = cut .before .before .before .args .s .now in
+    let f = cut .before .find .ensures in
+    rw (found 47 s _ (f .0) (cut .if1 .left) (f .1 .1), ← found-before 47 s _ (f .0), sym (c .before .is-identification2 .ensures) ∙ not-true _ (c .if2 .taken))
 
 slice-aggregate-fits : tie.Need-slice-aggregate-fits
 slice-aggregate-fits c = search needs
@@ -52,10 +55,16 @@ fits-requires c κs = search needs
 returns-3 : tie.Need-returns-3
 unfolding fits7
 returns-3 c =
-    let a = c .before .before .before .before .before .before .before .before .before .args in
-    let f = c .before .before .before .before .before .before .before .find in
-    rw (found 47 (a .s .now) _ (f .ensures .0) (c .before .before .before .before .before .before .if1 .left) (f .ensures .1 .1), ← found-before 47 (a .s .now) _ (f .ensures .0), sym (c .before .before .before .before .is-identification2 .ensures) ∙ not-false _ (c .before .before .before .if2 .left), ← found-behind 47 (a .s .now) _ (f .ensures .0))
-    (rw rest at (c .fits2 .ensures))
+    let good = c .before .before .before in
+    let cut = good .before .before .before in
+    let s = cut .before .before .before .args .s .now in
+    let f = cut .before .find .ensures in
+    rw (
+      found 47 s _ (f .0) (cut .if1 .left) (f .1 .1),
+      ← found-before 47 s _ (f .0),
+      sym (good .before .is-identification2 .ensures) ∙ not-false _ (good .if2 .left),
+      ← found-behind 47 s _ (f .0),
+    ) (rw rest at (c .fits2 .ensures))
 
 pub fits-field7-spec : {M : Type 1} → statement M
 fits-field7-spec =

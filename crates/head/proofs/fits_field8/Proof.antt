@@ -16,7 +16,7 @@ one-of-requires : tie.Need-one-of-requires
 one-of-requires c κs = search needs
 
 returns : tie.Need-returns
-returns c = c .one-of .ensures ∙ sym (rules-one (c .before .before .before .before .before .args .s .now) (c .before .before .before .if1 .taken))
+returns c = c .one-of .ensures ∙ sym (rules-one _ (c .before .before .before .if1 .taken))
 
 returns-2 : tie.Need-returns-2
 returns-2 c = sym (rules-other (c .before .before .before .args .s .now) (c .before .if1 .left) (c .if2 .taken))
@@ -31,7 +31,9 @@ one-of-requires-2 : tie.Need-one-of-requires-2
 one-of-requires-2 c κs = search needs
 
 returns-3 : tie.Need-returns-3
-returns-3 c = rw (rules-two (c .before .before .before .before .before .before .before .args .s .now) (c .before .before .before .before .if2 .left), sym (c .before .one-of2 .ensures) ∙ not-true _ (c .if3 .taken))
+returns-3 c =
+    let two = c .before .before .before .before in
+    rw (rules-two (two .before .before .before .args .s .now) (two .if2 .left), sym (c .before .one-of2 .ensures) ∙ not-true _ (c .if3 .taken))
 
 shared-slice-read-one-of-3 : tie.Need-shared-slice-read-one-of-3
 shared-slice-read-one-of-3 c = search needs
@@ -43,7 +45,11 @@ one-of-requires-3 : tie.Need-one-of-requires-3
 one-of-requires-3 c κs = search needs
 
 returns-4 : tie.Need-returns-4
-returns-4 c = rw (rules-two (c .before .before .before .before .before .before .before .before .before .before .args .s .now) (c .before .before .before .before .before .before .before .if2 .left), sym (c .before .before .before .before .one-of2 .ensures) ∙ not-false _ (c .before .before .before .if3 .left)) (c .one-of3 .ensures)
+returns-4 c =
+    let rules = c .before .before .before in
+    let two = rules .before .before .before .before in
+    rw (rules-two (two .before .before .before .args .s .now) (two .if2 .left), sym (rules .before .one-of2 .ensures) ∙ not-false _ (rules .if3 .left))
+    (c .one-of3 .ensures)
 
 pub fits-field8-spec : {M : Type 1} → statement M
 fits-field8-spec =

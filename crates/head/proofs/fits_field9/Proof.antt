@@ -35,7 +35,10 @@ is-aircraft-requires c κs = search needs
 
 returns-2 : tie.Need-returns-2
 unfolding fits9
-returns-2 c = rw (← c .before .before .before .before .before .run .ensures .0, sym (c .before .before .before .is-count .ensures) ∙ not-false _ (c .before .before .if1 .left)) (rw rest at (c .is-aircraft .ensures))
+returns-2 c =
+    let counted = c .before .before in
+    rw (← counted .before .before .before .run .ensures .0, sym (counted .before .is-count .ensures) ∙ not-false _ (counted .if1 .left))
+    (rw rest at (c .is-aircraft .ensures))
 
 pub fits-field9-spec : {M : Type 1} → statement M
 fits-field9-spec =

@@ -24,9 +24,10 @@ is-type-requires c κs = search needs
 returns-2 : tie.Need-returns-2
 unfolding aircraftFits
 returns-2 c =
-    let a = c .before .before .before .before .before .before .args in
-    let f = c .before .before .before .before .find in
-    rw (found 47 (a .t .now) _ (f .ensures .0) (c .before .before .before .if1 .left) (f .ensures .1 .1), ← found-before 47 (a .t .now) _ (f .ensures .0), sym (c .before .is-type .ensures) ∙ not-true _ (c .if2 .taken))
+    let cut = c .before .before .before in
+    let t = cut .before .before .before .args .t .now in
+    let f = cut .before .find .ensures in
+    rw (found 47 t _ (f .0) (cut .if1 .left) (f .1 .1), ← found-before 47 t _ (f .0), sym (c .before .is-type .ensures) ∙ not-true _ (c .if2 .taken))
 
 add-is-wake : tie.Need-add-is-wake
 add-is-wake c = search needs
@@ -46,10 +47,16 @@ is-wake-requires c κs = search needs
 returns-3 : tie.Need-returns-3
 unfolding aircraftFits
 returns-3 c =
-    let a = c .before .before .before .before .before .before .before .before .args in
-    let f = c .before .before .before .before .before .before .find in
-    rw (found 47 (a .t .now) _ (f .ensures .0) (c .before .before .before .before .before .if1 .left) (f .ensures .1 .1), ← found-before 47 (a .t .now) _ (f .ensures .0), sym (c .before .before .before .is-type .ensures) ∙ not-false _ (c .before .before .if2 .left), ← found-behind 47 (a .t .now) _ (f .ensures .0))
-    (rw rest at (c .is-wake .ensures))
+    let good = c .before .before in
+    let cut = good .before .before .before in
+    let t = cut .before .before .before .args .t .now in
+    let f = cut .before .find .ensures in
+    rw (
+      found 47 t _ (f .0) (cut .if1 .left) (f .1 .1),
+      ← found-before 47 t _ (f .0),
+      sym (good .before .is-type .ensures) ∙ not-false _ (good .if2 .left),
+      ← found-behind 47 t _ (f .0),
+    ) (rw rest at (c .is-wake .ensures))
 
 pub is-aircraft-spec : {M : Type 1} → statement M
 is-aircraft-spec =

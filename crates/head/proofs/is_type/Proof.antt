@@ -18,13 +18,19 @@ is-letter-requires : tie.Need-is-letter-requires
 is-letter-requires c κs = search needs
 
 returns-3 : tie.Need-returns-3
-returns-3 c = rw (le-leb 2 _ (c .before .before .before .before .if1 .left), le-leb _ 4 (c .before .before .before .if2 .left), sym (c .before .is-letter .ensures) ∙ not-true _ (c .if3 .taken))
+returns-3 c =
+    let short = c .before .before .before in
+    rw (le-leb 2 _ (short .before .if1 .left), le-leb _ 4 (short .if2 .left), sym (c .before .is-letter .ensures) ∙ not-true _ (c .if3 .taken))
 
 all-of-requires : tie.Need-all-of-requires
 all-of-requires c κs = search needs
 
 returns-4 : tie.Need-returns-4
-returns-4 c = rw (le-leb 2 _ (c .before .before .before .before .before .if1 .left), le-leb _ 4 (c .before .before .before .before .if2 .left), sym (c .before .before .is-letter .ensures) ∙ not-false _ (c .before .if3 .left)) (c .all-of .ensures)
+returns-4 c =
+    let begun = c .before in
+    let short = begun .before .before .before in
+    rw (le-leb 2 _ (short .before .if1 .left), le-leb _ 4 (short .if2 .left), sym (begun .before .is-letter .ensures) ∙ not-false _ (begun .if3 .left))
+    (c .all-of .ensures)
 
 pub is-type-spec : {M : Type 1} → statement M
 is-type-spec =

@@ -1,9 +1,8 @@
 -- `head::run` meets its contract. Assumes nothing.
-use mathlib.Core.Bool.{Bool, Bool·beq}
-use mathlib.Core.Path.{ap}
-use borrow.Author.Tests.{not-true, not-false}
 use Prim.Native.Nat.{_+_, _-_, _≤_}
-use mathlib.Core.Path.{_≡_, sym, _∙_}
+use mathlib.Core.Bool.{Bool, Bool·beq}
+use mathlib.Core.Path.{_≡_, sym, ap, _∙_}
+use borrow.Author.Tests.{not-true, not-false}
 use lib.ListN.{length, drop}
 use Rattle.head.specs.Runs.{lead}
 use Rattle.head.proofs.Laws.{lead-stop, lead-next, lead-end}
@@ -29,9 +28,10 @@ is-digit-requires c κs = search needs
 
 returns : tie.Need-returns Inv-loop μ-loop
 returns c =
-    let a = c .before .before .before .before .before .before .args in
+    let inside = c .before .before .before in
+    let a = inside .before .before .before .args in
     let e = ap (λ (b : Bool). Bool·beq b (a .digits)) (sym (c .before .is-digit .ensures)) ∙ not-true _ (c .if1 .taken) in
-    omega (arith, lead-stop (a .digits) (a .s .now) (c .before .before .before .before .loop .i) (c .before .before .before .loop-test .taken) e)
+    omega (arith, lead-stop (a .digits) (a .s .now) (inside .before .loop .i) (inside .loop-test .taken) e)
 
 add-i : tie.Need-add-i Inv-loop μ-loop
 add-i c = search needs
@@ -41,9 +41,10 @@ loop-less c = search needs
 
 loop-again : tie.Need-loop-again Inv-loop μ-loop
 loop-again c =
-    let a = c .before .before .before .before .before .before .args in
+    let inside = c .before .before .before in
+    let a = inside .before .before .before .args in
     let e = ap (λ (b : Bool). Bool·beq b (a .digits)) (sym (c .before .is-digit .ensures)) ∙ not-false _ (c .if1 .left) in
-    omega (arith, lead-next (a .digits) (a .s .now) (c .before .before .before .before .loop .i) (c .before .before .before .loop-test .taken) e)
+    omega (arith, lead-next (a .digits) (a .s .now) (inside .before .loop .i) (inside .loop-test .taken) e)
 
 returns-2 : tie.Need-returns-2 Inv-loop μ-loop
 returns-2 c = let a = c .before .before .before .args in omega (arith, lead-end (a .digits) (a .s .now) (c .before .loop .i) (c .loop-test .left))
