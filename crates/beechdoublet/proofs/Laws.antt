@@ -1,9 +1,9 @@
 -- Numbers lose nothing: two answers or two states with the same numbers are the same, and a state comes back from its numbers. The number 0 is
 -- an acceptance's alone. Assumes nothing.
-use Prim.Native.Nat.{ℕ, zero, suc, _+_, _-_, _≤_, _<_}
+use Prim.Native.Nat.{ℕ, zero, suc, _-_, _≤_, _<_}
 use mathlib.Core.Path.{_≡_, refl, sym, ap, subst, subst⁻¹, _∙_}
-use mathlib.Core.Bool.{Bool, true, false, _&&_, cond, false≢true}
-use mathlib.Core.List.{List, [], _∷_}
+use mathlib.Core.Bool.{Bool, true, false, _&&_, cond}
+use mathlib.Core.List.{List}
 use mathlib.Core.Option.{Option, none, some}
 use native.Mathlib.Omega.{arith}
 use lib.Dec.{eqb, ltb, leb}
@@ -11,7 +11,6 @@ use lib.ListN.{length, getD}
 use lib.Seq.{ext-getD}
 use borrow.Author.Tests.{eq-eqb, ne-eqb, eqb-true, eqb-false, lt-ltb, le-ltb, ltb-true, ltb-false, leb-true}
 use Rattle.shape.specs.declared.Clock.{Clock}
-use Rattle.aerodromes.specs.declared.Aerodrome.{Aerodrome}
 use Rattle.kinds.specs.declared.MessageType.{MessageType}
 use Rattle.kinds.specs.declared.MessageType.the-variants.{Fpl}
 use Rattle.kinds.specs.declared.Role.the-variants.{Changes}
@@ -21,7 +20,6 @@ use Rattle.message.specs.declared.Answer.{Answer}
 use Rattle.message.specs.declared.Answer.the-variants.{Accepted as ReadAs, Refused as NotRead}
 use Rattle.message.specs.Reading.{spellingOf, answerOf, outAfter}
 use Rattle.message.proofs.Answers.{refused-number}
-use Rattle.state.specs.declared.Departure.{Departure}
 use Rattle.state.specs.declared.Departure.the-variants.{Known, Unknown}
 use Rattle.state.specs.declared.State.{State}
 use Rattle.state.specs.declared.State.the-variants.{Filed, Departed, Arrived, Cancelled}
@@ -48,7 +46,7 @@ use Rattle.asked.specs.Asking.{rankOf, standsIn, standsAs, fieldAs, flightAs, i
 use Rattle.beechdoublet.specs.declared.Handed.{Handed}
 use Rattle.beechdoublet.specs.declared.Handed.the-variants.{Held, NoState}
 use Rattle.beechdoublet.specs.Numbers.{typeNumber, readNumber, readNumbers, updateNumber, updateNumbers, askedNumber, askedNumbers, askedWhole}
-use Rattle.beechdoublet.specs.Handed.{arrivedNumbers, stateNumbers, kept, minuteOf, byteOf, stateOf, agree, handedAs, updateAs, stateAs, askedAs}
+use Rattle.beechdoublet.specs.Handed.{stateNumbers, minuteOf, byteOf, stateOf, agree, handedAs, updateAs, stateAs, askedAs}
 use Rattle.beechdoublet.specs.Laws.{wasRead, wasTaken, wasShown, Numbered, Told}
 
 -- THE TYPES

@@ -1,6 +1,4 @@
 -- `beechdoublet::arrived_numbers` meets its contract. Assumes nothing.
-use mathlib.Core.Path.{sym, ap}
-use Rattle.beechdoublet.specs.Handed.{arrivedNumbers}
 use borrow.Author.Needs.{needs}
 use Rattle.beechdoublet.proofs.arrived_numbers.Statement.{statement}
 use Rattle.beechdoublet.proofs.arrived_numbers.Tie as tie
@@ -46,13 +44,13 @@ cast-t16 c = search needs
 
 returns : tie.Need-returns
 returns c =
-    let a = c .before .before .before .before .before .before .before .before .before .args in
-    sym (ap (λ d. arrivedNumbers d (a .a) (a .t)) (c .before .before .before .before .before .before .before .d .given .1))
+    let k = c .before .before .before in
+    rw (k .before .before .before .before .d .given .1)
 
 returns-2 : tie.Need-returns-2
 returns-2 c =
-    let a = c .before .before .before .before .before .before .before .args in
-    sym (ap (λ d. arrivedNumbers d (a .a) (a .t)) (c .before .before .before .before .before .enum-told .given .1))
+    let k = c .before .before in
+    rw (k .before .before .before .enum-told .given .1)
 
 pub arrived-numbers-spec : {M : Type 1} → statement M
 arrived-numbers-spec =

@@ -1,8 +1,4 @@
 -- `beechdoublet::beechdoublet_update` meets its contract. Assumes nothing.
-use mathlib.Core.Path.{ap, _∙_}
-use lib.ListN.{length}
-use Rattle.beechdoublet.specs.Numbers.{updateNumber, updateNumbers}
-use Rattle.beechdoublet.specs.Handed.{updateAs, outAs, stateAs}
 use borrow.Author.Needs.{needs}
 use Rattle.beechdoublet.proofs.beechdoublet_update.Statement.{statement}
 use Rattle.beechdoublet.proofs.beechdoublet_update.Tie as tie
@@ -21,16 +17,11 @@ same-length c = search needs
 
 returns : tie.Need-returns
 returns c =
-    let a = c .before .before .before .before .before .before .before .before .before .before .before .before .args in
-    let u = c .before .before .before .before .before .updated .ensures in
+    let out = c .before .before .before .before in
+    let u = out .before .updated .ensures in
+    let h = out .before .before .before .hand-in .ensures in
     let t = c .tell-update .ensures in
-    let h = c .before .before .before .before .before .before .before .hand-in .ensures in
-    let e = u .0 ∙ ap (λ k. updateAs k (a .strip .now) (a .msg .now) (length (a .out .now))) h in (
-      t .0 ∙ ap updateNumber e,
-      t .1 ∙ ap updateNumbers e,
-      t .2 ∙ ap (λ v. stateAs v (a .state .now)) e,
-      u .1 ∙ ap (λ k. outAs k (a .strip .now) (a .msg .now) (a .out .now)) h,
-    )
+    (rw (← h, ← u .0) (t .0), rw (← h, ← u .0) (t .1), rw (← h, ← u .0) (t .2), rw (← h) (u .1))
 
 pub beechdoublet-update-spec : {M : Type 1} → statement M
 beechdoublet-update-spec =

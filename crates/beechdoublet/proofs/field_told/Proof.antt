@@ -4,16 +4,16 @@ use Rattle.beechdoublet.proofs.field_told.Statement.{statement}
 use Rattle.beechdoublet.proofs.field_told.Tie as tie
 
 returns : tie.Need-returns
-returns c = let a = c .before .args in rw (le-ltb 255 (a .asked) (c .if1 .taken))
+returns c = rw (le-ltb 255 _ (c .if1 .taken))
 
 returns-2 : tie.Need-returns-2
-returns-2 c = let a = c .before .before .args in rw (lt-ltb 255 (a .asked) (c .before .if1 .left), ne-eqb (a .number) 8 (c .if2 .taken))
+returns-2 c = rw (lt-ltb 255 _ (c .before .if1 .left), ne-eqb _ 8 (c .if2 .taken))
 
 returns-3 : tie.Need-returns-3
-returns-3 c = let a = c .before .before .before .args in rw (lt-ltb 255 (a .asked) (c .before .before .if1 .left), eq-eqb (a .number) 8 (c .before .if2 .left), ne-eqb (a .field) 0 (c .if3 .taken))
+returns-3 c = rw (lt-ltb 255 _ (c .before .before .if1 .left), eq-eqb _ 8 (c .before .if2 .left), ne-eqb _ 0 (c .if3 .taken))
 
 returns-4 : tie.Need-returns-4
-returns-4 c = let a = c .before .before .before .args in rw (lt-ltb 255 (a .asked) (c .before .before .if1 .left), eq-eqb (a .number) 8 (c .before .if2 .left), eq-eqb (a .field) 0 (c .if3 .left))
+returns-4 c = rw (lt-ltb 255 _ (c .before .before .if1 .left), eq-eqb _ 8 (c .before .if2 .left), eq-eqb _ 0 (c .if3 .left))
 
 pub field-told-spec : {M : Type 1} → statement M
 field-told-spec = tie.close (tie.spec returns returns-2 returns-3 returns-4)

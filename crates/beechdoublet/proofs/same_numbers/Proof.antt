@@ -2,9 +2,8 @@
 use Rattle.beechdoublet.specs.Handed.{agree}
 use Rattle.beechdoublet.proofs.Steps.{agree-stop, agree-next}
 use mathlib.Core.Bool.{true}
-use mathlib.Core.Path.{subst}
 use Prim.Native.Nat.{_-_, _≤_}
-use mathlib.Core.Path.{_≡_, refl, sym}
+use mathlib.Core.Path.{_≡_, refl, sym, subst}
 use borrow.Author.Needs.{needs}
 use native.Mathlib.Omega.{arith}
 use Rattle.beechdoublet.proofs.same_numbers.Statement.{statement}
@@ -33,8 +32,9 @@ element-copy-out-if1-2 c = search needs
 
 returns : tie.Need-returns Inv-loop μ-loop
 returns c =
-    let a = c .before .before .before .before .before .args in
-    sym (agree-stop (a .a .now) (a .b .now) 8 (c .before .before .before .before .loop .i) (c .before .before .before .loop-test .taken) (c .if1 .taken))
+    let inside = c .before .before .before in
+    let a = inside .before .before .args in
+    sym (agree-stop (a .a .now) (a .b .now) 8 (inside .before .loop .i) (inside .loop-test .taken) (c .if1 .taken))
 
 add-i : tie.Need-add-i Inv-loop μ-loop
 add-i c = search needs
@@ -44,8 +44,9 @@ loop-less c = search needs
 
 loop-again : tie.Need-loop-again Inv-loop μ-loop
 loop-again c =
-    let a = c .before .before .before .before .before .args in
-    let l = c .before .before .before .before .loop in
+    let looped = c .before .before .before .before in
+    let a = looped .before .args in
+    let l = looped .loop in
     (omega arith, agree-next (a .a .now) (a .b .now) (l .i) (l .inv .1) (c .if1 .left))
 
 returns-2 : tie.Need-returns-2 Inv-loop μ-loop

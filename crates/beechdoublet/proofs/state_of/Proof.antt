@@ -57,13 +57,14 @@ minute-of-requires-2 c κs = search needs
 
 returns-2 : tie.Need-returns-2
 returns-2 c =
-    let b = c .before .before .before .before .before .before .before .before in
-    let d = b .before .before in
-    let s = d .before .before .before .before .before .before in
-    arrived-is (s .args .n .now) (d .before .before .before .before .if1 .left) (d .before .before .before .if2 .taken) _ _ _ _ _ _
-    (d .departure-of .ensures) (b .byte-of .ensures)
-    (c .before .before .before .before .before .before .byte-of2 .ensures) (c .before .before .before .before .byte-of3 .ensures)
-    (c .before .before .byte-of4 .ensures) (c .minute-of2 .ensures)
+    let b4 = c .before .before in
+    let b3 = b4 .before .before in
+    let b2 = b3 .before .before in
+    let b1 = b2 .before .before in
+    let d = b1 .before .before in
+    let two = d .before .before .before in
+    arrived-is (two .before .before .before .args .n .now) (two .before .if1 .left) (two .if2 .taken) _ _ _ _ _ _ (d .departure-of .ensures)
+    (b1 .byte-of .ensures) (b2 .byte-of2 .ensures) (b3 .byte-of3 .ensures) (b4 .byte-of4 .ensures) (c .minute-of2 .ensures)
 
 returns-3 : tie.Need-returns-3
 returns-3 c = cancelled-is (c .before .before .before .before .args .n .now) (c .before .before .if1 .left) (c .before .if2 .left) (c .if3 .taken)

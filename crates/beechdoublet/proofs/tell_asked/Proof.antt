@@ -1,8 +1,4 @@
 -- `beechdoublet::tell_asked` meets its contract. Assumes nothing.
-use Prim.Native.Nat.{ℕ}
-use mathlib.Core.Path.{sym, ap, _∙_}
-use mathlib.Core.List.{[], _∷_}
-use Rattle.beechdoublet.specs.Numbers.{askedNumber, askedNumbers, askedWhole}
 use borrow.Author.Needs.{needs}
 use Rattle.beechdoublet.proofs.tell_asked.Statement.{statement}
 use Rattle.beechdoublet.proofs.tell_asked.Tie as tie
@@ -23,23 +19,13 @@ cast-t17 : tie.Need-cast-t17
 cast-t17 c = search needs
 
 returns : tie.Need-returns
-returns c =
-    let e = c .before .before .a .given .1 in
-    (sym (ap askedNumber e), sym (ap (λ x. askedNumbers (askedWhole (c .before .before .before .before .args .asked) x)) e))
+returns c = let e = c .before .before .a .given .1 in (rw e, rw e)
 
 returns-2 : tie.Need-returns-2
-returns-2 c =
-    let e = c .before .before .a2 .given .1 in
-    (sym (ap askedNumber e), sym (ap (λ x. askedNumbers (askedWhole (c .before .before .before .before .args .asked) x)) e))
+returns-2 c = let e = c .before .before .a2 .given .1 in (rw e, rw e)
 
 returns-3 : tie.Need-returns-3
-returns-3 c =
-    let e = c .before .before .before .a3 .given .1 in
-    let g = c .before .before .before .a3 .given .0 in (
-      sym (ap askedNumber e),
-      ap (λ (f : ℕ). g .0 ∷ f ∷ g .1 .1 .0 ∷ 0 ∷ 0 ∷ 0 ∷ []) (c .before .field-told .ensures)
-          ∙ sym (ap (λ x. askedNumbers (askedWhole (c .before .before .before .before .before .args .asked) x)) e),
-    )
+returns-3 c = let e = c .before .before .before .a3 .given .1 in (rw e, rw (e, c .before .field-told .ensures))
 
 pub tell-asked-spec : {M : Type 1} → statement M
 tell-asked-spec =

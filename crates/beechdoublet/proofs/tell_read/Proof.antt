@@ -1,6 +1,4 @@
 -- `beechdoublet::tell_read` meets its contract. Assumes nothing.
-use mathlib.Core.Path.{sym, ap}
-use Rattle.beechdoublet.specs.Numbers.{readNumber, readNumbers}
 use borrow.Author.Needs.{needs}
 use Rattle.beechdoublet.proofs.tell_read.Statement.{statement}
 use Rattle.beechdoublet.proofs.tell_read.Tie as tie
@@ -21,13 +19,10 @@ cast-t12 : tie.Need-cast-t12
 cast-t12 c = search needs
 
 returns : tie.Need-returns
-returns c = (
-  sym (ap readNumber (c .before .before .before .a .given .1)),
-  rw (c .before .type-number .ensures) (sym (ap readNumbers (c .before .before .before .a .given .1))),
-)
+returns c = let e = c .before .before .before .a .given .1 in (rw e, rw (e, c .before .type-number .ensures))
 
 returns-2 : tie.Need-returns-2
-returns-2 c = (sym (ap readNumber (c .before .before .a2 .given .1)), sym (ap readNumbers (c .before .before .a2 .given .1)))
+returns-2 c = let e = c .before .before .a2 .given .1 in (rw e, rw e)
 
 pub tell-read-spec : {M : Type 1} → statement M
 tell-read-spec =

@@ -1,7 +1,4 @@
 -- `beechdoublet::tell_update` meets its contract. Assumes nothing.
-use mathlib.Core.Path.{sym, ap, _∙_}
-use Rattle.beechdoublet.specs.Numbers.{updateNumber, updateNumbers}
-use Rattle.beechdoublet.specs.Handed.{stateAs}
 use borrow.Author.Needs.{needs}
 use Rattle.beechdoublet.proofs.tell_update.Statement.{statement}
 use Rattle.beechdoublet.proofs.tell_update.Tie as tie
@@ -22,20 +19,10 @@ cast-t14 : tie.Need-cast-t14
 cast-t14 c = search needs
 
 returns : tie.Need-returns
-returns c =
-    let e = c .before .before .before .u .given .1 in (
-      sym (ap updateNumber e),
-      sym (ap updateNumbers e),
-      c .before .state-numbers .ensures ∙ sym (ap (λ u. stateAs u (c .before .before .before .before .before .args .state .now)) e),
-    )
+returns c = let e = c .before .before .before .u .given .1 in (rw e, rw e, rw e (c .before .state-numbers .ensures))
 
 returns-2 : tie.Need-returns-2
-returns-2 c =
-    let e = c .before .before .u2 .given .1 in (
-      sym (ap updateNumber e),
-      sym (ap updateNumbers e),
-      sym (ap (λ u. stateAs u (c .before .before .before .before .args .state .now)) e),
-    )
+returns-2 c = let e = c .before .before .u2 .given .1 in (rw e, rw e, rw e)
 
 pub tell-update-spec : {M : Type 1} → statement M
 tell-update-spec =

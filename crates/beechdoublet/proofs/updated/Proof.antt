@@ -1,7 +1,4 @@
 -- `beechdoublet::updated` meets its contract. Assumes nothing.
-use mathlib.Core.Path.{sym, ap, _∙_}
-use lib.ListN.{length}
-use Rattle.beechdoublet.specs.Handed.{updateAs, outAs}
 use borrow.Author.Needs.{needs}
 use Rattle.beechdoublet.proofs.updated.Statement.{statement}
 use Rattle.beechdoublet.proofs.updated.Tie as tie
@@ -20,18 +17,12 @@ same-length c = search needs
 
 returns : tie.Need-returns
 returns c =
-    let a = c .before .before .before .before .before .before .before .before .before .before .args in
-    let u = c .before .before .update .ensures in (
-      u .0 ∙ sym (ap (λ h. updateAs h (a .strip .now) (a .msg .now) (length (a .out .now))) (c .before .before .before .before .before .h .given .1)),
-      u .1 ∙ sym (ap (λ h. outAs h (a .strip .now) (a .msg .now) (a .out .now)) (c .before .before .before .before .before .h .given .1)),
-    )
+    let u = c .before .before in
+    let e = u .before .before .before .h .given .1 in
+    (rw e (u .update .ensures .0), rw e (u .update .ensures .1))
 
 returns-2 : tie.Need-returns-2
-returns-2 c =
-    let a = c .before .before .before .before .before .args in (
-      sym (ap (λ h. updateAs h (a .strip .now) (a .msg .now) (length (a .out .now))) (c .enum-told .given .1)),
-      sym (ap (λ h. outAs h (a .strip .now) (a .msg .now) (a .out .now)) (c .enum-told .given .1)),
-    )
+returns-2 c = let e = c .enum-told .given .1 in (rw e, rw e)
 
 pub updated-spec : {M : Type 1} → statement M
 updated-spec =
