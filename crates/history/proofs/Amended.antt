@@ -82,7 +82,7 @@ nine-fit cs f g h q u =
     record {
       least = omega arith;
       most = omega arith;
-      fit = fit-from field18 g planFields 0 (λ i l. let z : i ≡ 0 + i = omega arith in subst (λ (k : ℕ). getD planFields i field18 .fits (g k) ≡ true) z (h i l));
+      fit = fit-from field18 g planFields 0 (λ i l. let z : 0 + i ≡ i = omega arith in rw z (h i l));
       named = ap (take 3) q ∙ f .named;
       once = refl;
       explains = eq-eqb (unexplainedIn (fieldsFrom g 0 9)) 0 u;
@@ -274,7 +274,7 @@ module _ (cs ds : List Word) (f : Fitting Fpl 9 cs) where
       w = take 4 (getD cs plan13 []) ++ drop 4 (getD ds brief13 [])
 
       go : (b : Bool) → eqb i 5 ≡ b → getD planFields i field18 .fits (cond b w (getD cs i [])) ≡ true
-      go true q = subst (λ (k : ℕ). getD planFields k field18 .fits w ≡ true) (sym (eqb-true i 5 q)) (retimed-fits (getD cs plan13 []) (getD ds brief13 []) thirteen a)
+      go true q = rw (eqb-true i 5 q) (retimed-fits (getD cs plan13 []) (getD ds brief13 []) thirteen a)
       go false q = plan-fit cs f i l
 
   after-fit : (role : Role) → Sayings role ds → (i : ℕ) → i < 9 → getD planFields i field18 .fits (after role cs ds i) ≡ true

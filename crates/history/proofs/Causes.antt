@@ -59,7 +59,8 @@ use Rattle.history.proofs.Amended.{entries-fit, Sayings, amended-nine}
 
 -- WHAT THE CONTENTS OF AN ACCEPTED MESSAGE ARE, by its role
 
-form-fits : (fs : List Form) (cs : List Word) → fitAll (map fieldOf fs) cs ≡ true → (i : ℕ) → i < length fs → fieldOf (getD fs i Field22) .fits (getD cs i []) ≡ true
+form-fits : (fs : List Form) (cs : List Word) → fitAll (map fieldOf fs) cs ≡ true
+    → (i : ℕ) → i < length fs → fieldOf (getD fs i Field22) .fits (getD cs i []) ≡ true
 form-fits [] cs e i l = absurd (omega arith)
 form-fits (f ∷ fs) [] e i l = absurd (false≢true e)
 form-fits (f ∷ fs) (c ∷ cs) e zero l = both (fieldOf f .fits c) (fitAll (map fieldOf fs) cs) e .0
@@ -286,6 +287,11 @@ module _ (strip : List ℕ) (s : Strip) (m : List ℕ) (room : ℕ) (p : Proper 
     unfolding offeredAs
     type-update = proper-update q
 
+    unfit-update : fitType t ≡ false → updateOf strip s m room ≡ Refused 14 0 0
+    unfit-update e =
+        type-update
+        ∙ ap (λ (o : Offered). eventAs o (roleOf t) (inner strip) s (textSaid t m) room) (unfit-role (roleOf t) (split 45 (textSaid t m)) e)
+
     module _ (e : fitType t ≡ true) where
       heard : split 45 (textSaid t m) ≡ contents m
       heard = said-contents t m (fit-plain (roleOf t) e) (accepted-taken t m 1800 n q .reached)
@@ -307,7 +313,9 @@ module _ (strip : List ℕ) (s : Strip) (m : List ℕ) (room : ℕ) (p : Proper 
           type-update
           ∙ ap (λ (o : Offered). eventAs o (roleOf t) (inner strip) s (textSaid t m) room)
           (ap (eventOf (roleOf t)) heard ∙ event-told t (countOf m) (contents m) read-fitting (roleOf t) refl e)
-          ∙ ap₂ (λ (x y : List Word). answered-by x y (allowedIn s (event (roleOf t) (contents m))) (amended (roleOf t) (inner strip) (textSaid t m))) planned heard
+          ∙ ap₂
+          (λ (x y : List Word). answered-by x y (allowedIn s (event (roleOf t) (contents m))) (amended (roleOf t) (inner strip) (textSaid t m)))
+          planned heard
           ∙ ap₂ (answered-by (contents strip) (contents m)) (allowed-told (s .state) t (contents m) e) amended-on
 
       same-on : differs (differences (roleOf t) (contents strip) (contents m)) ≡ false → Same (planOn strip) (told m)
@@ -372,10 +380,7 @@ module _ (strip : List ℕ) (s : Strip) (m : List ℕ) (room : ℕ) where
     in-type : (b : Bool) → fitType t ≡ b → Verdict (updateOf strip s m room)
     in-type true e =
         subst Verdict (sym (fit-update strip s m room p t n q e)) (in-flight e (differs (differences (roleOf t) (contents strip) (contents m))) refl)
-    in-type false e =
-        subst Verdict
-        (sym (type-update strip s m room p t n q ∙ ap (λ (o : Offered). eventAs o (roleOf t) (inner strip) s (textSaid t m) room) (unfit-role (roleOf t) (split 45 (textSaid t m)) e)))
-        (no-type p q e)
+    in-type false e = subst Verdict (sym (unfit-update strip s m room p t n q e)) (no-type p q e)
 
   in-answer : Proper strip s → (a : Answer) → answerOf m 1800 ≡ a → Verdict (updateOf strip s m room)
   in-answer p (ReadAs t n) q = in-type p t n q (fitType t) refl
@@ -422,8 +427,7 @@ module _ (strip : List ℕ) (s : Strip) (m : List ℕ) (room : ℕ) where
       proper-update strip s m room p q ∙ rw (le-leb _ 9 l)
   cause-refused number field place (not-fit p q) =
       proper-update strip s m room p q
-  cause-refused number field place (no-type p {t} {n} q e) =
-      type-update strip s m room p t n q ∙ ap (λ (o : Offered). eventAs o (roleOf t) (inner strip) s (textSaid t m) room) (unfit-role (roleOf t) (split 45 (textSaid t m)) e)
+  cause-refused number field place (no-type p {t} {n} q e) = unfit-update strip s m room p t n q e
   cause-refused number field place (another-flight p {t} {n} q e h) =
       fit-update strip s m room p t n q e ∙ go (differs (differences (roleOf t) (contents strip) (contents m))) refl
     where

@@ -72,7 +72,8 @@ module _ (m : List ℕ) where
   fault-in t = fault-numbers [] 0 (formsOf t (countOf m)) (contents m)
 
   late-count : (t : MessageType) → outer m ≡ Good → typeNamed (three m) ≡ Read t → (a b : Bool)
-      → ltb (countOf m) (leastOf t) ≡ a → ltb (greatestOf t) (countOf m) ≡ b → (p q : ℕ) → Late (cond a (Refused 6 0 p) (cond b (Refused 6 0 q) (faultAs (faultIn t (countOf m) (contents m)) t m 1800)))
+      → ltb (countOf m) (leastOf t) ≡ a → ltb (greatestOf t) (countOf m) ≡ b → (p q : ℕ)
+      → Late (cond a (Refused 6 0 p) (cond b (Refused 6 0 q) (faultAs (faultIn t (countOf m) (contents m)) t m 1800)))
   late-count t g k true b x y p q = early 6 0 p (omega arith)
   late-count t g k false true x y p q = early 6 0 q (omega arith)
   late-count t g k false false x y p q =
