@@ -123,7 +123,7 @@ first-entry-one chg = cursor-one chg (behindHyphen firstEntry chg)
 pub named-one : (chg : List ℕ) (k : ℕ) → Determines Found (FoundIn chg k)
 named-one chg k (At a b) (At c d) p q =
     let from : a ≡ c = Option·some-injective a c (sym (p .3) ∙ q .3) in
-    let same : take (b - a) (drop a chg) ≡ take (d - c) (drop c chg) = Option·some-injective (take (b - a) (drop a chg)) (take (d - c) (drop c chg)) (sym (p .2) ∙ q .2) in
+    let same : take (b - a) (drop a chg) ≡ take (d - c) (drop c chg) = Option·some-injective _ _ (sym (p .2) ∙ q .2) in
     let long : b - a ≡ d - c
     = sym (length-take-le (b - a) (drop a chg) (omega (arith, p .1, length-drop a chg))) ∙ ap length same
     ∙ length-take-le (d - c) (drop c chg) (omega (arith, q .1, length-drop c chg)) in

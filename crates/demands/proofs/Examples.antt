@@ -1,6 +1,7 @@
 -- Every example of the list holds: one statement, which is computed. Assumes nothing.
 use mathlib.Core.Path.{refl}
 use mathlib.Core.List.{List, [], _∷_, _++_}
+use lib.ListN.{take, drop}
 use Rattle.alphabet.specs.Alphabet.{text, inAlphabet, white}
 use Rattle.shape.specs.Shape.{letters}
 use Rattle.shape.specs.Time.{timeFits}
@@ -42,7 +43,9 @@ unfolding text inAlphabet white letters timeFits fits7 fits9 countFits aircraftF
     levelDigits speeds levels starts changes climbs within radialFits indicators nameFits pointFits pairFits elementFits fits15 statuses approvals
     approved daysIn date timedWord hexadecimal base fitsIn
 fields-hold =
-    (refl, (refl, (refl, (refl, (refl, (refl, (refl, (refl, (refl, (refl, (refl, (refl, (refl, (refl, (refl, (refl, (refl, (refl, (refl, (refl, (refl, tt)))))))))))))))))))))
+    both-hold (take 11 ofFields) (drop 11 ofFields)
+    (refl, (refl, (refl, (refl, (refl, (refl, (refl, (refl, (refl, (refl, (refl, tt)))))))))))
+    (refl, (refl, (refl, (refl, (refl, (refl, (refl, (refl, (refl, (refl, tt))))))))))
 
 messages-hold : AllHold ofMessages
 unfolding answerOf countAs faultIn spellingOf outer parens parensFrom lettersFrom inAlphabet white reduced reducedFrom standsForRun opens closes hyphens
