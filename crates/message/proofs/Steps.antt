@@ -1,4 +1,4 @@
--- The answers, as the code comes to them: of each number its answer, and what the output then holds. Assumes nothing.
+-- The answers, as the code comes to them: of each number its answer. Assumes nothing.
 use Prim.Native.Nat.{ℕ, suc, _-_, _<_, _≤_}
 use mathlib.Core.Path.{_≡_, refl, sym, ap, ap₂, _∙_}
 use mathlib.Core.Bool.{Bool, true, false, cond}
@@ -16,34 +16,17 @@ use Rattle.space.proofs.Reduced.{never-longer}
 use Rattle.space.proofs.Frame.{frame-stays}
 use Rattle.sent.specs.Sent.{contents}
 use Rattle.sent.proofs.Passed.{passed-count}
-use Rattle.outer.specs.declared.Outer.{Outer}
 use Rattle.outer.specs.declared.Outer.the-variants.{Good}
 use Rattle.outer.specs.Outer.{outer, Passed}
 use Rattle.outer.proofs.Good.{good-passed}
 use Rattle.kinds.specs.declared.MessageType.{MessageType}
-use Rattle.kinds.specs.declared.Named.{Named}
-use Rattle.kinds.specs.Kinds.{leastOf, greatestOf, formsOf, formAt, numberOf, typeNamed}
+use Rattle.kinds.specs.Kinds.{leastOf, greatestOf, formsOf, formAt, numberOf}
 use Rattle.kinds.proofs.Fields.{forms-length}
 use Rattle.message.specs.declared.Fault.{Fault}
 use Rattle.message.specs.declared.Fault.the-variants.{Clear, At}
-use Rattle.message.specs.declared.Answer.{Answer}
 use Rattle.message.specs.declared.Answer.the-variants.{Accepted, Refused}
-use Rattle.message.specs.Reading.{textOf, countOf, spelledFrom, spellingOf, faultIn, isPlan, unexplainedIn, placeInPlan, Counted, three}
-use Rattle.message.specs.Reading.{roomAs, faultAs, fieldsAs, countAs, typeAs, outerAs, answerOf, writtenAs, outAfter}
-
--- WHAT IS ANSWERED, AND WHAT IS WRITTEN
-
--- the answer due, and the output that goes with it
-abbrev pub Due : Answer → List ℕ → List ℕ → Answer → List ℕ → Type 0
-Due due m out answer after = (answer ≡ due) × (after ≡ writtenAs due m out)
-
--- an answer that is the one due
-pub told : (due answer : Answer) (m out after : List ℕ) → due ≡ answer → after ≡ writtenAs answer m out → Due due m out answer after
-told due answer m out after e w = (sym e, w ∙ ap (λ (a : Answer). writtenAs a m out) (sym e))
-
--- a callee's answer, where what is due is due there
-pub passed-on : (due there answer : Answer) (m out after : List ℕ) → due ≡ there → Due there m out answer after → Due due m out answer after
-passed-on due there answer m out after e d = (d .0 ∙ sym e, d .1 ∙ ap (λ (a : Answer). writtenAs a m out) (sym e))
+use Rattle.message.specs.Reading.{textOf, countOf, spelledFrom, spellingOf, faultIn, isPlan, unexplainedIn, placeInPlan, Counted}
+use Rattle.message.specs.Reading.{roomAs, faultAs, fieldsAs, countAs}
 
 -- NUMBERS 10 AND 11
 
@@ -156,18 +139,3 @@ module _ (t : MessageType) (m : List ℕ) (room count : ℕ) (c : count ≡ coun
   pub enough : leastOf t ≤ count → count ≤ greatestOf t → countAs t m room ≡ fieldsAs t m room
   unfolding countAs
   enough l h = rw (le-ltb (countOf m) (leastOf t) (omega arith), le-ltb (greatestOf t) (countOf m) (omega arith))
-
--- NUMBERS 1 TO 5
-
-pub type-as : (m : List ℕ) (room : ℕ) (k : Named) → typeNamed (three m) ≡ k → outerAs Good m room ≡ typeAs k m room
-type-as m room k e = ap (λ (x : Named). typeAs x m room) e
-
-pub outer-as : (m : List ℕ) (room : ℕ) (o : Outer) → outer m ≡ o → answerOf m room ≡ outerAs o m room
-unfolding answerOf
-outer-as m room o e = ap (λ (x : Outer). outerAs x m room) e
-
--- the whole: what is due is the answer, and the output after it
-pub whole-answer : (m out : List ℕ) (answer : Answer) (after : List ℕ) → Due (answerOf m (length out)) m out answer after
-    → (answer ≡ answerOf m (length out)) × (after ≡ outAfter m out)
-unfolding outAfter
-whole-answer m out answer after d = d

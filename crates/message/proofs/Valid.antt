@@ -19,7 +19,6 @@ use Rattle.sent.proofs.Sent.{sent-contents, sent-count, sent-three, sent-good}
 use Rattle.outer.specs.Outer.{Passed}
 use Rattle.outer.proofs.Good.{good-passed}
 use Rattle.kinds.specs.declared.MessageType.{MessageType}
-use Rattle.kinds.specs.declared.Named.the-variants.{Read}
 use Rattle.kinds.specs.Kinds.{leastOf, greatestOf, formsOf, nameOf, typesRead, typeNamed}
 use Rattle.kinds.proofs.Fields.{least-some, forms-length}
 use Rattle.kinds.proofs.Names.{name-read, read-name, each}

@@ -1,13 +1,11 @@
 -- `message::read_count` meets its contract. Assumes nothing.
-use Prim.Native.Nat.{ℕ, _+_, _≤_}
-use mathlib.Core.Path.{_≡_, refl, sym, ap, _∙_}
+use Prim.Native.Nat.{ℕ, _+_, _≤_, _<_}
+use mathlib.Core.Path.{_≡_, refl, ap}
 use mathlib.Core.List.{List}
 use lib.ListN.{length}
-use Rattle.space.specs.Hyphens.{placeOfHyphen}
 use Rattle.kinds.specs.Kinds.{leastOf, greatestOf}
-use Rattle.message.specs.declared.Answer.the-variants.{Refused}
 use Rattle.message.specs.Reading.{countOf}
-use Rattle.message.proofs.Steps.{told, passed-on, too-few, too-many, enough, some-bytes}
+use Rattle.message.proofs.Steps.{too-few, too-many, enough, some-bytes}
 use native.Mathlib.Omega.{arith}
 use borrow.Author.Needs.{needs}
 use Rattle.message.proofs.read_count.Statement.{statement}
@@ -21,8 +19,8 @@ module _ (c : tie.After-count-hyphens) where
   abbrev msg : List ℕ
   msg = start .args .msg .now
 
-  abbrev out : List ℕ
-  out = start .args .out .now
+  abbrev room : ℕ
+  room = length (start .args .out .now)
 
   abbrev count : ℕ
   count = c .count-hyphens .result + 1
@@ -61,8 +59,7 @@ sub-t9 c = let d = c .before .before in omega (arith, some-bytes (msg d) (start 
 returns : tie.Need-returns
 returns c =
     let d = c .before .before in
-    told _ _ (msg d) (out d) _
-    (too-few (start d .args .t) (msg d) (length (out d)) _ (count-is d) (omega (arith, c .before .least .ensures, c .if1 .taken))) refl
+    rw (too-few (start d .args .t) (msg d) (room d) _ (count-is d) (omega (arith, c .before .least .ensures, c .if1 .taken))) (refl, refl)
 
 greatest-requires : tie.Need-greatest-requires
 greatest-requires c κs = search needs
@@ -74,10 +71,12 @@ returns-2 : tie.Need-returns-2
 returns-2 c =
     let g = c .before .before in
     let d = counted (g .before) in
-    let place = c .place-of-hyphen .ensures ∙ ap (λ (j : ℕ). placeOfHyphen j (msg d)) (g .greatest .ensures) in
-    told _ _ (msg d) (out d) _
-    (too-many (start d .args .t) (msg d) (length (out d)) _ (count-is d) (at-least (g .before)) (omega (arith, g .greatest .ensures, c .before .if2 .taken))
-    ∙ ap (Refused 6 0) (sym place)) refl
+    let h : greatestOf (start d .args .t) < count d = omega (arith, g .greatest .ensures, c .before .if2 .taken) in
+    rw (
+      too-many (start d .args .t) (msg d) (room d) _ (count-is d) (at-least (g .before)) h,
+      ← g .greatest .ensures,
+      ← c .place-of-hyphen .ensures,
+    ) (refl, refl)
 
 read-reduced-requires : tie.Need-read-reduced-requires
 read-reduced-requires c κs =
@@ -94,7 +93,7 @@ returns-3 c =
     let e = r .before .before in
     let m = many e in
     let d = counted m in
-    passed-on _ _ _ (msg d) (out d) _ (enough (start d .args .t) (msg d) (length (out d)) _ (count-is d) (at-least m) (at-most e)) (r .read-reduced .ensures)
+    rw (enough (start d .args .t) (msg d) (room d) _ (count-is d) (at-least m) (at-most e)) (r .read-reduced .ensures)
 
 pub read-count-spec : {M : Type 1} → statement M
 read-count-spec =

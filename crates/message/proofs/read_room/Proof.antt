@@ -1,15 +1,13 @@
 -- `message::read_room` meets its contract. Assumes nothing.
 use Prim.Native.Nat.{ℕ}
-use mathlib.Core.Path.{refl, sym, ap, _∙_}
-use mathlib.Core.List.{List}
+use mathlib.Core.Path.{refl, sym, _∙_}
 use native.Mathlib.Omega.{arith}
 use lib.ListN.{length}
 use borrow.Author.Tests.{leb-true, leb-false, not-true, not-false}
 use Rattle.text.specs.Words.{split}
-use Rattle.text.specs.Lent.{front}
 use Rattle.kinds.specs.Kinds.{formsOf}
 use Rattle.message.specs.Reading.{spelledFrom}
-use Rattle.message.proofs.Steps.{told, room-short, room-enough, spelling-is}
+use Rattle.message.proofs.Steps.{room-short, room-enough, spelling-is}
 use borrow.Author.Needs.{needs}
 use Rattle.message.proofs.read_room.Statement.{statement}
 use Rattle.message.proofs.read_room.Tie as tie
@@ -19,13 +17,9 @@ module _ (c : tie.After-has-room) where
   abbrev start : tie.Start
   start = c .before .before .before .before
 
-  abbrev msg : List ℕ
-  msg = start .args .msg .now
+  abbrev room : ℕ
+  room = length (start .args .out .now)
 
-  abbrev out : List ℕ
-  out = start .args .out .now
-
-  -- how many bytes it takes
   abbrev long : ℕ
   long = length (spelledFrom 40 (formsOf (start .args .t) (start .args .count)) (split 45 (start .args .s .now)))
 
@@ -35,8 +29,8 @@ has-room-requires c κs = (c .before .before .before .pre .short, c .before .bef
 returns : tie.Need-returns
 returns c =
     let d = c .before in
-    let h = leb-false (long d) (length (out d)) (sym (d .has-room .ensures) ∙ not-true _ (c .if1 .taken)) in
-    told _ _ (msg d) (out d) _ (room-short _ _ _ _ (start d .pre) (length (out d)) (long d) refl h) refl
+    let h = leb-false (long d) (room d) (sym (d .has-room .ensures) ∙ not-true _ (c .if1 .taken)) in
+    rw (room-short _ _ _ _ (start d .pre) (room d) (long d) refl h) (refl, refl)
 
 write-fields-requires : tie.Need-write-fields-requires
 write-fields-requires c κs =
@@ -52,10 +46,9 @@ returns-2 c =
     let e = w .before .before in
     let d = e .before in
     let k = start d .pre in
-    let h = leb-true (long d) (length (out d)) (sym (d .has-room .ensures) ∙ not-false _ (e .if1 .left)) in
-    told _ _ (msg d) (out d) _
-    (room-enough _ _ _ _ k (length (out d)) _ (w .write-fields .ensures .0) (omega (arith, w .write-fields .ensures .0, h)))
-    (w .write-fields .ensures .1 ∙ ap (λ (l : List ℕ). front l (out d)) (spelling-is _ _ _ _ k))
+    let n = w .write-fields .ensures in
+    let h = leb-true (long d) (room d) (sym (d .has-room .ensures) ∙ not-false _ (e .if1 .left)) in
+    rw (room-enough _ _ _ _ k (room d) _ (n .0) (omega (arith, n .0)), ← spelling-is _ _ _ _ k) (refl, n .1)
 
 pub read-room-spec : {M : Type 1} → statement M
 read-room-spec =

@@ -1,9 +1,7 @@
 -- `message::read_text` meets its contract. Assumes nothing.
-use mathlib.Core.Path.{refl, sym, ap, ap₂, _∙_}
+use mathlib.Core.Path.{refl, sym, _∙_}
 use lib.ListN.{length}
-use Rattle.kinds.specs.Kinds.{numberOf}
-use Rattle.message.specs.declared.Answer.the-variants.{Refused}
-use Rattle.message.proofs.Steps.{told, passed-on, field-fault, fields-clear}
+use Rattle.message.proofs.Steps.{field-fault, fields-clear}
 use borrow.Author.Needs.{needs}
 use Rattle.message.proofs.read_text.Statement.{statement}
 use Rattle.message.proofs.read_text.Tie as tie
@@ -38,11 +36,12 @@ returns : tie.Need-returns
 returns c =
     let n = c .before .before .before .before in
     let d = n .before .before in
-    let a = start d .args in
-    let field = c .before .number2 .ensures ∙ ap numberOf (c .before .before .form-at .ensures) in
-    told _ _ (a .msg .now) (a .out .now) _
-    (field-fault _ _ _ _ (start d .pre) (length (a .out .now)) _ _ (sym (d .fields-fault .ensures) ∙ n .number .given .1)
-    ∙ ap₂ (Refused (n .number .given .0 .0)) (sym field) (sym (c .place-of-hyphen .ensures))) refl
+    rw (
+      field-fault _ _ _ _ (start d .pre) (length (start d .args .out .now)) _ _ (sym (d .fields-fault .ensures) ∙ n .number .given .1),
+      ← c .before .before .form-at .ensures,
+      ← c .before .number2 .ensures,
+      ← c .place-of-hyphen .ensures,
+    ) (refl, refl)
 
 same-length : tie.Need-same-length
 same-length c = search needs
@@ -52,9 +51,8 @@ returns-2 c =
     let r = c .before .before in
     let t = r .before .before in
     let d = t .before .before in
-    let a = start d .args in
-    passed-on _ _ _ (a .msg .now) (a .out .now) _
-    (fields-clear _ _ _ _ (start d .pre) (length (a .out .now)) (sym (d .fields-fault .ensures) ∙ t .enum-told .given .1)) (r .read-explained .ensures)
+    let clear = fields-clear _ _ _ _ (start d .pre) (length (start d .args .out .now)) (sym (d .fields-fault .ensures) ∙ t .enum-told .given .1) in
+    rw clear (r .read-explained .ensures)
 
 pub read-text-spec : {M : Type 1} → statement M
 read-text-spec =
