@@ -1,9 +1,5 @@
 -- `desk::answer` meets its contract. Assumes nothing.
-use native.Mathlib.Omega.{arith}
-use mathlib.Core.Path.{sym, subst}
 use borrow.Author.Needs.{needs}
-use Rattle.desk.specs.declared.Held.{Held}
-use Rattle.desk.specs.Desk.{InRoom, Offering}
 use Rattle.desk.proofs.answer.Statement.{statement}
 use Rattle.desk.proofs.answer.Tie as tie
 
@@ -18,28 +14,21 @@ enum-known-desk c = search needs
 
 offer-requires : tie.Need-offer-requires
 offer-requires c κs =
-    let start = c .before .before .before .before .before .before in
-    (start .pre .0, subst InRoom (c .before .before .desk .given .1) (start .pre .1))
+    let d = c .before .before in
+    let start = d .before .before .before .before in
+    (start .pre .0, rw (d .desk .given .1) at (start .pre .1))
 
 same-length : tie.Need-same-length
 same-length c = search needs
 
 returns : tie.Need-returns
-returns c =
-    let f = c .before .before in
-    let a = f .before .before .before .before .before .before .args in
-    subst (λ (d : Held). Offering d (a .strip .now) (a .piece .now) (f .file .result) (f .file .last .1 .0)) (sym (c .before .before .before .before .enum-told .given .1))
-    (f .file .ensures)
+returns c = let f = c .before .before in rw (f .before .before .enum-told .given .1) (f .file .ensures)
 
 same-length-2 : tie.Need-same-length-2
 same-length-2 c = search needs
 
 returns-2 : tie.Need-returns-2
-returns-2 c =
-    let o = c .before .before in
-    let a = o .before .before .before .before .before .before .before .args in
-    subst (λ (d : Held). Offering d (a .strip .now) (a .piece .now) (o .offer .result) (o .offer .last .1 .1 .1 .0)) (sym (c .before .before .before .before .before .desk .given .1))
-    (o .offer .ensures)
+returns-2 c = let o = c .before .before in rw (o .before .before .before .desk .given .1) (o .offer .ensures)
 
 pub answer-spec : {M : Type 1} → statement M
 answer-spec =

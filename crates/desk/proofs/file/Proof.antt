@@ -6,6 +6,11 @@ use Rattle.desk.proofs.Offers.{not-filed, other-type, filed}
 use Rattle.desk.proofs.file.Statement.{statement}
 use Rattle.desk.proofs.file.Tie as tie
 
+-- where the piece was read
+module _ (c : tie.After-read) where
+  abbrev start : tie.Start
+  start = c .before .before .before .before
+
 read-requires : tie.Need-read-requires
 read-requires c κs = search needs
 
@@ -20,10 +25,9 @@ same-length c = search needs
 
 returns : tie.Need-returns
 returns c =
-    let r = c .before .before .before .before .before .before .before in
-    let start = r .before .before .before .before in
-    other-type (start .args .strip .now) (start .args .piece .now) _ (start .pre) _ _ (sym (r .read .ensures .0) ∙ c .before .before .before .t .given .1)
-    (sym (c .before .is-plan .ensures) ∙ not-true _ (c .if1 .taken))
+    let t = c .before .before .before in
+    let r = t .before .before .before .before in
+    other-type _ _ _ (start r .pre) _ _ (sym (r .read .ensures .0) ∙ t .t .given .1) (sym (c .before .is-plan .ensures) ∙ not-true _ (c .if1 .taken))
 
 enum-known-number : tie.Need-enum-known-number
 enum-known-number c = search needs
@@ -33,19 +37,19 @@ same-length-2 c = search needs
 
 returns-2 : tie.Need-returns-2
 returns-2 c =
-    let r = c .before .before .before .before .before .before .before in
-    let start = r .before .before .before .before in
-    filed (start .args .strip .now) (start .args .piece .now) _ (start .pre) _ _ (sym (r .read .ensures .0) ∙ c .before .before .before .t .given .1)
-    (sym (c .before .is-plan .ensures) ∙ not-false _ (c .if1 .left)) (r .read .ensures .1)
+    let t = c .before .before .before in
+    let r = t .before .before .before .before in
+    filed _ _ _ (start r .pre) _ _ (sym (r .read .ensures .0) ∙ t .t .given .1) (sym (c .before .is-plan .ensures) ∙ not-false _ (c .if1 .left))
+    (r .read .ensures .1)
 
 same-length-3 : tie.Need-same-length-3
 same-length-3 c = search needs
 
 returns-3 : tie.Need-returns-3
 returns-3 c =
-    let r = c .before .before .before .before .before in
-    let start = r .before .before .before .before in
-    not-filed (start .args .strip .now) (start .args .piece .now) _ (start .pre) _ _ _ _ (sym (r .read .ensures .0) ∙ c .before .number .given .1) refl
+    let n = c .before in
+    let r = n .before .before .before .before in
+    not-filed _ _ _ (start r .pre) _ _ _ _ (sym (r .read .ensures .0) ∙ n .number .given .1) refl
 
 pub file-spec : {M : Type 1} → statement M
 file-spec =

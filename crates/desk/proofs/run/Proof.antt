@@ -52,16 +52,17 @@ loop-less c = search needs
 
 loop-again : tie.Need-loop-again Inv-loop μ-loop
 loop-again c =
-    let s = c .before .before .before .before .before .before .before .before .before .before .before .before .args .s .now in
-    let l = c .before .before .before .before .before .before .before .before .loop in
-    let t = c .before .before .before .take in
-    let e = c .before .before .before .before .before .before .piece-end in
-    let w = c .skip-white2 .ensures in
-    let step = one-more s (l .at) (e .result) _ (boardIn (l .desk) (l .strip)) _ _ (c .before .before .before .before .before .before .before .loop-test .taken) (l .inv .2) (e .ensures) w in (
-      omega (arith, l .inv .0, t .kept .1 .1 .0),
-      t .ensures .1,
-      to-front s (e .result) _ w .none-ahead,
-      step (t .ensures .0) (l .inv .3),
+    let t = c .before .before .before in
+    let e = t .before .before .before in
+    let looped = e .before .before in
+    let s = looped .before .before .before .before .args .s .now in
+    let l = looped .loop in
+    let w = c .skip-white2 .ensures in (
+      omega (arith, l .inv .0, t .take .kept .1 .1 .0),
+      t .take .ensures .1,
+      to-front s _ _ w .none-ahead,
+      one-more s (l .at) _ _ (boardIn (l .desk) (l .strip)) _ _ (e .before .loop-test .taken) (l .inv .2) (e .piece-end .ensures) w (t .take .ensures .0)
+          (l .inv .3),
     )
 
 same-length : tie.Need-same-length Inv-loop μ-loop
@@ -69,8 +70,9 @@ same-length c = search needs
 
 returns : tie.Need-returns Inv-loop μ-loop
 returns c =
-    let s = c .before .before .before .before .before .args .s .now in
-    let l = c .before .loop in
+    let looped = c .before in
+    let s = looped .before .before .before .before .args .s .now in
+    let l = looped .loop in
     sym (ap (afterAll (boardIn (l .desk) (l .strip))) (no-piece s (l .at) (c .loop-test .left))) ∙ l .inv .3
 
 pub run-spec : {M : Type 1} → statement M

@@ -15,11 +15,9 @@ enum-known-held c = search needs
 
 slice-reshare-prefix-strip : tie.Need-slice-reshare-prefix-strip
 slice-reshare-prefix-strip c =
-    let n = c .before .before .before .before .before in
-    let start = n .before .before .before .before in
-    let a = start .args in
-    let h = then-holds (a .desk) (a .strip .now) (a .piece .now) _ _ _ (n .answer .ensures) (c .before .held .given .1) .1 in
-    omega (arith, h, start .pre .0, n .answer .kept .1 .1 .0)
+    let h = c .before in
+    let n = h .before .before .before .before in
+    omega (arith, then-holds _ _ _ _ _ _ (n .answer .ensures) (h .held .given .1) .1, n .before .before .before .before .pre .0, n .answer .kept .1 .1 .0)
 
 slice-aggregate-strip : tie.Need-slice-aggregate-strip
 slice-aggregate-strip c = sym (length-take-le _ _ (slice-reshare-prefix-strip (c .before)))
@@ -38,18 +36,16 @@ same-length c = search needs
 
 returns : tie.Need-returns
 returns c =
-    let n = c .before .before .before .before .before .before .before in
-    let a = n .before .before .before .before .args in
-    then-holds (a .desk) (a .strip .now) (a .piece .now) _ _ _ (n .answer .ensures) (c .before .before .before .held .given .1)
+    let h = c .before .before .before in
+    then-holds _ _ _ _ _ _ (h .before .before .before .before .answer .ensures) (h .held .given .1)
 
 same-length-2 : tie.Need-same-length-2
 same-length-2 c = search needs
 
 returns-2 : tie.Need-returns-2
 returns-2 c =
-    let n = c .before .before .before .before .before .before in
-    let a = n .before .before .before .before .args in
-    then-holds (a .desk) (a .strip .now) (a .piece .now) _ _ _ (n .answer .ensures) (c .before .before .number .given .1)
+    let n = c .before .before in
+    then-holds _ _ _ _ _ _ (n .before .before .before .before .answer .ensures) (n .number .given .1)
 
 pub take-spec : {M : Type 1} → statement M
 take-spec =
