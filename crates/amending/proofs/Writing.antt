@@ -13,7 +13,7 @@ use Rattle.text.specs.Lent.{front}
 use Rattle.text.proofs.Index.{rest, piece}
 use Rattle.text.proofs.Lent.{store, lent}
 use Rattle.space.specs.Hyphens.{behindHyphen}
-use Rattle.supplement.proofs.Turns.{Writing, begin, due, room, onward, all-written}
+use Rattle.canonical.proofs.Turns.{Writing, begin, due, room, onward, all-written}
 use Rattle.kinds.specs.declared.Role.{Role}
 use Rattle.message.specs.Reading.{leadOf}
 use Rattle.message.proofs.Nth.{field-at}

@@ -15,7 +15,7 @@ use Rattle.shape.specs.Numbers.{value}
 use Rattle.space.specs.Reduced.{reduced}
 use Rattle.space.specs.Fields.{inner}
 use Rattle.space.specs.Hyphens.{behindHyphen}
-use Rattle.supplement.specs.Field19.{written19}
+use Rattle.canonical.specs.Canonical.{written19}
 use Rattle.kinds.specs.declared.Form.{Form}
 use Rattle.kinds.specs.Kinds.{firstEntry}
 use Rattle.forms.specs.Forms.{rankIn, writtenOf}

@@ -21,7 +21,7 @@ use Rattle.aerodromes.specs.Field16.{field16, field16plan}
 use Rattle.aerodromes.specs.Field17.{field17}
 use Rattle.route.specs.Field15.{field15}
 use Rattle.other.specs.Field18.{field18}
-use Rattle.supplement.specs.Field19.{written19}
+use Rattle.canonical.specs.Canonical.{written19}
 use Rattle.head.proofs.Field3.{field3-laws}
 use Rattle.head.proofs.Field7.{field7-laws}
 use Rattle.head.proofs.Field8.{field8-laws}
@@ -32,8 +32,8 @@ use Rattle.aerodromes.proofs.Field16.{field16-laws, field16plan-laws}
 use Rattle.aerodromes.proofs.Field17.{field17-laws}
 use Rattle.route.proofs.Field15.{field15-laws}
 use Rattle.other.proofs.Field18.{field18-laws}
-use Rattle.supplement.proofs.Canonical.{field19-laws}
-use Rattle.supplement.proofs.Written.{written-fits, written-shorter}
+use Rattle.canonical.proofs.Canonical.{field19-laws}
+use Rattle.canonical.proofs.Written.{written-fits, written-shorter}
 use Rattle.kinds.specs.declared.Form.{Form}
 use Rattle.kinds.specs.declared.Form.the-variants.{Field3, Field7, Field8, Field9, Field10, Field13, Field13Open, Field15}
 use Rattle.kinds.specs.declared.Form.the-variants.{Field16, Field16Plan, Field17, Field18, Field19, Field22}

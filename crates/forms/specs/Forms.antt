@@ -18,7 +18,8 @@ use Rattle.aerodromes.specs.Field16.{field16, field16plan, fits16plan}
 use Rattle.aerodromes.specs.Field17.{field17}
 use Rattle.route.specs.Field15.{field15}
 use Rattle.other.specs.Field18.{field18}
-use Rattle.supplement.specs.Field19.{field19, written19, fits19, spell19, record19, keyed}
+use Rattle.supplement.specs.Field19.{fits19, spell19, record19, keyed}
+use Rattle.canonical.specs.Canonical.{field19, written19}
 use Rattle.kinds.specs.declared.Form.{Form}
 use Rattle.kinds.specs.declared.Form.the-variants.{Field3, Field7, Field8, Field9, Field10, Field13, Field13Open, Field15}
 use Rattle.kinds.specs.declared.Form.the-variants.{Field16, Field16Plan, Field17, Field18, Field19, Field22}

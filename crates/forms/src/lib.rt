@@ -130,7 +130,7 @@ pub fn spelled_length(f: Form, s: &[u8]) -> usize
     ensures { λ r. ⌜ r ≡ length (writtenOf f (now (s .entry))) ⌝ }
 {
     if f.number() == 19 {
-        return supplement::spelled_length(s);
+        return canonical::spelled_length(s);
     }
     s.len()
 }
@@ -143,5 +143,5 @@ pub fn write_form(f: Form, s: &[u8], out: &mut [u8]) -> usize
     if f.number() != 19 {
         return text::put(s, out);
     }
-    supplement::write_field19(s, out)
+    canonical::write_field19(s, out)
 }

@@ -23,7 +23,8 @@ use Rattle.route.specs.Levels.{speedDigits, levelDigits, speeds, levels, starts
 use Rattle.route.specs.Points.{within, radialFits, indicators, nameFits, pointFits}
 use Rattle.route.specs.Field15.{elementFits, fits15}
 use Rattle.other.specs.Field18.{fitsIn, hasKey}
-use Rattle.supplement.specs.Field19.{written19, fits19, spell19, record19, keyed}
+use Rattle.supplement.specs.Field19.{fits19, spell19, record19, keyed}
+use Rattle.canonical.specs.Canonical.{written19}
 use Rattle.kinds.specs.declared.MessageType.the-variants.{Fpl, Chg, Cnl, Dla, Dep, Arr, Rqp, Rqs, Spl}
 use Rattle.kinds.specs.Kinds.{planForms, briefForms, requestForms, arrivalForms, divertedForms, supplementForms, formsOf, formAt}
 use Rattle.kinds.specs.Kinds.{typesRead, typeRanked, typeNamed}

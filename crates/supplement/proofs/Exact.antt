@@ -7,9 +7,8 @@ use Rattle.text.specs.Words.{Word, split, join, all, null, free, tidyWord, tidy
 use Rattle.text.proofs.Tests.{both, and-both, all-imp, null-nil}
 use Rattle.text.proofs.Joined.{join-split, split-join}
 use Rattle.text.proofs.Tidy.{word-free, tidy-join}
-use Rattle.shape.proofs.Fields.{Facts}
 use Rattle.supplement.specs.Field19.{Field19, validPart, inOrder, valid19, spelt, spell19, Item, Groups, group, itemsFit, groupsFit, fits19, partsOf}
-use Rattle.supplement.specs.Field19.{record19, field19}
+use Rattle.supplement.specs.Field19.{record19}
 use Rattle.supplement.proofs.Items.{spelt-group, items-valid, itemsOf, group-spelt, items-fit, parts-back, spelt-tidy, spelt-some}
 
 -- WHAT FITS, taken apart
@@ -26,13 +25,13 @@ grouped g e =
 
 -- FROM A CONTENT TO ITS RECORD
 
-spelled : (s : List ℕ) → fits19 s ≡ true → spell19 (record19 s) ≡ s
+pub spelled : (s : List ℕ) → fits19 s ≡ true → spell19 (record19 s) ≡ s
 unfolding fits19 spell19 record19
 spelled s e =
     let g = grouped (group (split 32 s)) e in
     ap (join 32) (ap (λ (l : List Word). l ++ spelt (record19 s)) (sym (g .strays)) ∙ spelt-group 0 (split 32 s) (g .items)) ∙ join-split 32 s
 
-held : (s : List ℕ) → fits19 s ≡ true → valid19 (record19 s) ≡ true
+pub held : (s : List ℕ) → fits19 s ≡ true → valid19 (record19 s) ≡ true
 unfolding fits19 record19 valid19
 held s e =
     let g = grouped (group (split 32 s)) e in
@@ -66,14 +65,14 @@ groups : (r : Field19) → valid19 r ≡ true → group (split 32 (spell19 r)) �
 unfolding valid19
 groups r v = ap group (cut r v) ∙ group-spelt r (both (inOrder 0 r) _ (both (not (null r)) _ v .1) .1)
 
-taken : (r : Field19) → valid19 r ≡ true → fits19 (spell19 r) ≡ true
+pub taken : (r : Field19) → valid19 r ≡ true → fits19 (spell19 r) ≡ true
 unfolding valid19 fits19
 taken [] v = absurd (false≢true v)
 taken (p ∷ ps) v =
     let h = both (inOrder 0 (p ∷ ps)) (all validPart (p ∷ ps)) v in
     ap groupsFit (groups (p ∷ ps) v) ∙ items-fit 0 (p ∷ ps) (h .0) (h .1)
 
-back : (r : Field19) → valid19 r ≡ true → record19 (spell19 r) ≡ r
+pub back : (r : Field19) → valid19 r ≡ true → record19 (spell19 r) ≡ r
 unfolding valid19 record19
 back r v =
     ap (λ (g : Groups). partsOf (g .1)) (groups r v) ∙ parts-back r (both (inOrder 0 r) _ (both (not (null r)) _ v .1) .1)
@@ -86,8 +85,5 @@ valid-tidy r v = let h = words-tidy r v in go (spelt r) (h .0) (h .1)
     go [] n e = absurd (false≢true n)
     go (w ∷ ws) n e = tidy-join w ws e
 
-tidied : (s : List ℕ) → fits19 s ≡ true → tidy s ≡ true
+pub tidied : (s : List ℕ) → fits19 s ≡ true → tidy s ≡ true
 tidied s e = ap tidy (sym (spelled s e)) ∙ valid-tidy (record19 s) (held s e)
-
-pub facts : Facts field19
-facts = record { spelled = spelled; held = held; taken = taken; back = back; tidied = tidied }

@@ -12,8 +12,7 @@ use Rattle.text.specs.Words.{Word, holds, before, behind, all, null, free, same
 use Rattle.text.proofs.Tests.{both, all-imp, all-append, some-length, same-eq}
 use Rattle.text.proofs.Tidy.{text-tidy, oblique-tidy, text-word-free, text-word-tidy}
 use Rattle.text.proofs.Joined.{seam, holds-seam, before-seam, behind-seam, holds-free}
-use Rattle.supplement.specs.declared.Key.{Key}
-use Rattle.supplement.specs.declared.Key.the-variants.{E, P, R, S, J, D, A, N, C, Other}
+use Rattle.supplement.specs.Field19.{Key, E, P, R, S, J, D, A, N, C, Other}
 use Rattle.supplement.specs.Field19.{keyAmong, keys, keyed, spellKey, place, Part, Field19, keyOf, wordsOf, validPart, inOrder, opened}
 use Rattle.supplement.specs.Field19.{spelt, Item, Groups, put, group, itemFits, itemsFit, partsOf}
 use Rattle.supplement.proofs.Parts.{part-read, part-back, part-texts}

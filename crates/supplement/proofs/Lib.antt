@@ -1,11 +1,7 @@
 pub mod Steps
-pub mod Turns
 pub mod Walk
 pub mod Words
 pub mod Parts
 pub mod Items
 pub mod Exact
-pub mod Orders
-pub mod Canonical
-pub mod Written
-pub mod Rewritten
+pub mod Stages

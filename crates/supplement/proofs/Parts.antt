@@ -12,8 +12,7 @@ use Rattle.text.proofs.Tidy.{text-word}
 use Rattle.shape.specs.Time.{elapsedHours, spellElapsed}
 use Rattle.shape.specs.declared.Elapsed.{Elapsed}
 use Rattle.shape.proofs.Times.{time-exact, time-valid, time-fits, time-minutes, time-digits}
-use Rattle.supplement.specs.declared.Key.{Key}
-use Rattle.supplement.specs.declared.Key.the-variants.{E, P, R, S, J, D, A, N, C, Other}
+use Rattle.supplement.specs.Field19.{Key, E, P, R, S, J, D, A, N, C, Other}
 use Rattle.supplement.specs.Field19.{Part, endurance, persons, radio, survival, jackets, dinghies, aircraft, remarks, pilot, keyOf, count, someOf}
 use Rattle.supplement.specs.Field19.{colour, radioLetters, survivalLetters, lightLetters, jacketRadioLetters, cover, texts, optionally}
 use Rattle.supplement.specs.Field19.{pairFits, pairWords, wordsOf, validPart, afterPair, afterCover, dinghiesFit, itemFits, pairOf, covered, partOf}

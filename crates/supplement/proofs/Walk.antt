@@ -8,8 +8,7 @@ use lib.Dec.{ltb}
 use Rattle.text.specs.Words.{Word, split, holds, before, behind, all, null, same, upTo, textWord}
 use Rattle.text.proofs.Index.{split-at, after-here, after-end}
 use Rattle.shape.specs.Time.{elapsedFits}
-use Rattle.supplement.specs.declared.Key.{Key}
-use Rattle.supplement.specs.declared.Key.the-variants.{E, P, R, S, J, D, A, N, C, Other}
+use Rattle.supplement.specs.Field19.{Key, E, P, R, S, J, D, A, N, C, Other}
 use Rattle.supplement.specs.declared.Stage.{Stage}
 use Rattle.supplement.specs.declared.Stage.the-variants.{Start, Endurance, Persons, Radio, Survival, Lights, JacketRadio, Number, Capacity, Colours}
 use Rattle.supplement.specs.declared.Stage.the-variants.{Aircraft, Remarks, Pilot, Refused}

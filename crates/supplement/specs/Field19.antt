@@ -1,21 +1,30 @@
--- Field 19, supplementary information (document 01, "19."): items of words, read as sent and rewritten in one spelling. Assumes nothing.
+-- Field 19, supplementary information (document 01, "19."): items of words, read as sent. Assumes nothing.
 use Prim.Native.Nat.{ℕ}
 use mathlib.Core.Path.{_≡_, refl}
 use mathlib.Core.Bool.{Bool, true, false, _&&_, _||_, not, cond}
 use mathlib.Core.List.{List, [], _∷_, _++_}
 use mathlib.Core.Option.{Option, none, some}
-use lib.Dec.{leb, ltb, eqb}
+use lib.Dec.{leb, ltb}
 use lib.ListN.{length}
 use Rattle.alphabet.specs.Text.{bytes}
 use Rattle.alphabet.specs.Alphabet.{letter, digit, text, oneOf, inAlphabet, white}
 use Rattle.text.specs.Words.{Word, split, join, holds, before, behind, all, null, same, textWord}
 use Rattle.shape.specs.Time.{timeFits, elapsedFits, elapsedOf, spellElapsed, validElapsed}
 use Rattle.shape.specs.declared.Elapsed.{Elapsed}
-use Rattle.shape.specs.Field.{Field}
-use Rattle.supplement.specs.declared.Key.{Key}
-use Rattle.supplement.specs.declared.Key.the-variants.{E, P, R, S, J, D, A, N, C, Other}
 
 -- THE KEYS, each by its letter, and their order
+
+pub data Key : Type 0 where
+  E : Key
+  P : Key
+  R : Key
+  S : Key
+  J : Key
+  D : Key
+  A : Key
+  N : Key
+  C : Key
+  Other : Key
 
 abbrev pub spellKey : Key → Word
 spellKey E = bytes "E"
@@ -39,6 +48,10 @@ keys = E ∷ (P ∷ (R ∷ (S ∷ (J ∷ (D ∷ (A ∷ (N ∷ (C ∷ []))))))))
 
 unfoldable pub keyed : Word → Key
 keyed w = keyAmong keys w
+
+-- the key whose letter b is
+abbrev pub byLetter : ℕ → Key
+byLetter b = keyed (b ∷ [])
 
 abbrev pub place : Key → ℕ
 place Other = 0
@@ -288,83 +301,32 @@ partsOf (i ∷ is) = partOf (i .key) (i .words) ∷ partsOf is
 unfoldable pub record19 : List ℕ → Field19
 record19 s = partsOf (group (split 32 s) .1)
 
--- CANONICAL: letters in the order of their set, counts without leading zeros
-
--- the letters of the set that stand in w
-abbrev pub sorted : List ℕ → Word → Word
-sorted [] w = []
-sorted (b ∷ set) w = cond (oneOf b w) (b ∷ sorted set w) (sorted set w)
-
--- without leading zeros; zero is one 0
-abbrev pub stripped : Word → Word
-stripped [] = []
-stripped (b ∷ []) = b ∷ []
-stripped (b ∷ (c ∷ w)) = cond (eqb b 48) (stripped (c ∷ w)) (b ∷ (c ∷ w))
-
-abbrev pub sortedIf : Option Word → Option Word
-sortedIf none = none
-sortedIf (some w) = some (sorted jacketRadioLetters w)
-
-abbrev pub strippedIf : Option (Word × Word) → Option (Word × Word)
-strippedIf none = none
-strippedIf (some p) = some (stripped (p .0), stripped (p .1))
-
-abbrev pub canonicalPart : Part → Part
-canonicalPart (endurance t) = endurance t
-canonicalPart (persons w) = persons (stripped w)
-canonicalPart (radio w) = radio (sorted radioLetters w)
-canonicalPart (survival w) = survival (sorted survivalLetters w)
-canonicalPart (jackets w o) = jackets (sorted lightLetters w) (sortedIf o)
-canonicalPart (dinghies o c ws) = dinghies (strippedIf o) c ws
-canonicalPart (aircraft ws) = aircraft ws
-canonicalPart (remarks ws) = remarks ws
-canonicalPart (pilot ws) = pilot ws
-
-abbrev pub canonical19 : Field19 → Field19
-canonical19 [] = []
-canonical19 (p ∷ ps) = canonicalPart p ∷ canonical19 ps
-
-abbrev pub field19 : Field
-field19 =
-    record {
-      Record = Field19;
-      valid = valid19;
-      spell = spell19;
-      fits = fits19;
-      recordOf = record19;
-      canonical = canonical19;
-    }
-
--- what is written of a content: the canonical spelling where it fits, else the content itself
-unfoldable pub written19 : List ℕ → List ℕ
-written19 s = cond (fits19 s) (spell19 (canonical19 (record19 s))) s
-
 -- EXAMPLES, computed
 
-abbrev manual : List ℕ
+abbrev pub manual : List ℕ
 manual = bytes "E/0745 P/6 R/VE S/M J/L D/2 8 C YELLOW A/YELLOW RED TAIL N145E C/SMITH"
 
-manual-fits : (fits19 manual ≡ true) × (written19 manual ≡ manual)
-unfolding fits19 written19 spell19 record19 keyed timeFits text inAlphabet white
-manual-fits = (refl, refl)
+manual-fits : fits19 manual ≡ true
+unfolding fits19 keyed timeFits text inAlphabet white
+manual-fits = refl
 
-counted : (written19 (bytes "P/006") ≡ bytes "P/6") × (written19 (bytes "P/000") ≡ bytes "P/0") × (fits19 (bytes "P/1234") ≡ false)
-unfolding fits19 written19 spell19 record19 keyed timeFits text inAlphabet white
+counted : (fits19 (bytes "P/006") ≡ true) × (fits19 (bytes "P/000") ≡ true) × (fits19 (bytes "P/1234") ≡ false)
+unfolding fits19 keyed timeFits text inAlphabet white
 counted = (refl, refl, refl)
 
-lettered : (fits19 (bytes "R/EVU") ≡ true) × (written19 (bytes "R/EVU") ≡ bytes "R/UVE") × (fits19 (bytes "R/UU") ≡ false) × (fits19 (bytes "R/") ≡ false)
-unfolding fits19 written19 spell19 record19 keyed timeFits text inAlphabet white
-lettered = (refl, refl, refl, refl)
+lettered : (fits19 (bytes "R/EVU") ≡ true) × (fits19 (bytes "R/UU") ≡ false) × (fits19 (bytes "R/") ≡ false)
+unfolding fits19 keyed timeFits text inAlphabet white
+lettered = (refl, refl, refl)
 
-dinghies-fit : (fits19 (bytes "D/C") ≡ true) × (fits19 (bytes "D/2") ≡ false) × (fits19 (bytes "D/2 8 C") ≡ true) × (fits19 (bytes "D/YELLOW RED") ≡ true)
-    × (written19 (bytes "D/02 014 C ORANGE") ≡ bytes "D/2 14 C ORANGE")
-unfolding fits19 written19 spell19 record19 keyed timeFits text inAlphabet white
+dinghies-fit : (fits19 (bytes "D/C") ≡ true) × (fits19 (bytes "D/2") ≡ false) × (fits19 (bytes "D/2 8 C") ≡ true)
+    × (fits19 (bytes "D/02 014 C ORANGE") ≡ true) × (fits19 (bytes "D/YELLOW RED") ≡ true)
+unfolding fits19 keyed timeFits text inAlphabet white
 dinghies-fit = (refl, refl, refl, refl, refl)
 
-jackets-fit : (fits19 (bytes "J/LF UV") ≡ true) × (written19 (bytes "J/FL VU") ≡ bytes "J/LF UV") × (fits19 (bytes "J/UV") ≡ false)
-unfolding fits19 written19 spell19 record19 keyed timeFits text inAlphabet white
+jackets-fit : (fits19 (bytes "J/LF UV") ≡ true) × (fits19 (bytes "J/FL VU") ≡ true) × (fits19 (bytes "J/UV") ≡ false)
+unfolding fits19 keyed timeFits text inAlphabet white
 jackets-fit = (refl, refl, refl)
 
 others : (fits19 (bytes "E/2400") ≡ false) × (fits19 (bytes "S/PDMJ E/0100") ≡ false) × (fits19 (bytes "") ≡ false) × (fits19 (bytes "C/SMITH JONES") ≡ true)
-unfolding fits19 written19 spell19 record19 keyed timeFits text inAlphabet white
+unfolding fits19 keyed timeFits text inAlphabet white
 others = (refl, refl, refl, refl)

@@ -1,19 +1,16 @@
--- Field 19 word by word, as the code walks it: what has been read so far, what the next word may be, and how each word is rewritten.
--- Assumes nothing.
-use Prim.Native.Nat.{ℕ, suc}
+-- Field 19 word by word, as the code walks it: what has been read so far, and what the next word may be. Assumes nothing.
+use Prim.Native.Nat.{ℕ}
 use mathlib.Core.Bool.{Bool, true, false, cond}
-use mathlib.Core.List.{List, [], _∷_, _++_}
+use mathlib.Core.List.{List, [], _∷_}
 use lib.Dec.{ltb}
-use lib.ListN.{take, drop}
-use Rattle.text.specs.Words.{Word, split, join, upTo, holds, before, behind, same, textWord}
+use Rattle.text.specs.Words.{Word, holds, before, behind, same, textWord}
 use Rattle.shape.specs.Time.{elapsedFits}
-use Rattle.supplement.specs.declared.Key.{Key}
-use Rattle.supplement.specs.declared.Key.the-variants.{E, P, R, S, J, D, A, N, C, Other}
+use Rattle.supplement.specs.Field19.{Key, E, P, R, S, J, D, A, N, C, Other}
 use Rattle.supplement.specs.declared.Stage.{Stage}
 use Rattle.supplement.specs.declared.Stage.the-variants.{Start, Endurance, Persons, Radio, Survival, Lights, JacketRadio, Number, Capacity, Colours}
 use Rattle.supplement.specs.declared.Stage.the-variants.{Aircraft, Remarks, Pilot, Refused}
 use Rattle.supplement.specs.Field19.{keyed, place, count, someOf, colour, radioLetters, survivalLetters, lightLetters, jacketRadioLetters}
-use Rattle.supplement.specs.Field19.{cover, sorted, stripped}
+use Rattle.supplement.specs.Field19.{cover}
 
 -- the place that the next item's key has to be behind; none is behind 9
 abbrev pub past : Stage → ℕ
@@ -93,35 +90,3 @@ step stage w = cond (holds 47 w) (opens stage (keyed (before 47 w)) (behind 47 w
 abbrev pub walked : Stage → List Word → Bool
 walked stage [] = complete stage
 walked stage (w ∷ ws) = walked (step stage w) ws
-
--- REWRITING a word, by what it was read as
-
-abbrev pub changed : Stage → Word → Word
-changed Start w = w
-changed Endurance w = w
-changed Persons w = stripped w
-changed Radio w = sorted radioLetters w
-changed Survival w = sorted survivalLetters w
-changed Lights w = sorted lightLetters w
-changed JacketRadio w = sorted jacketRadioLetters w
-changed Number w = stripped w
-changed Capacity w = stripped w
-changed Colours w = w
-changed Aircraft w = w
-changed Remarks w = w
-changed Pilot w = w
-changed Refused w = w
-
--- how many bytes stand up to the oblique, and it; none where there is none
-abbrev pub lead : Word → ℕ
-lead w = cond (holds 47 w) (suc (upTo 47 w)) 0
-
-unfoldable pub rewrite : Stage → Word → Word
-rewrite stage w = take (lead w) w ++ changed stage (drop (lead w) w)
-
-abbrev pub rewritten : Stage → List Word → List Word
-rewritten stage [] = []
-rewritten stage (w ∷ ws) = rewrite (step stage w) w ∷ rewritten (step stage w) ws
-
-unfoldable pub rewrittenText : List ℕ → List ℕ
-rewrittenText s = join 32 (rewritten Start (split 32 s))

@@ -2,7 +2,7 @@
 use mathlib.Core.Path.{_≡_, sym, ap}
 use mathlib.Core.Option.{Option, Option·getD}
 use Rattle.text.specs.Words.{Word}
-use Rattle.supplement.proofs.Turns.{put-same, room-same}
+use Rattle.canonical.proofs.Turns.{put-same, room-same}
 use Rattle.force.specs.declared.Found.the-variants.{At}
 use Rattle.force.specs.InForce.{FoundIn}
 use Rattle.force.proofs.Walk.{as-found}

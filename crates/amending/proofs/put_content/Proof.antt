@@ -3,7 +3,7 @@ use Prim.Native.Nat.{ℕ, _≤_}
 use mathlib.Core.Path.{_≡_, sym, ap}
 use mathlib.Core.List.{List}
 use lib.ListN.{length}
-use Rattle.supplement.proofs.Turns.{put-same, room-same}
+use Rattle.canonical.proofs.Turns.{put-same, room-same}
 use Rattle.text.specs.Words.{Word}
 use Rattle.kinds.specs.declared.Role.{Role}
 use Rattle.amending.specs.Amended.{contentIn}

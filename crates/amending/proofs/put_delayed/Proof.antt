@@ -5,7 +5,7 @@ use mathlib.Core.List.{List, _++_}
 use lib.ListN.{take, drop}
 use borrow.Author.Tests.{eq-eqb, ne-eqb}
 use Rattle.text.specs.Words.{Word}
-use Rattle.supplement.proofs.Turns.{put-same, room-same}
+use Rattle.canonical.proofs.Turns.{put-same, room-same}
 use Rattle.kinds.specs.declared.Role.the-variants.{Delays}
 use Rattle.kinds.specs.Kinds.{plan13, brief13}
 use Rattle.force.specs.InForce.{fieldAt}

@@ -5,7 +5,7 @@ use native.Mathlib.Omega.{arith}
 use lib.ListN.{length, length-append, length-drop}
 use Rattle.text.proofs.Index.{rest}
 use Rattle.text.proofs.Lent.{lent, length-front}
-use Rattle.supplement.proofs.Turns.{halves}
+use Rattle.canonical.proofs.Turns.{halves}
 use borrow.Author.Needs.{needs}
 use Rattle.amending.proofs.put_two.Statement.{statement}
 use Rattle.amending.proofs.put_two.Tie as tie

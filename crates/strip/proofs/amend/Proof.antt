@@ -6,7 +6,7 @@ use native.Mathlib.Omega.{arith}
 use lib.ListN.{length, take, drop}
 use lib.Seq.{length-take-le}
 use Rattle.text.specs.Words.{split}
-use Rattle.supplement.proofs.Turns.{put-same}
+use Rattle.canonical.proofs.Turns.{put-same}
 use Rattle.message.specs.Reading.{unexplainedIn}
 use Rattle.opening.proofs.Steps.{front-whole, front-text}
 use Rattle.amending.specs.Amended.{amended, newStrip}

@@ -1,15 +1,30 @@
 -- `supplement::step` meets its contract. Assumes nothing.
-use Prim.Native.Nat.{_+_}
-use mathlib.Core.Path.{sym, ap, ap₂, _∙_}
+use Prim.Native.Nat.{_<_}
+use mathlib.Core.Path.{sym, ap, _∙_}
 use native.Mathlib.Omega.{arith}
-use lib.Seq.{length-take-le}
+use lib.ListN.{length, getD}
+use Rattle.text.specs.Words.{Word}
 use Rattle.text.proofs.Index.{rest}
-use Rattle.supplement.specs.Field19.{place as placeOf}
+use Rattle.supplement.specs.Field19.{byLetter}
 use Rattle.supplement.specs.Walk.{first as firstOf}
-use Rattle.supplement.proofs.Steps.{step-further, step-late, step-first}
+use Rattle.supplement.proofs.Steps.{step-further, step-long, step-late, step-first}
 use borrow.Author.Needs.{needs}
 use Rattle.supplement.proofs.step.Statement.{statement}
 use Rattle.supplement.proofs.step.Tie as tie
+
+-- where the word holds an oblique
+module _ (c : tie.Else1) where
+  abbrev found : tie.After-find
+  found = c .before
+
+  abbrev start : tie.Start
+  start = found .before .before
+
+  abbrev word : Word
+  word = start .args .w .now
+
+  inside : found .find .result < length word
+  inside = omega arith
 
 find-requires : tie.Need-find-requires
 find-requires c κs = search needs
@@ -19,15 +34,17 @@ further-requires c κs = search needs
 
 returns : tie.Need-returns
 returns c =
-    let a = c .before .before .before .before .args in
-    let o = c .before .before .find in
-    c .further .ensures ∙ sym (step-further (a .stage) (a .w .now) (o .result) (o .ensures .0) (omega arith))
+    let f = c .before .before in
+    let a = f .before .before .args in
+    c .further .ensures ∙ sym (step-further (a .stage) (a .w .now) (f .find .result) (f .find .ensures .0) (omega arith))
 
-slice-aggregate-key-of : tie.Need-slice-aggregate-key-of
-slice-aggregate-key-of c = sym (length-take-le _ _ (omega arith))
+returns-2 : tie.Need-returns-2
+returns-2 c =
+    let e = c .before in
+    sym (step-long (start e .args .stage) (word e) (found e .find .result) (found e .find .ensures .0) (inside e) (c .if2 .taken))
 
-key-of-requires : tie.Need-key-of-requires
-key-of-requires c κs = search needs
+shared-slice-read-key : tie.Need-shared-slice-read-key
+shared-slice-read-key c = search needs
 
 place-requires : tie.Need-place-requires
 place-requires c κs = search needs
@@ -35,16 +52,14 @@ place-requires c κs = search needs
 past-requires : tie.Need-past-requires
 past-requires c κs = search needs
 
-returns-2 : tie.Need-returns-2
-returns-2 c =
-    let a = c .before .before .before .before .before .before .before .before .args in
-    let o = c .before .before .before .before .before .before .find in
-    let k = ap placeOf (c .before .before .before .key-of .ensures) in
+returns-3 : tie.Need-returns-3
+returns-3 c =
+    let p = c .before .before in
+    let o = p .before .before in
+    let e = o .before in
     sym
-    (step-late (a .stage) (a .w .now) (o .result) (o .ensures .0) (omega arith) (omega (arith, c .if2 .taken, c .before .before .place .ensures, c .before .past .ensures, k)))
-
-add-first : tie.Need-add-first
-add-first c = search needs
+    (step-late (start e .args .stage) (word e) (found e .find .result) (found e .find .ensures .0) (inside e) (o .if2 .left)
+    (omega (arith, c .if3 .taken, p .place .ensures, c .before .past .ensures)))
 
 sub-first : tie.Need-sub-first
 sub-first c = search needs
@@ -58,15 +73,16 @@ part-first-end c = search needs
 first-requires : tie.Need-first-requires
 first-requires c κs = search needs
 
-returns-3 : tie.Need-returns-3
-returns-3 c =
-    let a = c .before .before .before .before .before .before .before .before .before .before .args in
-    let w = a .w .now in
-    let o = c .before .before .before .before .before .before .before .before .find in
-    let k = ap placeOf (c .before .before .before .before .before .key-of .ensures) in
-    c .first .ensures ∙ ap₂ firstOf (c .before .before .before .before .before .key-of .ensures) (rest w (o .result + 1))
+returns-4 : tie.Need-returns-4
+returns-4 c =
+    let s = c .before .before in
+    let p = s .before .before in
+    let o = p .before .before in
+    let e = o .before in
+    c .first .ensures ∙ ap (firstOf (byLetter (getD (word e) 0 0))) (rest (word e) 2)
     ∙ sym
-    (step-first (a .stage) w (o .result) (o .ensures .0) (omega arith) (omega (arith, c .before .before .if2 .left, c .before .before .before .before .place .ensures, c .before .before .before .past .ensures, k)))
+    (step-first (start e .args .stage) (word e) (found e .find .result) (found e .find .ensures .0) (inside e) (o .if2 .left)
+    (omega (arith, s .if3 .left, p .place .ensures, s .before .past .ensures)))
 
 pub step-spec : {M : Type 1} → statement M
 step-spec =
@@ -75,14 +91,13 @@ step-spec =
     find-requires
     further-requires
     returns
-    slice-aggregate-key-of
-    key-of-requires
+    returns-2
+    shared-slice-read-key
     place-requires
     past-requires
-    returns-2
-    add-first
+    returns-3
     sub-first
     part-first-start
     part-first-end
     first-requires
-    returns-3)
+    returns-4)

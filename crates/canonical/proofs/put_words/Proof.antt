@@ -1,0 +1,169 @@
+-- `canonical::put_words` meets its contract. Assumes nothing.
+use Prim.Native.Nat.{ℕ, _+_, _-_, _≤_, _<_}
+use mathlib.Core.Path.{_≡_, refl, ap, _∙_}
+use mathlib.Core.List.{List, [], _∷_, _++_}
+use native.Mathlib.Omega.{arith}
+use lib.ListN.{length, take, drop, length-set, length-drop}
+use Rattle.text.proofs.Lent.{lent, store}
+use Rattle.text.specs.Words.{split, join, after}
+use Rattle.text.proofs.Index.{rest}
+use Rattle.canonical.specs.Rewriting.{rewrite, rewritten, rewrittenText}
+use Rattle.canonical.proofs.Turns.{Writing, begin, due, room, onward, all-written}
+use Rattle.canonical.proofs.Words.{spaced, text-at, text-last, text-next}
+use borrow.Author.Needs.{needs}
+use Rattle.canonical.proofs.put_words.Statement.{statement}
+use Rattle.canonical.proofs.put_words.Tie as tie
+
+abbrev Inv-loop : tie.InvT-loop
+Inv-loop s out₀ at₀ o₀ stage₀ out at o stage =
+    (at ≤ length s) × (length out ≡ length out₀) × Writing (rewrittenText s) out₀ out o (join 32 (rewritten stage (split 32 (drop at s))))
+
+abbrev μ-loop : tie.MeasureT-loop
+μ-loop s out₀ at₀ o₀ stage₀ out at o stage = length s - at
+
+-- before the call that writes a word: the loop's head, the word, and what is due
+
+abbrev At : tie.After-step Inv-loop μ-loop → tie.At-loop Inv-loop μ-loop
+At f = f .before .before .before
+
+abbrev S : tie.After-step Inv-loop μ-loop → List ℕ
+S f = At f .before .before .before .args .s .now
+
+abbrev E : tie.After-step Inv-loop μ-loop → ℕ
+E f = f .before .before .find .result
+
+abbrev word : tie.After-step Inv-loop μ-loop → List ℕ
+word f = rewrite (f .step .result) (take (E f - At f .loop .at) (drop (At f .loop .at) (S f)))
+
+-- behind the last word nothing is left
+last : (f : tie.After-step Inv-loop μ-loop) → length (S f) ≤ E f
+    → Writing (rewrittenText (S f)) (At f .before .before .before .args .out .now) (At f .loop .out) (At f .loop .o) (word f ++ [])
+last f h =
+    let l = At f .loop in
+    due (l .inv .2) (text-last (l .stage) (f .step .result) (S f) (l .at) (E f) (f .before .before .find .ensures .0) (f .step .ensures) h)
+
+-- behind another, a space and the words that follow
+
+abbrev following : tie.After-step Inv-loop μ-loop → List ℕ
+following f = 32 ∷ join 32 (rewritten (f .step .result) (split 32 (drop (E f + 1) (S f))))
+
+next : (f : tie.After-step Inv-loop μ-loop) → E f < length (S f)
+    → Writing (rewrittenText (S f)) (At f .before .before .before .args .out .now) (At f .loop .out) (At f .loop .o) (word f ++ following f)
+next f h =
+    let l = At f .loop in
+    due (l .inv .2) (text-next (l .stage) (f .step .result) (S f) (l .at) (E f) (f .before .before .find .ensures .0) (f .step .ensures) h)
+
+fits : (f : tie.After-step Inv-loop μ-loop) → At f .loop .o + length (word f) ≤ length (rewrittenText (S f))
+fits f =
+    let l = At f .loop in
+    let t = text-at (l .stage) (f .step .result) (S f) (l .at) (E f) (f .before .before .find .ensures .0) (f .step .ensures) in
+    omega (arith, room (word f) (spaced (f .step .result) (after 32 (drop (E f) (S f)))) (due (l .inv .2) t))
+
+loop-holds : tie.Need-loop-holds Inv-loop μ-loop
+unfolding rewrittenText
+loop-holds c = let a = c .before .before .args in (omega arith, refl, begin (rewrittenText (a .s .now)) (a .out .now))
+
+find-requires : tie.Need-find-requires Inv-loop μ-loop
+find-requires c κs = search needs
+
+sub-w : tie.Need-sub-w Inv-loop μ-loop
+sub-w c = search needs
+
+part-w-start : tie.Need-part-w-start Inv-loop μ-loop
+part-w-start c = search needs
+
+part-w-end : tie.Need-part-w-end Inv-loop μ-loop
+part-w-end c = search needs
+
+step-requires : tie.Need-step-requires Inv-loop μ-loop
+step-requires c κs = search needs
+
+sub-put-word : tie.Need-sub-put-word Inv-loop μ-loop
+sub-put-word c = search needs
+
+part-put-word-start : tie.Need-part-put-word-start Inv-loop μ-loop
+part-put-word-start c = search needs
+
+part-put-word-end : tie.Need-part-put-word-end Inv-loop μ-loop
+part-put-word-end c = search needs
+
+put-word-requires : tie.Need-put-word-requires Inv-loop μ-loop
+put-word-requires c κs =
+    let f = c .before in
+    let l = At f .loop in
+    omega (arith, fits f, ap length (rest (l .out) (l .o)), length-drop (l .o) (l .out), l .inv .1, c .before .before .before .before .before .before .before .pre)
+
+add-o : tie.Need-add-o Inv-loop μ-loop
+add-o c =
+    let a = c .before .before .before .before .before .before .before .before .before .before in
+    omega (arith, fits (c .before .before .before .before), c .before .before .put-word .ensures .0, a .pre, a .good .1 .0)
+
+same-length : tie.Need-same-length Inv-loop μ-loop
+same-length c = search needs
+
+returns : tie.Need-returns Inv-loop μ-loop
+returns c =
+    let f = c .before .before .before .before .before in
+    let l = At f .loop in
+    let r = c .before .before .before .put-word .ensures in
+    rw (r .0) (all-written (onward (word f) [] (last f (omega arith)) _ (lent (l .out) (word f) (l .o) _ (r .1))))
+
+slice-write-out : tie.Need-slice-write-out Inv-loop μ-loop
+slice-write-out c =
+    let a = c .before .before .before .before .before .before .before .before .before .before .before in
+    let f = c .before .before .before .before .before in
+    let q = room (word f) (following f) (next f (omega arith)) in
+    omega (arith, c .before .before .before .put-word .ensures .0, q, c .before .before .out .given .1, At f .loop .inv .1, a .pre)
+
+add-o-2 : tie.Need-add-o-2 Inv-loop μ-loop
+add-o-2 c =
+    let a = c .before .before .before .before .before .before .before .before .before .before .before in
+    let f = c .before .before .before .before .before in
+    let q = room (word f) (following f) (next f (omega arith)) in
+    omega (arith, c .before .before .before .put-word .ensures .0, q, a .pre, a .good .1 .0)
+
+add-at : tie.Need-add-at Inv-loop μ-loop
+add-at c = search needs
+
+loop-less : tie.Need-loop-less Inv-loop μ-loop
+loop-less c = search needs
+
+loop-again : tie.Need-loop-again Inv-loop μ-loop
+loop-again c =
+    let a = c .before .before .before .before .before .before .before .before .before .before .before in
+    let f = c .before .before .before .before .before in
+    let l = At f .loop in
+    let r = c .before .before .before .put-word .ensures in
+    let n = next f (omega arith) in
+    let t = onward (word f) (following f) n _ (lent (l .out) (word f) (l .o) _ (r .1)) in
+    let q = room (word f) (following f) n in
+    let k = c .before .before .out .given .1 in (
+      omega arith,
+      simp length-set (k ∙ l .inv .1),
+      rw (r .0) (onward (32 ∷ []) (drop 1 (following f)) t _ (store _ (l .o + length (word f)) 32 (omega (arith, q, k, l .inv .1, a .pre)))),
+    )
+
+pub put-words-spec : {M : Type 1} → statement M
+put-words-spec =
+    tie.close
+    (tie.spec
+    Inv-loop
+    μ-loop
+    loop-holds
+    find-requires
+    sub-w
+    part-w-start
+    part-w-end
+    step-requires
+    sub-put-word
+    part-put-word-start
+    part-put-word-end
+    put-word-requires
+    add-o
+    same-length
+    returns
+    slice-write-out
+    add-o-2
+    add-at
+    loop-less
+    loop-again)

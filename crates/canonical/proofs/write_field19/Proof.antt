@@ -1,0 +1,54 @@
+-- `canonical::write_field19` meets its contract. Assumes nothing.
+use mathlib.Core.Path.{sym, _∙_}
+use borrow.Author.Tests.{not-true, not-false}
+use Rattle.canonical.proofs.Turns.{put-same, room-same}
+use Rattle.canonical.proofs.Written.{written-other}
+use Rattle.canonical.proofs.Rewritten.{written-words}
+use borrow.Author.Needs.{needs}
+use Rattle.canonical.proofs.write_field19.Statement.{statement}
+use Rattle.canonical.proofs.write_field19.Tie as tie
+
+fits-field19-requires : tie.Need-fits-field19-requires
+fits-field19-requires c κs = search needs
+
+put-requires : tie.Need-put-requires
+put-requires c κs =
+    let a = c .before .before .before .before .before in
+    let f = sym (c .before .before .fits-field19 .ensures) ∙ not-true _ (c .before .if1 .taken) in
+    room-same (a .args .out .now) (written-other (a .args .s .now) f) (a .pre)
+
+same-length : tie.Need-same-length
+same-length c = search needs
+
+returns : tie.Need-returns
+returns c =
+    let a = c .before .before .before .before .before .before .before .before .args in
+    let f = sym (c .before .before .before .before .before .fits-field19 .ensures) ∙ not-true _ (c .before .before .before .before .if1 .taken) in
+    put-same (a .out .now) (sym (written-other (a .s .now) f)) (c .before .before .put .ensures)
+
+put-words-requires : tie.Need-put-words-requires
+put-words-requires c κs =
+    let a = c .before .before .before .before .before in
+    let f = sym (c .before .before .fits-field19 .ensures) ∙ not-false _ (c .before .if1 .left) in
+    room-same (a .args .out .now) (written-words (a .args .s .now) f) (a .pre)
+
+same-length-2 : tie.Need-same-length-2
+same-length-2 c = search needs
+
+returns-2 : tie.Need-returns-2
+returns-2 c =
+    let a = c .before .before .before .before .before .before .before .before .args in
+    let f = sym (c .before .before .before .before .before .fits-field19 .ensures) ∙ not-false _ (c .before .before .before .before .if1 .left) in
+    put-same (a .out .now) (sym (written-words (a .s .now) f)) (c .before .before .put-words .ensures)
+
+pub write-field19-spec : {M : Type 1} → statement M
+write-field19-spec =
+    tie.close
+    (tie.spec
+    fits-field19-requires
+    put-requires
+    same-length
+    returns
+    put-words-requires
+    same-length-2
+    returns-2)

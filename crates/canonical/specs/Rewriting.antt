@@ -1,0 +1,47 @@
+-- Field 19 rewritten word by word, as the code writes it: each word by what it was read as. Assumes nothing.
+use Prim.Native.Nat.{ℕ, suc}
+use mathlib.Core.Bool.{cond}
+use mathlib.Core.List.{List, [], _∷_, _++_}
+use lib.ListN.{take, drop}
+use Rattle.alphabet.specs.Text.{bytes}
+use Rattle.text.specs.Words.{Word, split, join, upTo, holds}
+use Rattle.supplement.specs.declared.Stage.{Stage}
+use Rattle.supplement.specs.declared.Stage.the-variants.{Start, Endurance, Persons, Radio, Survival, Lights, JacketRadio, Number, Capacity, Colours}
+use Rattle.supplement.specs.declared.Stage.the-variants.{Aircraft, Remarks, Pilot, Refused}
+use Rattle.supplement.specs.Walk.{step}
+use Rattle.canonical.specs.Canonical.{sorted, stripped}
+
+-- the letters of every set, each set's in its order: of a word that fits, those of its own set alone are in it
+abbrev pub letters : List ℕ
+letters = bytes "UVEPDMJLF"
+
+-- a word, or what of it stands behind an oblique
+abbrev pub changed : Stage → Word → Word
+changed Start w = w
+changed Endurance w = w
+changed Persons w = stripped w
+changed Radio w = sorted letters w
+changed Survival w = sorted letters w
+changed Lights w = sorted letters w
+changed JacketRadio w = sorted letters w
+changed Number w = stripped w
+changed Capacity w = stripped w
+changed Colours w = w
+changed Aircraft w = w
+changed Remarks w = w
+changed Pilot w = w
+changed Refused w = w
+
+-- how many bytes stand up to the oblique, and it; none where there is none
+abbrev pub lead : Word → ℕ
+lead w = cond (holds 47 w) (suc (upTo 47 w)) 0
+
+unfoldable pub rewrite : Stage → Word → Word
+rewrite stage w = take (lead w) w ++ changed stage (drop (lead w) w)
+
+abbrev pub rewritten : Stage → List Word → List Word
+rewritten stage [] = []
+rewritten stage (w ∷ ws) = rewrite (step stage w) w ∷ rewritten (step stage w) ws
+
+unfoldable pub rewrittenText : List ℕ → List ℕ
+rewrittenText s = join 32 (rewritten Start (split 32 s))

@@ -1,0 +1,191 @@
+// Field 19 in its canonical spelling: letters in the order of their set, counts without leading zeros.
+ghost use mathlib.Core.Path.{_≡_};
+ghost use Prim.Native.Nat.{_≤_};
+ghost use lib.ListN.{length, drop};
+ghost use Rattle.text.specs.Lent.{front};
+ghost use Rattle.canonical.specs.Canonical.{sorted, stripped, written19};
+ghost use Rattle.canonical.specs.Rewriting.{changed, lead as leadOf, rewrite, rewrittenText};
+use supplement::Stage;
+
+// How many leading zeros of w are left off: all but the last byte at most.
+fn zeros(w: &[u8]) -> usize
+    ensures { λ r. ⌜ (r ≤ length (now (w .entry))) × (drop r (now (w .entry)) ≡ stripped (now (w .entry))) ⌝ }
+{
+    let mut i = 0;
+    while i < w.len() {
+        if i + 1 == w.len() {
+            return i;
+        }
+        if w[i] != b'0' {
+            return i;
+        }
+        i += 1;
+    }
+    i
+}
+
+// How many letters of a set stand in w.
+fn sorted_length(set: &[u8], w: &[u8]) -> usize
+    ensures { λ r. ⌜ r ≡ length (sorted (now (set .entry)) (now (w .entry))) ⌝ }
+{
+    let mut i = 0;
+    let mut n = 0;
+    while i < set.len() {
+        let b = set[i];
+        i += 1;
+        if shape::one_of(b, w) {
+            n += 1;
+        }
+    }
+    n
+}
+
+// Writes the letters of a set that stand in w, in the set's order.
+fn put_sorted(set: &[u8], w: &[u8], out: &mut [u8]) -> usize
+    requires { ⌜ length (sorted (now set) (now w)) ≤ length (now out) ⌝ }
+    ensures { λ r. ⌜ (r ≡ length (sorted (now (set .entry)) (now (w .entry))))
+        × (now (out .exit) ≡ front (sorted (now (set .entry)) (now (w .entry))) (now (out .entry))) ⌝ }
+{
+    let mut i = 0;
+    let mut o = 0;
+    while i < set.len() {
+        let b = set[i];
+        i += 1;
+        if shape::one_of(b, w) {
+            out[o] = b;
+            o += 1;
+        }
+    }
+    o
+}
+
+// Writes a count without its leading zeros.
+fn put_stripped(w: &[u8], out: &mut [u8]) -> usize
+    requires { ⌜ length (stripped (now w)) ≤ length (now out) ⌝ }
+    ensures { λ r. ⌜ (r ≡ length (stripped (now (w .entry)))) × (now (out .exit) ≡ front (stripped (now (w .entry))) (now (out .entry))) ⌝ }
+{
+    let z = zeros(w);
+    text::put(&w[z..], out)
+}
+
+// How many bytes are written of w, what stands behind an oblique or a whole word, by what it was read as.
+fn changed_length(stage: Stage, w: &[u8]) -> usize
+    ensures { λ r. ⌜ r ≡ length (changed stage (now (w .entry))) ⌝ }
+{
+    match stage {
+        Stage::Radio | Stage::Survival | Stage::Lights | Stage::JacketRadio => sorted_length(
+            b"UVEPDMJLF",
+            w,
+        ),
+        Stage::Persons | Stage::Number | Stage::Capacity => w.len() - zeros(w),
+        _ => w.len(),
+    }
+}
+
+// Writes them.
+fn put_changed(stage: Stage, w: &[u8], out: &mut [u8]) -> usize
+    requires { ⌜ length (changed stage (now w)) ≤ length (now out) ⌝ }
+    ensures { λ r. ⌜ (r ≡ length (changed stage (now (w .entry)))) × (now (out .exit) ≡ front (changed stage (now (w .entry))) (now (out .entry))) ⌝ }
+{
+    match stage {
+        Stage::Radio | Stage::Survival | Stage::Lights | Stage::JacketRadio => put_sorted(
+            b"UVEPDMJLF",
+            w,
+            out,
+        ),
+        Stage::Persons | Stage::Number | Stage::Capacity => put_stripped(w, out),
+        _ => text::put(w, out),
+    }
+}
+
+// How many bytes stand up to the oblique, and it; none where there is none.
+fn lead(w: &[u8]) -> usize
+    ensures { λ r. ⌜ (r ≡ leadOf (now (w .entry))) × (r ≤ length (now (w .entry))) ⌝ }
+{
+    let o = text::find(w, 0, b'/');
+    if o == w.len() {
+        return 0;
+    }
+    o + 1
+}
+
+// How many bytes a word has as it is written.
+fn word_length(stage: Stage, w: &[u8]) -> usize
+    ensures { λ r. ⌜ (r ≡ length (rewrite stage (now (w .entry)))) × (r ≤ length (now (w .entry))) ⌝ }
+{
+    let o = lead(w);
+    o + changed_length(stage, &w[o..])
+}
+
+// Writes a word.
+fn put_word(stage: Stage, w: &[u8], out: &mut [u8]) -> usize
+    requires { ⌜ length (rewrite stage (now w)) ≤ length (now out) ⌝ }
+    ensures { λ r. ⌜ (r ≡ length (rewrite stage (now (w .entry)))) × (now (out .exit) ≡ front (rewrite stage (now (w .entry))) (now (out .entry))) ⌝ }
+{
+    let o = lead(w);
+    let n = text::put(&w[..o], out);
+    n + put_changed(stage, &w[o..], &mut out[n..])
+}
+
+// How many bytes the words have as they are written, with one space between them.
+fn words_length(s: &[u8]) -> usize
+    ensures { λ r. ⌜ r ≡ length (rewrittenText (now (s .entry))) ⌝ }
+{
+    let mut at = 0;
+    let mut n = 0;
+    let mut stage = Stage::Start;
+    loop {
+        let e = text::find(s, at, b' ');
+        let w = &s[at..e];
+        stage = supplement::step(stage, w);
+        n += word_length(stage, w);
+        if e == s.len() {
+            return n;
+        }
+        n += 1;
+        at = e + 1;
+    }
+}
+
+// Writes the words, with one space between them.
+fn put_words(s: &[u8], out: &mut [u8]) -> usize
+    requires { ⌜ length (rewrittenText (now s)) ≤ length (now out) ⌝ }
+    ensures { λ r. ⌜ (r ≡ length (rewrittenText (now (s .entry)))) × (now (out .exit) ≡ front (rewrittenText (now (s .entry))) (now (out .entry))) ⌝ }
+{
+    let mut at = 0;
+    let mut o = 0;
+    let mut stage = Stage::Start;
+    loop {
+        let e = text::find(s, at, b' ');
+        let w = &s[at..e];
+        stage = supplement::step(stage, w);
+        o += put_word(stage, w, &mut out[o..]);
+        if e == s.len() {
+            return o;
+        }
+        out[o] = b' ';
+        o += 1;
+        at = e + 1;
+    }
+}
+
+// How many bytes are written of a content: of its canonical spelling where it fits, else of itself.
+pub fn spelled_length(s: &[u8]) -> usize
+    ensures { λ r. ⌜ r ≡ length (written19 (now (s .entry))) ⌝ }
+{
+    if !supplement::fits_field19(s) {
+        return s.len();
+    }
+    words_length(s)
+}
+
+// Writes a content at the front of `out`: its canonical spelling where it fits, else itself. The bytes behind it stay.
+pub fn write_field19(s: &[u8], out: &mut [u8]) -> usize
+    requires { ⌜ length (written19 (now s)) ≤ length (now out) ⌝ }
+    ensures { λ r. ⌜ (r ≡ length (written19 (now (s .entry)))) × (now (out .exit) ≡ front (written19 (now (s .entry))) (now (out .entry))) ⌝ }
+{
+    if !supplement::fits_field19(s) {
+        return text::put(s, out);
+    }
+    put_words(s, out)
+}
