@@ -15,11 +15,12 @@ use Rattle.asked.proofs.ask_read.Tie as tie
 
 -- THE WAY TO THE TEXTS: the message is a CHG, and its own spelling
 
-module _ (c : tie.Else1) where
+module _ (c : tie.After-is-change) where
   abbrev start : tie.Start
-  start = c .before .before .before .before .before
+  start = c .before .before .before .before
 
-  change : isChange (start .args .t) ≡ true
+module _ (c : tie.Else1) where
+  change : isChange (start (c .before) .args .t) ≡ true
   change = sym (c .before .is-change .ensures) ∙ not-false _ (c .if1 .left)
 
 module _ (c : tie.Else2) where
@@ -27,7 +28,7 @@ module _ (c : tie.Else2) where
   change-there = c .before .before
 
   abbrev begun : tie.Start
-  begun = start change-there
+  begun = start (change-there .before)
 
   own-spelling : same (begun .args .spelled .now) (begun .args .chg .now) ≡ true
   own-spelling = sym (c .before .same-bytes .ensures) ∙ not-false _ (c .if2 .left)
@@ -40,7 +41,7 @@ is-change-requires c κs = search needs
 
 returns : tie.Need-returns
 returns c =
-    let a = c .before .before .before .before .before .args in
+    let a = start (c .before) .args in
     no-change (a .t) (a .spelled .now) (a .strip .now) (a .chg .now) (a .number) (sym (c .before .is-change .ensures) ∙ not-true _ (c .if1 .taken))
 
 same-bytes-requires : tie.Need-same-bytes-requires
@@ -49,7 +50,7 @@ same-bytes-requires c κs = search needs
 returns-2 : tie.Need-returns-2
 returns-2 c =
     let d = c .before .before in
-    let a = start d .args in
+    let a = start (d .before) .args in
     not-spelled (a .t) (a .spelled .now) (a .strip .now) (a .chg .now) (a .number) (change d)
     (sym (c .before .same-bytes .ensures) ∙ not-true _ (c .if2 .taken))
 

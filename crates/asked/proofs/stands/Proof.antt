@@ -10,11 +10,14 @@ use Rattle.asked.proofs.stands.Tie as tie
 
 -- where the field stands in the CHG's text
 module _ (c : tie.After-known-told) where
+  abbrev looked : tie.After-named
+  looked = c .before .before .before
+
   abbrev start : tie.Start
-  start = c .before .before .before .before .before .before
+  start = looked .before .before .before
 
   found : FoundIn (start .args .said .now) (start .args .k) (At (c .before .from .given .0 .0) (c .before .from .given .0 .1 .0))
-  found = as-found _ _ (c .before .before .before .named .ensures) (c .before .from .given .1)
+  found = as-found _ _ (looked .named .ensures) (c .before .from .given .1)
 
 named-requires : tie.Need-named-requires
 named-requires c κs = search needs
@@ -48,10 +51,12 @@ returns c = let a = start c .args in in-change (a .plan .now) (a .said .now) (a 
 
 returns-2 : tie.Need-returns-2
 returns-2 c =
-    let a = c .before .before .before .before .before .before .before .args in
-    let nowhere = as-found _ _ (c .before .before .before .before .named .ensures) (c .before .before .enum-told .given .1) in
+    let n = c .before .before in
+    let l = n .before .before in
+    let a = l .before .before .before .args in
     let s = c .before .seek .ensures in
     let e = c .end .ensures in
+    let nowhere = as-found _ _ (l .named .ensures) (n .enum-told .given .1) in
     in-strip (a .plan .now) (a .said .now) (a .k) _ _ nowhere (s .0) (s .1) (e .0) (e .1 .0) (e .1 .1)
 
 pub stands-spec : {M : Type 1} → statement M

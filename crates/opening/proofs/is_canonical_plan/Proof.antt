@@ -16,8 +16,11 @@ use Rattle.opening.proofs.is_canonical_plan.Tie as tie
 
 -- where the strip was read, as a message of this type, whose spelling takes this many bytes at the front of the scratch
 module _ (c : tie.After-known-told) where
+  abbrev answered : tie.After-read
+  answered = c .before .before .before .before
+
   abbrev strip : List ℕ
-  strip = c .before .before .before .before .before .before .before .args .strip .now
+  strip = answered .before .before .before .args .strip .now
 
   abbrev type-read : MessageType
   type-read = c .before .t .given .0 .0
@@ -26,17 +29,17 @@ module _ (c : tie.After-known-told) where
   size = c .before .t .given .0 .1 .0
 
   abbrev scratch : List ℕ
-  scratch = c .before .before .before .before .read .last .1 .0
+  scratch = answered .read .last .1 .0
 
   read-so : answerOf strip 1800 ≡ ReadAs type-read size
-  read-so = sym (c .before .before .before .before .read .ensures .0) ∙ c .before .t .given .1
+  read-so = sym (answered .read .ensures .0) ∙ c .before .t .given .1
 
   inside : size ≤ length scratch
-  inside = omega (arith, read-bounds strip 1800 _ _ read-so .1, c .before .before .before .before .read .kept .1 .0)
+  inside = omega (arith, read-bounds strip 1800 _ _ read-so .1, answered .read .kept .1 .0)
 
   spelling-there : take size scratch ≡ spellingOf type-read strip
   spelling-there =
-      ap (take size) (c .before .before .before .before .read .ensures .1 ∙ read-front strip _ _ _ read-so)
+      ap (take size) (answered .read .ensures .1 ∙ read-front strip _ _ _ read-so)
       ∙ front-whole (spellingOf type-read strip) _ size (read-long strip 1800 _ _ read-so)
 
 slice-aggregate-read : tie.Need-slice-aggregate-read
@@ -70,8 +73,8 @@ same-bytes-requires c κs = search needs
 
 returns-2 : tie.Need-returns-2
 returns-2 c =
-    plan-refused (c .before .before .before .before .before .before .args .strip .now) _ _ _
-    (sym (c .before .before .before .read .ensures .0) ∙ c .enum-told .given .1)
+    let r = c .before .before .before in
+    plan-refused (r .before .before .before .args .strip .now) _ _ _ (sym (r .read .ensures .0) ∙ c .enum-told .given .1)
 
 returns-3 : tie.Need-returns-3
 returns-3 c =

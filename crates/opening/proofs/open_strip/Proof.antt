@@ -28,9 +28,12 @@ module _ (c : tie.Else2) where
   is-plan : canonicalPlan (begun .args .strip .now) ≡ true
   is-plan = sym (c .before .is-canonical-plan .ensures) ∙ not-false _ (c .if2 .left)
 
-module _ (c : tie.After-read-arg) where
-  long : length (begun (c .before) .args .scratch .now) ≡ 1800
-  long = omega (arith, c .read-arg .given)
+module _ (c : tie.After-read) where
+  abbrev planned : tie.Else2
+  planned = c .before .before
+
+  long : length (begun planned .args .scratch .now) ≡ 1800
+  long = omega (arith, c .before .read-arg .given)
 
 is-sound-requires : tie.Need-is-sound-requires
 is-sound-requires c κs = search needs
@@ -63,22 +66,22 @@ enum-known-t c = search needs
 
 returns-3 : tie.Need-returns-3
 returns-3 c =
-    let d = c .before .before .before .before .before .before in
+    let r = c .before .before .before .before in
+    let d = planned r in
     let a = begun d .args in
-    let read = c .before .before .before .before .read .ensures in
-    let there = sym (read .0) ∙ c .before .before .number .given .1 in
-    rw (read .1, refused-stays (a .msg .now) (a .scratch .now) _ _ _ there)
+    let there = sym (r .read .ensures .0) ∙ c .before .before .number .given .1 in
+    rw (r .read .ensures .1, refused-stays (a .msg .now) (a .scratch .now) _ _ _ there)
     (not-read (a .strip .now) (a .held) (a .msg .now) (a .scratch .now) (held-sound (d .before .before)) (is-plan d) _ _ _
-    (ap (answerOf (a .msg .now)) (sym (long (c .before .before .before .before .before))) ∙ there) _ (c .not-read .ensures))
+    (ap (answerOf (a .msg .now)) (sym (long r)) ∙ there) _ (c .not-read .ensures))
 
 returns-4 : tie.Need-returns-4
 returns-4 c =
-    let d = c .before .before .before .before .before in
+    let r = c .before .before .before in
+    let d = planned r in
     let a = begun d .args in
-    let read = c .before .before .before .read .ensures in
-    let there = sym (read .0) ∙ c .before .t .given .1 in
+    let there = sym (r .read .ensures .0) ∙ c .before .t .given .1 in
     was-read (a .strip .now) (a .held) (a .msg .now) (a .scratch .now) (held-sound (d .before .before)) (is-plan d) _ _
-    (ap (answerOf (a .msg .now)) (sym (long (c .before .before .before .before))) ∙ there) _ (read .1 ∙ read-front (a .msg .now) (a .scratch .now) _ _ there)
+    (ap (answerOf (a .msg .now)) (sym (long r)) ∙ there) _ (r .read .ensures .1 ∙ read-front (a .msg .now) (a .scratch .now) _ _ there)
 
 pub open-strip-spec : {M : Type 1} → statement M
 open-strip-spec =
