@@ -84,7 +84,7 @@ refused-outer = (refl, refl, refl, refl, refl, refl, refl)
 
 pub refused-fields :
     (answerOf (bytes "(CNL-ABC12)") 100 ≡ Refused 6 0 10)
-    × (answerOf (bytes "(CNL-ABC12-EHAM0930-EDDF-0-0)") 100 ≡ Refused 6 0 26)
+    × (answerOf (bytes "(CNL-ABC12-EHAM0930-EDDF-0-0-0)") 100 ≡ Refused 6 0 26)
     × (answerOf (bytes "(CHG-ABC12-EHAM0930-EDDF-0-9/X)") 100 ≡ Refused 7 22 26)
     × (answerOf (bytes "(CHG-ABC12-EHAM0930-EDDF-0-14/X)") 100 ≡ Refused 8 22 26)
     × (answerOf (bytes "(CHG-ABC12-EHAM0930-EDDF-0-8/IN-8/IS)") 100 ≡ Refused 9 22 31)

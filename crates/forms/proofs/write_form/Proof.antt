@@ -2,7 +2,7 @@
 use Prim.Native.Nat.{ℕ}
 use mathlib.Core.Path.{_≡_}
 use mathlib.Core.List.{List}
-use Rattle.supplement.specs.Field19.{written19}
+use Rattle.canonical.specs.Canonical.{written19}
 use Rattle.forms.specs.Forms.{writtenOf}
 use Rattle.forms.proofs.Forms.{is-rewritten, no-rewritten}
 use borrow.Author.Needs.{needs}
