@@ -13,7 +13,7 @@ use Rattle.pieces.specs.Pieces.{whiteAhead, pieceEnd, piecesOf}
 use Rattle.pieces.proofs.Walk.{to-front, next-piece}
 use Rattle.kinds.specs.declared.MessageType.{MessageType}
 use Rattle.message.specs.declared.Answer.{Answer}
-use Rattle.message.specs.declared.Answer.the-variants.{Accepted as ReadAs, Refused as NotRead}
+use Rattle.message.specs.declared.Answer.the-variants.{Accepted as ReadAs}
 use Rattle.message.specs.Reading.{isPlan, spellingOf, answerOf, writtenAs, outAfter}
 use Rattle.message.proofs.Reached.{accepted-taken}
 use Rattle.state.specs.declared.Strip.{Strip}
