@@ -66,7 +66,7 @@ pub fn answered_otherwise() -> Vec<(Listed, String)> {
 
 /// Each line that has an answer below it; one that is neither remark nor answer must have one.
 fn questions(text: &str) -> Vec<Listed> {
-    let lines: Vec<&str> = text.lines().collect();
+    let lines: Vec<&str> = text.lines().chain([""]).collect();
     let answer_below = |pair: &[&str]| {
         let answer = pair[1].strip_prefix("= ");
         let is_question = !pair[0].is_empty() && !pair[0].starts_with('#') && !pair[0].starts_with("= ");
@@ -138,4 +138,13 @@ pub fn corpus() -> Vec<u8> {
     let listed = listed().into_iter().map(|listed| listed.question.into_bytes());
     let lines: Vec<Line> = listed.chain(generated()).collect();
     lines.join(&b'\n')
+}
+
+#[cfg(test)]
+mod tests {
+    #[test]
+    #[should_panic(expected = "no answer: R (X)")]
+    fn a_last_question_without_answer_is_found() {
+        super::questions("R (Y)\n= NO 6 0 0\nR (X)\n");
+    }
 }

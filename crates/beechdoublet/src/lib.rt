@@ -4,8 +4,10 @@ ghost use mathlib.Core.List.{[], _∷_};
 ghost use lib.ListN.{length};
 ghost use Rattle.message.specs.Reading.{answerOf, outAfter};
 ghost use Rattle.asked.specs.Parts.{Shows};
-ghost use Rattle.beechdoublet.specs.Numbers.{typeNumber, readNumber, readNumbers, updateNumber, updateNumbers, askedNumber, askedNumbers, fieldTold, askedWhole};
-ghost use Rattle.beechdoublet.specs.Handed.{arrivedNumbers, stateNumbers, kept, departureOf, stateOf, agree, handedAs, soundAs, updateAs, outAs, stateAs, askedAs, contentAsked};
+ghost use Rattle.beechdoublet.specs.Numbers.{typeNumber, readNumber, readNumbers, updateNumber, updateNumbers};
+ghost use Rattle.beechdoublet.specs.Numbers.{askedNumber, askedNumbers, fieldTold, askedWhole};
+ghost use Rattle.beechdoublet.specs.Handed.{arrivedNumbers, stateNumbers, kept, departureOf, stateOf, agree};
+ghost use Rattle.beechdoublet.specs.Handed.{handedAs, soundAs, updateAs, outAs, stateAs, askedAs, contentAsked};
 use aerodromes::Aerodrome;
 use asked::Asked;
 use kinds::MessageType;
@@ -281,7 +283,8 @@ pub extern "C" fn beechdoublet_update(
 ) -> u8
     ensures { λ r. ⌜ (r ≡ updateNumber (updateAs (handedAs (now (state .entry))) (now (strip .entry)) (now (msg .entry)) (length (now (out .entry)))))
         × (now (answer .exit) ≡ updateNumbers (updateAs (handedAs (now (state .entry))) (now (strip .entry)) (now (msg .entry)) (length (now (out .entry)))))
-        × (now (state .exit) ≡ stateAs (updateAs (handedAs (now (state .entry))) (now (strip .entry)) (now (msg .entry)) (length (now (out .entry)))) (now (state .entry)))
+        × (now (state .exit)
+        ≡ stateAs (updateAs (handedAs (now (state .entry))) (now (strip .entry)) (now (msg .entry)) (length (now (out .entry)))) (now (state .entry)))
         × (now (out .exit) ≡ outAs (handedAs (now (state .entry))) (now (strip .entry)) (now (msg .entry)) (now (out .entry))) ⌝ }
 {
     let h = hand_in(state);

@@ -105,7 +105,8 @@ sorted-miss : (xs : List ℕ) (b : ℕ) (w : Word) → oneOf b xs ≡ false → 
 sorted-miss [] b w e = refl
 sorted-miss (x ∷ xs) b w e = go (sorted-miss xs b w) (eqb b x) refl e
   where
-    go : (oneOf b xs ≡ false → sorted xs (b ∷ w) ≡ sorted xs w) → (c : Bool) → eqb b x ≡ c → cond c true (oneOf b xs) ≡ false → sorted (x ∷ xs) (b ∷ w) ≡ sorted (x ∷ xs) w
+    go : (oneOf b xs ≡ false → sorted xs (b ∷ w) ≡ sorted xs w)
+        → (c : Bool) → eqb b x ≡ c → cond c true (oneOf b xs) ≡ false → sorted (x ∷ xs) (b ∷ w) ≡ sorted (x ∷ xs) w
     go ih true p q = absurd (false≢true (sym q))
     go ih false p q = rw (ne-eqb x b (λ r. eqb-false b x p (sym r)), ih q)
 
@@ -126,7 +127,8 @@ sorted-more set (x ∷ xs) b w a = go (sorted-more set xs b w (g .1)) (eqb b x) 
     without ih true = omega arith
     without ih false = ih
 
-    go : length (sorted xs (b ∷ w)) ≤ suc (length (sorted xs w)) → (c : Bool) → eqb b x ≡ c → length (sorted (x ∷ xs) (b ∷ w)) ≤ suc (length (sorted (x ∷ xs) w))
+    go : length (sorted xs (b ∷ w)) ≤ suc (length (sorted xs w))
+        → (c : Bool) → eqb b x ≡ c → length (sorted (x ∷ xs) (b ∷ w)) ≤ suc (length (sorted (x ∷ xs) w))
     go ih true p =
         let i : b ≡ x = eqb-true b x p in
         let y : oneOf b xs ≡ false = ap (λ (n : ℕ). oneOf n xs) i ∙ not-true (oneOf x xs) (g .0) in

@@ -75,7 +75,8 @@ module _ (w : Word) (l : List Word) (is : List Item) where
   shaded-kept : goes (shaded w) (l, is) ≡ true → Writes w l (w ∷ l) (shaded w)
   shaded-kept = go (same w cover)
     where
-      go : (b : Bool) → goes (cond b Colours (cond (colour w) Colours Refused)) (l, is) ≡ true → Writes w l (w ∷ l) (cond b Colours (cond (colour w) Colours Refused))
+      go : (b : Bool) → goes (cond b Colours (cond (colour w) Colours Refused)) (l, is) ≡ true
+          → Writes w l (w ∷ l) (cond b Colours (cond (colour w) Colours Refused))
       go true e = as-sent Colours (λ v. refl) (λ v k. refl) w l
       go false e = colours-kept e
 
@@ -146,7 +147,8 @@ dinghies-kept w l e = go (count 2 w) refl
     go false q = plain-dinghies w l q e
 
 first-kept : (k : Key) (w : Word) (l : List Word) → itemFits k (w ∷ l) ≡ true → Writes w l (canonicalWords k (w ∷ l)) (first k w)
-first-kept E w [] e = chosen (elapsedFits w) Endurance (Writes w [] (canonicalWords E (w ∷ []))) e (ap (λ (v : Word). v ∷ []) (sym (time-exact elapsedHours w e)))
+first-kept E w [] e =
+    chosen (elapsedFits w) Endurance (Writes w [] (canonicalWords E (w ∷ []))) e (ap (λ (v : Word). v ∷ []) (sym (time-exact elapsedHours w e)))
 first-kept E w (v ∷ l) e = absurd (false≢true e)
 first-kept P w [] e = chosen (count 3 w) Persons (Writes w [] (canonicalWords P (w ∷ []))) e refl
 first-kept P w (v ∷ l) e = absurd (false≢true e)
@@ -166,8 +168,10 @@ first-kept J w (v ∷ []) e =
     (ap (λ (u : Word). u ∷ (sorted jacketRadioLetters v ∷ [])) (sorted-by letters lightLetters refl w f))
 first-kept J w (v ∷ (u ∷ l)) e = absurd (false≢true (both (someOf lightLetters w) false e .1))
 first-kept D w l e = dinghies-kept w l e
-first-kept A w l e = chosen (textWord w) Aircraft (Writes w l (w ∷ l)) (both (textWord w) (all textWord l) e .0) (as-sent Aircraft (λ v. refl) (λ v k. refl) w l)
-first-kept N w l e = chosen (textWord w) Remarks (Writes w l (w ∷ l)) (both (textWord w) (all textWord l) e .0) (as-sent Remarks (λ v. refl) (λ v k. refl) w l)
+first-kept A w l e =
+    chosen (textWord w) Aircraft (Writes w l (w ∷ l)) (both (textWord w) (all textWord l) e .0) (as-sent Aircraft (λ v. refl) (λ v k. refl) w l)
+first-kept N w l e =
+    chosen (textWord w) Remarks (Writes w l (w ∷ l)) (both (textWord w) (all textWord l) e .0) (as-sent Remarks (λ v. refl) (λ v k. refl) w l)
 first-kept C w l e = chosen (textWord w) Pilot (Writes w l (w ∷ l)) (both (textWord w) (all textWord l) e .0) (as-sent Pilot (λ v. refl) (λ v k. refl) w l)
 first-kept Other w l e = absurd (false≢true e)
 
@@ -237,7 +241,8 @@ module _ (stage : Stage) (w : Word) (g : Groups) where
       grouped b = cond b ([], record { key = keyed (before 47 w); words = behind 47 w ∷ g .0 } ∷ g .1) (w ∷ g .0, g .1)
 
       go : (b : Bool) → holds 47 w ≡ b → goes (chose b) g ≡ true
-          → (take (led b) w ++ changed (chose b) (drop (led b) w)) ∷ (others (chose b) (g .0) ++ behindIt) ≡ others stage (grouped b .0) ++ spelt (canonical19 (partsOf (grouped b .1)))
+          → (take (led b) w ++ changed (chose b) (drop (led b) w)) ∷ (others (chose b) (g .0) ++ behindIt)
+          ≡ others stage (grouped b .0) ++ spelt (canonical19 (partsOf (grouped b .1)))
       go true h f = item-kept h f
       go false h f = ap (λ (l : List Word). l ++ behindIt) (further-kept w (g .0) (g .1) stage f)
 

@@ -33,7 +33,8 @@ spaced-split stage (b ∷ t) = go (eqb b 32)
     begun [] = refl
     begun (w ∷ ws) = refl
 
-    go : (c : Bool) → spaced stage (cond c ([] ∷ split 32 t) (onto b (split 32 t))) ≡ 32 ∷ join 32 (rewritten stage (cond c ([] ∷ split 32 t) (onto b (split 32 t))))
+    go : (c : Bool)
+        → spaced stage (cond c ([] ∷ split 32 t) (onto b (split 32 t))) ≡ 32 ∷ join 32 (rewritten stage (cond c ([] ∷ split 32 t) (onto b (split 32 t))))
     go true = refl
     go false = begun (split 32 t)
 

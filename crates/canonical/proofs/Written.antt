@@ -37,7 +37,8 @@ written-settled s = go (fits19 s) refl
     go : (b : Bool) → fits19 s ≡ b → written19 (written19 s) ≡ written19 s
     go true e =
         let h = written-read s e in
-        written-fits (written19 s) (h .0) ∙ ap (λ (r : Field19). spell19 (canonical19 r)) (h .1) ∙ ap spell19 (field19-laws .settled (record19 s)) ∙ sym (written-fits s e)
+        written-fits (written19 s) (h .0) ∙ ap (λ (r : Field19). spell19 (canonical19 r)) (h .1)
+        ∙ ap spell19 (field19-laws .settled (record19 s)) ∙ sym (written-fits s e)
     go false e = ap written19 (written-other s e)
 
 -- it is no longer than the content

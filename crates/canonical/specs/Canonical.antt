@@ -75,7 +75,8 @@ manual-kept : written19 manual ≡ manual
 unfolding written19 spell19 fits19 record19 keyed timeFits text inAlphabet white
 manual-kept = refl
 
-counted : (written19 (bytes "P/006") ≡ bytes "P/6") × (written19 (bytes "P/000") ≡ bytes "P/0") × (written19 (bytes "D/02 014 C ORANGE") ≡ bytes "D/2 14 C ORANGE")
+counted : (written19 (bytes "P/006") ≡ bytes "P/6") × (written19 (bytes "P/000") ≡ bytes "P/0")
+    × (written19 (bytes "D/02 014 C ORANGE") ≡ bytes "D/2 14 C ORANGE")
 unfolding written19 spell19 fits19 record19 keyed timeFits text inAlphabet white
 counted = (refl, refl, refl)
 

@@ -72,7 +72,8 @@ pub fn named(chg: &[u8], k: usize) -> Found
 // The content in force of the field of rank k, as a part of the CHG if an entry names the field, otherwise of the plan.
 pub fn in_force<'a>(plan: &'a [u8], chg: &'a [u8], k: usize) -> &'a [u8]
     ensures { λ r. ⌜ now r ≡ inForce (now (plan .entry)) (now (chg .entry)) k ⌝ }
-    ensures { λ r. ⌜ Stands (namedAt (now (chg .entry)) k) (placeOf (now (plan .entry)) k) (plan .entry .ptr .0) (plan .entry .ptr .1) (chg .entry .ptr .0) (chg .entry .ptr .1) (r .ptr .0) (r .ptr .1) ⌝ }
+    ensures { λ r. ⌜ Stands (namedAt (now (chg .entry)) k) (placeOf (now (plan .entry)) k)
+        (plan .entry .ptr .0) (plan .entry .ptr .1) (chg .entry .ptr .0) (chg .entry .ptr .1) (r .ptr .0) (r .ptr .1) ⌝ }
 {
     match named(chg, k) {
         Found::At { from, to } => &chg[from..to],

@@ -92,7 +92,8 @@ field3 = record { Record = Field3; valid = valid3; spell = spell3; fits = fits3;
 
 -- EXAMPLES, computed
 
-fitting : (fits3 (bytes "CNL") ≡ true) × (fits3 (bytes "CHGA/F016A/F014") ≡ true) × (fits3 (bytes "CNLF/B127F/B055") ≡ true) × (fits3 (bytes "FPLABCD/ABCD000") ≡ true)
+fitting : (fits3 (bytes "CNL") ≡ true) × (fits3 (bytes "CHGA/F016A/F014") ≡ true) × (fits3 (bytes "CNLF/B127F/B055") ≡ true)
+    × (fits3 (bytes "FPLABCD/ABCD000") ≡ true)
 unfolding fits3 numbersFit numberFits types
 fitting = (refl, refl, refl, refl)
 

@@ -61,6 +61,7 @@ fitting : (fits8 (bytes "IS") ≡ true) × (fits8 (bytes "V") ≡ true) × (fits
 unfolding fits8
 fitting = (refl, refl, refl)
 
-not-fitting : (fits8 (bytes "") ≡ false) × (fits8 (bytes "S") ≡ false) × (fits8 (bytes "II") ≡ false) × (fits8 (bytes "ISS") ≡ false) × (fits8 (bytes "I ") ≡ false)
+not-fitting : (fits8 (bytes "") ≡ false) × (fits8 (bytes "S") ≡ false) × (fits8 (bytes "II") ≡ false) × (fits8 (bytes "ISS") ≡ false)
+    × (fits8 (bytes "I ") ≡ false)
 unfolding fits8
 not-fitting = (refl, refl, refl, refl, refl)

@@ -72,10 +72,12 @@ matchesAfter =
     record {
       answer = λ strip held m out.
           let t = typeRead (answerOf m most) in
-          cond (differs (differences (roleOf t) (amended (roleOf t) (inner strip) (textSaid t m)) (split 45 (textSaid t m)))) (Refused 12 0 0) (updateOf strip held m (length out));
+          let found = differences (roleOf t) (amended (roleOf t) (inner strip) (textSaid t m)) (split 45 (textSaid t m)) in
+          cond (differs found) (Refused 12 0 0) (updateOf strip held m (length out));
       output = λ strip held m out.
           let t = typeRead (answerOf m most) in
-          cond (differs (differences (roleOf t) (amended (roleOf t) (inner strip) (textSaid t m)) (split 45 (textSaid t m)))) out (outAfter strip held m out);
+          let found = differences (roleOf t) (amended (roleOf t) (inner strip) (textSaid t m)) (split 45 (textSaid t m)) in
+          cond (differs found) out (outAfter strip held m out);
     }
 
 -- one by which a DEP overwrites the off-block time, as a DLA does

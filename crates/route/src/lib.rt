@@ -5,7 +5,8 @@ ghost use lib.ListN.{length, drop};
 ghost use Rattle.text.specs.Words.{split, elem};
 ghost use Rattle.shape.specs.Shape.{wides};
 ghost use Rattle.route.specs.Levels.{changes, climbs};
-ghost use Rattle.route.specs.Points.{degreesInRange, within as withinDegrees, minutesInRange, degreesOf, minutesOf, radialFits, indicators, nameFits, pointFits};
+ghost use Rattle.route.specs.Points.{degreesInRange, within as withinDegrees, minutesInRange, degreesOf, minutesOf};
+ghost use Rattle.route.specs.Points.{radialFits, indicators, nameFits, pointFits};
 ghost use Rattle.route.specs.Field15.{pairFits, wordFits, elementFits, routeFits, fits15};
 
 // 99N999W in range: latitude at most 90, longitude at most 180.

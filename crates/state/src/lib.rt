@@ -1,6 +1,7 @@
 // The state of a flight: what it allows, and where an accepted message leaves it.
 ghost use mathlib.Core.Path.{_≡_};
-ghost use Rattle.state.specs.State.{allowedDeparted, allowedIn, departureOf, nextState, nextOf, soundClock, soundDeparture, soundLanding, soundArrival, sound};
+ghost use Rattle.state.specs.State.{allowedDeparted, allowedIn, departureOf, nextState, nextOf};
+ghost use Rattle.state.specs.State.{soundClock, soundDeparture, soundLanding, soundArrival, sound};
 use aerodromes::Aerodrome;
 use shape::Clock;
 

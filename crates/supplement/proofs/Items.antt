@@ -173,7 +173,8 @@ opened-tidy k [] e = refl
 opened-tidy k (w ∷ l) e =
     let h = both (textWord w) (all textWord l) e in
     let t : all tidyByte (spellKey k ++ (47 ∷ w)) ≡ true
-    = all-append tidyByte (spellKey k) (47 ∷ w) (key-tidy k) (rw oblique-tidy (all-imp text tidyByte text-tidy w (both (not (null w)) (all text w) (h .0) .1))) in
+    = all-append tidyByte (spellKey k) (47 ∷ w) (key-tidy k)
+    (rw oblique-tidy (all-imp text tidyByte text-tidy w (both (not (null w)) (all text w) (h .0) .1))) in
     rw (some-length (spellKey k ++ (47 ∷ w)) (rw length-append (omega arith)), t) (all-imp textWord tidyWord text-word-tidy l (h .1))
 
 pub spelt-tidy : (ps : Field19) → all validPart ps ≡ true → all tidyWord (spelt ps) ≡ true

@@ -122,7 +122,10 @@ dinghies-back o c ws v =
 
 pub part-back : (p : Part) → validPart p ≡ true → Back p
 part-back (endurance t) v =
-    record { fits = time-fits elapsedHours (t .0) (omega arith) v; part = ap (λ (n : ℕ). endurance (record { 0 = n })) (time-minutes elapsedHours (t .0) (omega arith) v) }
+    record {
+      fits = time-fits elapsedHours (t .0) (omega arith) v;
+      part = ap (λ (n : ℕ). endurance (record { 0 = n })) (time-minutes elapsedHours (t .0) (omega arith) v);
+    }
 part-back (persons w) v = record { fits = v; part = refl }
 part-back (radio w) v = record { fits = v; part = refl }
 part-back (survival w) v = record { fits = v; part = refl }

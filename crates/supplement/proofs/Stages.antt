@@ -13,7 +13,8 @@ use Rattle.supplement.proofs.Stage.{the-type}
 
 abbrev stages : List Stage
 stages =
-    Start ∷ (Endurance ∷ (Persons ∷ (Radio ∷ (Survival ∷ (Lights ∷ (JacketRadio ∷ (Number ∷ (Capacity ∷ (Colours ∷ (Aircraft ∷ (Remarks ∷ (Pilot ∷ []))))))))))))
+    Start ∷ (Endurance ∷ (Persons ∷ (Radio ∷ (Survival ∷ (Lights ∷ (JacketRadio
+    ∷ (Number ∷ (Capacity ∷ (Colours ∷ (Aircraft ∷ (Remarks ∷ (Pilot ∷ []))))))))))))
 
 abbrev stageAt : ℕ → Stage
 stageAt k = getD stages k Refused

@@ -131,11 +131,13 @@ dinghies-go w [] is = go (count 2 w) refl
     go false e = shaded-go w [] is
 dinghies-go w (v ∷ l) is = go (count 2 w) refl
   where
-    paired : count 2 w ≡ true → (c : Bool) → ((c && all colour (afterCover l)) && itemsFit 6 is) ≡ (all colour (afterCover (cond c l (w ∷ (v ∷ l)))) && itemsFit 6 is)
+    paired : count 2 w ≡ true → (c : Bool)
+        → ((c && all colour (afterCover l)) && itemsFit 6 is) ≡ (all colour (afterCover (cond c l (w ∷ (v ∷ l)))) && itemsFit 6 is)
     paired e true = refl
     paired e false = rw (no-colours w (v ∷ l) e)
 
-    go : (b : Bool) → count 2 w ≡ b → goes (cond b Number (shaded w)) (v ∷ l, is) ≡ (all colour (afterCover (cond (b && count 3 v) l (w ∷ (v ∷ l)))) && itemsFit 6 is)
+    go : (b : Bool) → count 2 w ≡ b
+        → goes (cond b Number (shaded w)) (v ∷ l, is) ≡ (all colour (afterCover (cond (b && count 3 v) l (w ∷ (v ∷ l)))) && itemsFit 6 is)
     go true e = paired e (count 3 v)
     go false e = shaded-go w (v ∷ l) is
 

@@ -24,9 +24,10 @@ kept own said k e = rw (ne-eqb k 5 e)
 -- the two parts of field 13
 module _ (c : tie.After-aerodrome-of) where
   abbrev start : tie.Start
-  start = c .before .before .before .before .before .before .before
+  start = let tested = c .before .before .before in tested .before .before .before .before
 
-  parts : c .aerodrome-of .result .now ++ c .before .behind-aerodrome .result .now ≡ contentIn Delays (start .args .own .now) (start .args .said .now) (start .args .k)
+  parts : c .aerodrome-of .result .now ++ c .before .behind-aerodrome .result .now
+      ≡ contentIn Delays (start .args .own .now) (start .args .said .now) (start .args .k)
   parts =
       ap₂ (λ (v w : Word). v ++ w) (c .aerodrome-of .ensures) (c .before .behind-aerodrome .ensures ∙ ap (drop 4) (c .before .before .field .ensures))
       ∙ retimed (start .args .own .now) (start .args .said .now) (start .args .k) (c .before .before .before .if1 .taken)

@@ -20,8 +20,9 @@ part-put-end c = search needs
 
 put-requires : tie.Need-put-requires
 put-requires c κs =
-    let a = c .before .before .before .before .before in
-    let z = c .before .before .zeros in
+    let known = c .before .before in
+    let a = known .before .before .before in
+    let z = known .zeros in
     room-same (a .args .out .now) (sym (rest (a .args .w .now) (z .result) ∙ z .ensures .1)) (a .pre)
 
 same-length : tie.Need-same-length
@@ -29,9 +30,11 @@ same-length c = search needs
 
 returns : tie.Need-returns
 returns c =
-    let a = c .before .before .before .before .before .before .before .before .args in
-    let z = c .before .before .before .before .before .zeros in
-    put-same (a .out .now) (rest (a .w .now) (z .result) ∙ z .ensures .1) (c .before .before .put .ensures)
+    let written = c .before .before in
+    let known = written .before .before .before in
+    let a = known .before .before .before .args in
+    let z = known .zeros in
+    put-same (a .out .now) (rest (a .w .now) (z .result) ∙ z .ensures .1) (written .put .ensures)
 
 pub put-stripped-spec : {M : Type 1} → statement M
 put-stripped-spec =

@@ -61,10 +61,11 @@ slice-aggregate-put c = sym (length-take-le _ _ (omega arith))
 
 put-requires : tie.Need-put-requires
 put-requires c κs =
-    let a = c .before .before .before .before .before in
+    let led = c .before .before in
+    let a = led .before .before .before in
     let w = a .args .w .now in
-    let o = c .before .before .lead .result in
-    let e = c .before .before .lead .ensures in
+    let o = led .lead .result in
+    let e = led .lead .ensures in
     let h : length (take o w) ≤ length (a .args .out .now)
     = omega (arith, length-take-le o w (e .1), rewrite-length (a .args .stage) w o (e .0) (e .1), a .pre) in
     h
@@ -93,12 +94,23 @@ put-changed-requires c κs =
     let mid = p .put .last .1 .0 in
     let n = p .put .result in
     let h : length (changed (St p) (take (length (W p) - O p) (drop (O p) (W p)))) ≤ length (take (length mid - n) (drop n mid))
-    = omega (arith, ap length (behind-same p), ap length (rest mid n), length-drop n mid, p .put .ensures .0, middle-length p, head-length p, whole-length p, Led p .before .before .before .pre) in
+    = omega (
+      arith,
+      ap length (behind-same p),
+      ap length (rest mid n),
+      length-drop n mid,
+      p .put .ensures .0,
+      middle-length p,
+      head-length p,
+      whole-length p,
+      Led p .before .before .before .pre,
+    ) in
     h
 
 add-result : tie.Need-add-result
 add-result c =
-    let p = c .before .before .before .before .before .before .before in
+    let written = c .before .before .before in
+    let p = written .before .before .before .before in
     let s = rewrite-shorter (St p) (W p) (O p) (Led p .lead .ensures .0) (Led p .lead .ensures .1) in
     omega (arith, c .before .before .put-changed .ensures .0, ap length (behind-same p), p .put .ensures .0, head-length p, whole-length p, s)
 
@@ -107,7 +119,8 @@ same-length c = search needs
 
 returns : tie.Need-returns
 returns c =
-    let p = c .before .before .before .before .before .before .before in
+    let written = c .before .before .before in
+    let p = written .before .before .before .before in
     let mid = p .put .last .1 .0 in
     let n = p .put .result in
     let second = changed (St p) (take (length (W p) - O p) (drop (O p) (W p))) in (

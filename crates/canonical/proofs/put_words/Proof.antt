@@ -26,8 +26,11 @@ abbrev μ-loop : tie.MeasureT-loop
 abbrev At : tie.After-step Inv-loop μ-loop → tie.At-loop Inv-loop μ-loop
 At f = f .before .before .before
 
+abbrev Start : tie.After-step Inv-loop μ-loop → tie.Start Inv-loop μ-loop
+Start f = At f .before .before .before
+
 abbrev S : tie.After-step Inv-loop μ-loop → List ℕ
-S f = At f .before .before .before .args .s .now
+S f = Start f .args .s .now
 
 abbrev E : tie.After-step Inv-loop μ-loop → ℕ
 E f = f .before .before .find .result
@@ -37,7 +40,7 @@ word f = rewrite (f .step .result) (take (E f - At f .loop .at) (drop (At f .loo
 
 -- behind the last word nothing is left
 last : (f : tie.After-step Inv-loop μ-loop) → length (S f) ≤ E f
-    → Writing (rewrittenText (S f)) (At f .before .before .before .args .out .now) (At f .loop .out) (At f .loop .o) (word f ++ [])
+    → Writing (rewrittenText (S f)) (Start f .args .out .now) (At f .loop .out) (At f .loop .o) (word f ++ [])
 last f h =
     let l = At f .loop in
     due (l .inv .2) (text-last (l .stage) (f .step .result) (S f) (l .at) (E f) (f .before .before .find .ensures .0) (f .step .ensures) h)
@@ -48,7 +51,7 @@ abbrev following : tie.After-step Inv-loop μ-loop → List ℕ
 following f = 32 ∷ join 32 (rewritten (f .step .result) (split 32 (drop (E f + 1) (S f))))
 
 next : (f : tie.After-step Inv-loop μ-loop) → E f < length (S f)
-    → Writing (rewrittenText (S f)) (At f .before .before .before .args .out .now) (At f .loop .out) (At f .loop .o) (word f ++ following f)
+    → Writing (rewrittenText (S f)) (Start f .args .out .now) (At f .loop .out) (At f .loop .o) (word f ++ following f)
 next f h =
     let l = At f .loop in
     due (l .inv .2) (text-next (l .stage) (f .step .result) (S f) (l .at) (E f) (f .before .before .find .ensures .0) (f .step .ensures) h)
@@ -91,36 +94,37 @@ put-word-requires : tie.Need-put-word-requires Inv-loop μ-loop
 put-word-requires c κs =
     let f = c .before in
     let l = At f .loop in
-    omega (arith, fits f, ap length (rest (l .out) (l .o)), length-drop (l .o) (l .out), l .inv .1, c .before .before .before .before .before .before .before .pre)
+    omega (arith, fits f, ap length (rest (l .out) (l .o)), length-drop (l .o) (l .out), l .inv .1, Start f .pre)
 
 add-o : tie.Need-add-o Inv-loop μ-loop
 add-o c =
-    let a = c .before .before .before .before .before .before .before .before .before .before in
-    omega (arith, fits (c .before .before .before .before), c .before .before .put-word .ensures .0, a .pre, a .good .1 .0)
+    let f = c .before .before .before .before in
+    omega (arith, fits f, c .before .before .put-word .ensures .0, Start f .pre, Start f .good .1 .0)
 
 same-length : tie.Need-same-length Inv-loop μ-loop
 same-length c = search needs
 
 returns : tie.Need-returns Inv-loop μ-loop
 returns c =
-    let f = c .before .before .before .before .before in
+    let written = c .before .before .before in
+    let f = written .before .before in
     let l = At f .loop in
-    let r = c .before .before .before .put-word .ensures in
+    let r = written .put-word .ensures in
     rw (r .0) (all-written (onward (word f) [] (last f (omega arith)) _ (lent (l .out) (word f) (l .o) _ (r .1))))
 
 slice-write-out : tie.Need-slice-write-out Inv-loop μ-loop
 slice-write-out c =
-    let a = c .before .before .before .before .before .before .before .before .before .before .before in
-    let f = c .before .before .before .before .before in
+    let written = c .before .before .before in
+    let f = written .before .before in
     let q = room (word f) (following f) (next f (omega arith)) in
-    omega (arith, c .before .before .before .put-word .ensures .0, q, c .before .before .out .given .1, At f .loop .inv .1, a .pre)
+    omega (arith, written .put-word .ensures .0, q, c .before .before .out .given .1, At f .loop .inv .1, Start f .pre)
 
 add-o-2 : tie.Need-add-o-2 Inv-loop μ-loop
 add-o-2 c =
-    let a = c .before .before .before .before .before .before .before .before .before .before .before in
-    let f = c .before .before .before .before .before in
+    let written = c .before .before .before in
+    let f = written .before .before in
     let q = room (word f) (following f) (next f (omega arith)) in
-    omega (arith, c .before .before .before .put-word .ensures .0, q, a .pre, a .good .1 .0)
+    omega (arith, written .put-word .ensures .0, q, Start f .pre, Start f .good .1 .0)
 
 add-at : tie.Need-add-at Inv-loop μ-loop
 add-at c = search needs
@@ -130,17 +134,17 @@ loop-less c = search needs
 
 loop-again : tie.Need-loop-again Inv-loop μ-loop
 loop-again c =
-    let a = c .before .before .before .before .before .before .before .before .before .before .before in
-    let f = c .before .before .before .before .before in
+    let written = c .before .before .before in
+    let f = written .before .before in
     let l = At f .loop in
-    let r = c .before .before .before .put-word .ensures in
+    let r = written .put-word .ensures in
     let n = next f (omega arith) in
     let t = onward (word f) (following f) n _ (lent (l .out) (word f) (l .o) _ (r .1)) in
     let q = room (word f) (following f) n in
     let k = c .before .before .out .given .1 in (
       omega arith,
       simp length-set (k ∙ l .inv .1),
-      rw (r .0) (onward (32 ∷ []) (drop 1 (following f)) t _ (store _ (l .o + length (word f)) 32 (omega (arith, q, k, l .inv .1, a .pre)))),
+      rw (r .0) (onward (32 ∷ []) (drop 1 (following f)) t _ (store _ (l .o + length (word f)) 32 (omega (arith, q, k, l .inv .1, Start f .pre)))),
     )
 
 pub put-words-spec : {M : Type 1} → statement M

@@ -37,8 +37,9 @@ loop-less c = search needs
 
 loop-again : tie.Need-loop-again Inv-loop μ-loop
 loop-again c =
-    let a = c .before .before .before .before .before .before .before .args in
-    let l = c .before .before .before .before .loop in
+    let head = c .before .before .before .before in
+    let a = head .before .before .before .args in
+    let l = head .loop in
     let t = sorted-take (a .set .now) (a .w .now) (l .i) (c .before .before .before .loop-test .taken) (sym (c .before .one-of .ensures) ∙ c .if1 .taken) in
     (omega arith, omega arith, omega (arith, l .inv .2, ap length t))
 
@@ -47,8 +48,9 @@ loop-less-2 c = search needs
 
 loop-again-2 : tie.Need-loop-again-2 Inv-loop μ-loop
 loop-again-2 c =
-    let a = c .before .before .before .before .before .before .before .args in
-    let l = c .before .before .before .before .loop in
+    let head = c .before .before .before .before in
+    let a = head .before .before .before .args in
+    let l = head .loop in
     let t = sorted-skip (a .set .now) (a .w .now) (l .i) (c .before .before .before .loop-test .taken) (sym (c .before .one-of .ensures) ∙ c .if1 .left) in
     (omega arith, omega arith, omega (arith, l .inv .2, ap length t))
 

@@ -44,10 +44,12 @@ add-n c = search needs
 
 returns : tie.Need-returns Inv-loop μ-loop
 returns c =
-    let l = c .before .before .before .before .before .loop in
+    let found = c .before .before .before .before in
+    let s = found .before .before .before .args .s .now in
+    let l = found .before .loop in
+    let e = found .find in
     let r = c .before .before .step in
-    let e = c .before .before .before .before .find in
-    let t = text-last (l .stage) (r .result) (c .before .before .before .before .before .before .before .args .s .now) (l .at) (e .result) (e .ensures .0) (r .ensures) (omega arith) in
+    let t = text-last (l .stage) (r .result) s (l .at) (e .result) (e .ensures .0) (r .ensures) (omega arith) in
     omega (arith, l .inv .2, c .before .word-length .ensures .0, simp length-append at (ap length t))
 
 add-n-2 : tie.Need-add-n-2 Inv-loop μ-loop
@@ -61,10 +63,11 @@ loop-less c = search needs
 
 loop-again : tie.Need-loop-again Inv-loop μ-loop
 loop-again c =
-    let s = c .before .before .before .before .before .before .before .args .s .now in
-    let l = c .before .before .before .before .before .loop in
+    let found = c .before .before .before .before in
+    let s = found .before .before .before .args .s .now in
+    let l = found .before .loop in
+    let e = found .find in
     let r = c .before .before .step in
-    let e = c .before .before .before .before .find in
     let t = text-next (l .stage) (r .result) s (l .at) (e .result) (e .ensures .0) (r .ensures) (omega arith) in
     let w = c .before .word-length .ensures in
     let k = length-take-le (e .result - l .at) (drop (l .at) s) (rw length-drop (omega arith)) in

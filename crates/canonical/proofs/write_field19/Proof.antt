@@ -13,8 +13,9 @@ fits-field19-requires c κs = search needs
 
 put-requires : tie.Need-put-requires
 put-requires c κs =
-    let a = c .before .before .before .before .before in
-    let f = sym (c .before .before .fits-field19 .ensures) ∙ not-true _ (c .before .if1 .taken) in
+    let tried = c .before .before in
+    let a = tried .before .before .before in
+    let f = sym (tried .fits-field19 .ensures) ∙ not-true _ (c .before .if1 .taken) in
     room-same (a .args .out .now) (written-other (a .args .s .now) f) (a .pre)
 
 same-length : tie.Need-same-length
@@ -22,14 +23,17 @@ same-length c = search needs
 
 returns : tie.Need-returns
 returns c =
-    let a = c .before .before .before .before .before .before .before .before .args in
-    let f = sym (c .before .before .before .before .before .fits-field19 .ensures) ∙ not-true _ (c .before .before .before .before .if1 .taken) in
-    put-same (a .out .now) (sym (written-other (a .s .now) f)) (c .before .before .put .ensures)
+    let written = c .before .before in
+    let tried = written .before .before .before in
+    let a = tried .before .before .before .args in
+    let f = sym (tried .fits-field19 .ensures) ∙ not-true _ (written .before .before .if1 .taken) in
+    put-same (a .out .now) (sym (written-other (a .s .now) f)) (written .put .ensures)
 
 put-words-requires : tie.Need-put-words-requires
 put-words-requires c κs =
-    let a = c .before .before .before .before .before in
-    let f = sym (c .before .before .fits-field19 .ensures) ∙ not-false _ (c .before .if1 .left) in
+    let tried = c .before .before in
+    let a = tried .before .before .before in
+    let f = sym (tried .fits-field19 .ensures) ∙ not-false _ (c .before .if1 .left) in
     room-same (a .args .out .now) (written-words (a .args .s .now) f) (a .pre)
 
 same-length-2 : tie.Need-same-length-2
@@ -37,9 +41,11 @@ same-length-2 c = search needs
 
 returns-2 : tie.Need-returns-2
 returns-2 c =
-    let a = c .before .before .before .before .before .before .before .before .args in
-    let f = sym (c .before .before .before .before .before .fits-field19 .ensures) ∙ not-false _ (c .before .before .before .before .if1 .left) in
-    put-same (a .out .now) (sym (written-words (a .s .now) f)) (c .before .before .put-words .ensures)
+    let written = c .before .before in
+    let tried = written .before .before .before in
+    let a = tried .before .before .before .args in
+    let f = sym (tried .fits-field19 .ensures) ∙ not-false _ (written .before .before .if1 .left) in
+    put-same (a .out .now) (sym (written-words (a .s .now) f)) (written .put-words .ensures)
 
 pub write-field19-spec : {M : Type 1} → statement M
 write-field19-spec =

@@ -31,8 +31,9 @@ shared-slice-read-if2 c = search needs
 
 returns-2 : tie.Need-returns-2 Inv-loop μ-loop
 returns-2 c =
-    let l = c .before .before .before .before .loop in
-    (search needs, sym (l .inv .1 ∙ stripped-stop (c .before .before .before .before .before .args .w .now) (l .i) (omega arith) (c .if2 .taken)))
+    let head = c .before .before .before .before in
+    let l = head .loop in
+    (search needs, sym (l .inv .1 ∙ stripped-stop (head .before .args .w .now) (l .i) (omega arith) (c .if2 .taken)))
 
 add-i : tie.Need-add-i Inv-loop μ-loop
 add-i c = search needs
@@ -42,8 +43,9 @@ loop-less c = search needs
 
 loop-again : tie.Need-loop-again Inv-loop μ-loop
 loop-again c =
-    let l = c .before .before .before .before .loop in
-    (search needs, l .inv .1 ∙ stripped-next (c .before .before .before .before .before .args .w .now) (l .i) (omega arith) (c .if2 .left))
+    let head = c .before .before .before .before in
+    let l = head .loop in
+    (search needs, l .inv .1 ∙ stripped-next (head .before .args .w .now) (l .i) (omega arith) (c .if2 .left))
 
 returns-3 : tie.Need-returns-3 Inv-loop μ-loop
 returns-3 c =

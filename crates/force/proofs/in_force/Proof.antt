@@ -39,16 +39,19 @@ part-result-end-2 c = search needs
 
 returns : tie.Need-returns
 returns c =
-    let a = c .before .before .before .before .before .before .before .args in
+    let looked = c .before .before .before .before in
+    let a = looked .before .before .before .args in
     in-chg (a .plan .now) (a .chg .now) (a .k) (a .plan .ptr .0) (a .plan .ptr .1) (a .chg .ptr .0) (a .chg .ptr .1) _ _
-    (as-found _ _ (c .before .before .before .before .named .ensures) (c .before .before .from .given .1))
+    (as-found _ _ (looked .named .ensures) (c .before .before .from .given .1))
 
 returns-2 : tie.Need-returns-2
 returns-2 c =
-    let a = c .before .before .before .before .before .before .before .before .args in
+    let none = c .before .before .before in
+    let looked = none .before .before in
+    let a = looked .before .before .before .args in
     let s = c .before .before .seek .ensures in
     in-plan (a .plan .now) (a .chg .now) (a .k) (a .plan .ptr .0) (a .plan .ptr .1) (a .chg .ptr .0) (a .chg .ptr .1) _ _
-    (as-found _ _ (c .before .before .before .before .before .named .ensures) (c .before .before .before .enum-told .given .1)) (s .0) (s .1) (c .before .end .ensures .0)
+    (as-found _ _ (looked .named .ensures) (none .enum-told .given .1)) (s .0) (s .1) (c .before .end .ensures .0)
 
 pub in-force-spec : {M : Type 1} → statement M
 in-force-spec =

@@ -41,10 +41,12 @@ complete-requires c κs = search needs
 
 returns : tie.Need-returns Inv-loop μ-loop
 returns c =
-    let l = c .before .before .before .before .before .loop in
-    let e = c .before .before .before .before .find in
-    let t = walked-last (l .stage) (c .before .before .before .before .before .before .before .args .s .now) (l .at) (e .result) (e .ensures .0) (omega arith) in
-    c .complete .ensures ∙ ap completeAt (c .before .before .step .ensures) ∙ sym (sym (walk-fits (c .before .before .before .before .before .before .before .args .s .now)) ∙ l .inv .1 ∙ t)
+    let found = c .before .before .before .before in
+    let s = found .before .before .before .args .s .now in
+    let l = found .before .loop in
+    let e = found .find in
+    let t = walked-last (l .stage) s (l .at) (e .result) (e .ensures .0) (omega arith) in
+    c .complete .ensures ∙ ap completeAt (c .before .before .step .ensures) ∙ sym (sym (walk-fits s) ∙ l .inv .1 ∙ t)
 
 add-at : tie.Need-add-at Inv-loop μ-loop
 add-at c = search needs
@@ -54,9 +56,10 @@ loop-less c = search needs
 
 loop-again : tie.Need-loop-again Inv-loop μ-loop
 loop-again c =
-    let s = c .before .before .before .before .before .before .args .s .now in
-    let l = c .before .before .before .before .loop in
-    let e = c .before .before .before .find in
+    let found = c .before .before .before in
+    let s = found .before .before .before .args .s .now in
+    let l = found .before .loop in
+    let e = found .find in
     let t = walked-next (l .stage) s (l .at) (e .result) (e .ensures .0) (omega arith) in
     (search needs, l .inv .1 ∙ t ∙ sym (ap (λ (x : Stage). walked x (split 32 (drop (e .result + 1) s))) (c .before .step .ensures)))
 

@@ -71,7 +71,8 @@ returns-5 c =
     let a = c .before .before .before .before .args in
     let w = a .w .now in
     as-taken (a .stage) (c .taken4 .ensures) (c .before .is-text-word .ensures)
-    ∙ sym (among (λ s. furtherOf s w) (λ s. cond (textWord w) s Refused) (Aircraft ∷ (Remarks ∷ (Pilot ∷ []))) (a .stage) (c .before .before .match .keys5) refl)
+    ∙ sym
+    (among (λ s. furtherOf s w) (λ s. cond (textWord w) s Refused) (Aircraft ∷ (Remarks ∷ (Pilot ∷ []))) (a .stage) (c .before .before .match .keys5) refl)
 
 returns-6 : tie.Need-returns-6
 returns-6 c =
