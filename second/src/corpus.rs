@@ -1,10 +1,14 @@
 //! The corpus of questions that the gate puts to the proved reader: hand-written lists, each question
-//! with the answer that document 01 gives, and generated questions.
+//! with the answer that document 01 gives, generated questions, contents alone and probes.
 //!
 //! In `data/`, a question stands on one line and its answer behind `= ` on the next; `= itself` is
 //! an accepted message spelled as it stands, and `{3*AB}` is AB three times. `#` begins a remark.
+//! The lines of `contents.txt` have no answer.
 
-use crate::generate::questions::{in_force_run, read_damaged, read_in_short_rooms, read_valid, update_run, Line};
+use crate::generate::probes::probes;
+use crate::generate::questions::{
+    content_alone, in_force_run, read_damaged, read_in_short_rooms, read_valid, update_run, Line,
+};
 use crate::generate::Dice;
 use crate::kind::Kind;
 use crate::vectors::Vectors;
@@ -30,6 +34,12 @@ const QUESTIONS: [&str; 6] = [
 
 const CONTENTS: &str = include_str!("../data/printed-contents.txt");
 
+/// Lines that hold a content alone to a form, with their answers.
+const ALONE: &str = include_str!("../data/content-lines.txt");
+
+/// Further contents, each behind the name of its form and with no answer.
+const FURTHER: &str = include_str!("../data/contents.txt");
+
 /// For each form of a content: what stands before and behind it in a message, and the answer if it does not fit.
 const CARRIERS: [(&str, &str, &str, &str); 14] = [
     ("7", "(CNL-", "-EHAM0930-EDDF-0)", "NO 7 7 4"),
@@ -51,7 +61,7 @@ const CARRIERS: [(&str, &str, &str, &str); 14] = [
 /// All the lists, in the order in which they are asked.
 pub fn listed() -> Vec<Listed> {
     let questions = QUESTIONS.into_iter().flat_map(questions);
-    questions.chain(contents(CONTENTS)).collect()
+    questions.chain(contents(CONTENTS)).chain(self::questions(ALONE)).collect()
 }
 
 /// The questions that the second reader answers otherwise than listed, each with both answers.
@@ -133,10 +143,18 @@ fn generated() -> Vec<Line> {
     lines
 }
 
+/// Contents alone: those listed without an answer, then generated ones, the same each time.
+fn contents_alone() -> Vec<Line> {
+    let mut dice = Dice::new(2025);
+    let further = FURTHER.lines().filter(|line| !line.starts_with('#'));
+    let lines = further.map(|line| format!("C {line}").into_bytes());
+    lines.chain((0..1000).map(|_| content_alone(&mut dice))).collect()
+}
+
 /// The whole corpus, as the vectors program is given it: no line feed ends the last line.
 pub fn corpus() -> Vec<u8> {
     let listed = listed().into_iter().map(|listed| listed.question.into_bytes());
-    let lines: Vec<Line> = listed.chain(generated()).collect();
+    let lines: Vec<Line> = listed.chain(generated()).chain(contents_alone()).chain(probes()).collect();
     lines.join(&b'\n')
 }
 

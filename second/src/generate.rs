@@ -4,6 +4,7 @@ mod contents;
 mod damage;
 mod dice;
 mod drafts;
+pub mod probes;
 pub mod questions;
 
 use std::io::{self, Write};
@@ -64,8 +65,8 @@ fn damaged(dice: &mut Dice, kind: Kind, flight: &Flight) -> Vec<u8> {
     }
 }
 
-/// One line for the fields program: a form's name and a content.
-pub fn field_line(dice: &mut Dice) -> Vec<u8> {
+/// The name of a form and a content for it: valid, damaged while it is made, or damaged afterwards.
+pub fn form_and_content(dice: &mut Dice) -> (&'static str, Vec<u8>) {
     let named = if dice.chance(40) { &Form::NAMED[10..] } else { &Form::NAMED[..] };
     let (name, form) = if dice.chance(15) { ("15", Form::F15) } else { *dice.pick(named) };
     let content = match dice.below(10) {
@@ -80,8 +81,7 @@ pub fn field_line(dice: &mut Dice) -> Vec<u8> {
             content
         }
     };
-    let content = content.into_iter().filter(|&b| b != b'\n');
-    name.bytes().chain([b' ']).chain(content).collect()
+    (name, content)
 }
 
 /// A run of messages for the desk: a plan, then messages that are mostly for its flight.

@@ -55,6 +55,7 @@ fn groups() -> Vec<(&'static str, Vec<String>)> {
         ("updated", all("OK", &["FILED", "DEPARTED", "ARRIVED", "ARRIVED ----", "CANCELLED"])),
         ("in force", all("IN", &["STRIP", "CHG"])),
         ("held", vec!["HELD".to_string()]),
+        ("content alone", vec!["FITS".to_string(), "NO".to_string()]),
     ]
 }
 

@@ -1,12 +1,14 @@
 //! Questions to the reader, one to a line, and its answers: what the proved reader is compared by.
 //!
 //! `R message` and `r ROOM message` read it, `H STATE strip` holds a strip unchecked, `U message` and
-//! `u ROOM message` offer it to the strip held, `F NUMBER message` asks for the field in force.
+//! `u ROOM message` offer it to the strip held, `F NUMBER message` asks for the field in force,
+//! `C FORM content` holds a content alone to a form.
 
 use std::io::{self, BufRead, Write};
 
 use crate::alphabet::number;
 use crate::escapes::{escaped, unescaped};
+use crate::forms::{field_fits, Form};
 use crate::message::{read, LONGEST};
 use crate::refusal::Refusal;
 use crate::strip::{field_in_force, update, InForce, State, Updated};
@@ -40,12 +42,12 @@ impl Vectors {
         match kind {
             b"R" => Some(answer_read(&unescaped(rest)?, LONGEST)),
             b"U" => Some(self.offer(&unescaped(rest)?, LONGEST)),
-            b"r" | b"u" | b"F" | b"H" => self.answer_with(kind, rest),
+            b"r" | b"u" | b"F" | b"H" | b"C" => self.answer_with(kind, rest),
             _ => None,
         }
     }
 
-    /// The questions that have a word before the message or strip.
+    /// The questions that have a word before the message, strip or content.
     fn answer_with(&mut self, kind: &[u8], rest: &[u8]) -> Option<Vec<u8>> {
         let (word, text) = at_space(rest)?;
         let bytes = unescaped(text)?;
@@ -53,6 +55,7 @@ impl Vectors {
             b"r" => Some(answer_read(&bytes, number_to(word, LONGEST)?)),
             b"u" => Some(self.offer(&bytes, number_to(word, LONGEST)?)),
             b"F" => Some(self.ask(&bytes, number_to(word, 255)?)),
+            b"C" => answer_content(std::str::from_utf8(word).ok()?, &bytes),
             _ => Some(self.hold(read_state(word)?, bytes)),
         }
     }
@@ -97,6 +100,12 @@ fn answer_read(message: &[u8], room: usize) -> Vec<u8> {
         Ok(accepted) => with_text(format!("OK {} ", accepted.kind.name()), &accepted.spelling),
         Err(refusal) => answer_refused(refusal),
     }
+}
+
+/// `None` if no form has this name.
+fn answer_content(form: &str, content: &[u8]) -> Option<Vec<u8>> {
+    Form::named(form)?;
+    Some(if field_fits(form, content) { b"FITS".to_vec() } else { b"NO".to_vec() })
 }
 
 fn answer_refused(refusal: Refusal) -> Vec<u8> {

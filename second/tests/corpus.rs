@@ -44,19 +44,20 @@ fn ten_thousand_questions_meet_every_answer() {
 #[test]
 fn what_was_never_met_is_said() {
     let answers =
-        b"OK FPL (FPL)\nNO 7 13 10\nNO 7 3 0\nOK ARRIVED ---- EDDF 0100 (FPL)\nIN CHG 1 2 X\nHELD\nBAD LINE\n";
+        b"OK FPL (FPL)\nNO 7 13 10\nNO 7 3 0\nOK ARRIVED ---- EDDF 0100 (FPL)\nIN CHG 1 2 X\nHELD\nFITS\nBAD LINE\n";
     let tally = Tally::of(&answers[..]).expect("text").to_string();
     for part in [
-        "cases: 7\n",
+        "cases: 8\n",
         "OK FPL 1,",
         "NO 7 2,",
         "OK ARRIVED 0,",
         "OK ARRIVED ---- 1,",
         "IN CHG 1\n",
+        "FITS 1, NO 0\n",
         "other answers: 1\n",
     ] {
         assert!(tally.contains(part), "{part}: {tally}");
     }
     let never = tally.lines().last().expect("a last line");
-    assert!(never.contains("OK CHG,") && never.contains("NO 17,") && !never.contains("NO 7,"), "{never}");
+    assert!(never.contains("OK CHG,") && never.contains("NO 17,") && never.ends_with(", NO") && !never.contains("NO 7,"), "{never}");
 }

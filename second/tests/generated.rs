@@ -1,6 +1,6 @@
 //! Properties over generated messages; nothing panics.
 
-use second::generate::{field_line, piece, valid, DeskRun, Dice};
+use second::generate::{form_and_content, piece, valid, DeskRun, Dice};
 use second::{field_fits, read, spelling19, update, Kind, State, LONGEST};
 
 #[test]
@@ -34,9 +34,7 @@ fn a_spelling_is_its_own_spelling() {
 fn contents_fit_as_in_a_message() {
     let mut dice = Dice::new(3);
     for _ in 0..5000 {
-        let line = field_line(&mut dice);
-        let space = line.iter().position(|&b| b == b' ').expect("a form's name");
-        let (form, content) = (std::str::from_utf8(&line[..space]).expect("ASCII"), &line[space + 1..]);
+        let (form, content) = form_and_content(&mut dice);
         let (before, behind) = match form {
             "3" if content.starts_with(b"CNL") => ("(", "-AB-EHAM0930-EDDF-0)"),
             "7" => ("(CNL-", "-EHAM0930-EDDF-0)"),
@@ -53,11 +51,11 @@ fn contents_fit_as_in_a_message() {
             "15" => ("(CHG-AB-EHAM0930-EDDF-0-15/", ")"),
             _ => continue,
         };
-        let message = [before.as_bytes(), content, behind.as_bytes()].concat();
-        let spelled = spelling19(content).filter(|_| form == "19").unwrap_or(content.to_vec());
+        let message = [before.as_bytes(), &content, behind.as_bytes()].concat();
+        let spelled = spelling19(&content).filter(|_| form == "19").unwrap_or(content.clone());
         let due = [before.as_bytes(), &spelled, behind.as_bytes()].concat();
         let same = read(&message, LONGEST).is_ok_and(|accepted| accepted.spelling == due);
-        assert_eq!(field_fits(form, content), same, "{}", String::from_utf8_lossy(&line));
+        assert_eq!(field_fits(form, &content), same, "{form} {}", String::from_utf8_lossy(&content));
     }
 }
 

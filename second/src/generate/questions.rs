@@ -1,10 +1,10 @@
-//! Questions for the vectors program: single messages, and runs of messages offered to a strip.
+//! Questions for the vectors program: single messages and contents, and runs of messages offered to a strip.
 
 use std::collections::VecDeque;
 
 use super::contents::Flight;
 use super::dice::Dice;
-use super::{contents, damaged, drafts, long_change, long_plan, offered, valid};
+use super::{contents, damaged, drafts, form_and_content, long_change, long_plan, offered, valid};
 use crate::escapes::escaped;
 use crate::kind::Kind;
 use crate::message::{read, LONGEST};
@@ -30,7 +30,7 @@ impl Questions {
 }
 
 fn some_questions(dice: &mut Dice) -> Vec<Line> {
-    match dice.below(46) {
+    match dice.below(52) {
         0..=19 => {
             let kind = *dice.pick(&Kind::ALL);
             vec![read_valid(dice, kind)]
@@ -38,7 +38,8 @@ fn some_questions(dice: &mut Dice) -> Vec<Line> {
         20..=34 => vec![read_damaged(dice)],
         35..=37 => read_in_short_rooms(dice),
         38..=42 => update_run(dice, 8),
-        _ => in_force_run(dice, 4),
+        43..=45 => in_force_run(dice, 4),
+        _ => vec![content_alone(dice)],
     }
 }
 
@@ -52,6 +53,12 @@ pub fn read_damaged(dice: &mut Dice) -> Line {
     let kind = *dice.pick(&Kind::ALL);
     let flight = Flight::any(dice);
     ask("R", &damaged(dice, kind, &flight))
+}
+
+/// A content alone, held to a form.
+pub fn content_alone(dice: &mut Dice) -> Line {
+    let (form, content) = form_and_content(dice);
+    ask(&format!("C {form}"), &content)
 }
 
 /// Reading a message into its spelling's length, one byte less, and some other room.
@@ -218,6 +225,7 @@ fn state_word(state: State) -> String {
     }
 }
 
-fn ask(head: &str, bytes: &[u8]) -> Line {
+/// A line that begins so, and ends with these bytes.
+pub fn ask(head: &str, bytes: &[u8]) -> Line {
     [head.as_bytes(), b" ", &escaped(bytes)].concat()
 }
