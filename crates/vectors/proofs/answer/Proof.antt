@@ -46,8 +46,8 @@ answer-bytes-requires : tie.Need-answer-bytes-requires
 answer-bytes-requires c κs =
     let known = c .before .before in
     let decoded = known .before .before .before .before in
-    let asked = decoded .before .before .before in
-    let p = asked .before .before .before .before .before .pre in
+    let asked = decoded .before .before .before .before in
+    let p = asked .before .before .before .before .pre in
     let fits = array-share-prefix-bytes known in
     let short = length-take-le (known .before .n .given .0 .0) (decoded .decode .last .1 .0) fits in
     (omega (arith, short, fits, decoded .decode .kept .1 .0), p .1, p .2)
