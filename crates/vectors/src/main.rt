@@ -203,13 +203,13 @@ fn form_rank(w: &[u8]) -> usize {
 
 fn form_of(w: &[u8]) -> Question {
     let k = form_rank(w);
-    let forms = FORMS;
     if k == 0 {
         return Question::Nothing;
     }
     if 13 < k {
         return Question::Nothing;
     }
+    let forms = FORMS;
     Question::Fit(forms[k - 1])
 }
 
@@ -255,7 +255,7 @@ fn asked_by(head: &[u8]) -> Question {
         return Question::Nothing;
     }
     if n < 3 {
-        return question_of(head[0], b"");
+        return question_of(head[0], head);
     }
     question_of(head[0], &head[2..n - 1])
 }
