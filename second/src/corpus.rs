@@ -30,22 +30,22 @@ const QUESTIONS: [&str; 6] = [
 
 const CONTENTS: &str = include_str!("../data/printed-contents.txt");
 
-/// For each form of a content: what stands before and behind it in a message, and the answer if it does not fit.
+/// For each form of a content: what stands before and behind it in a message, and the answer but for its place if it does not fit.
 const CARRIERS: [(&str, &str, &str, &str); 14] = [
-    ("7", "(CNL-", "-EHAM0930-EDDF-0)", "NO 7 7 4"),
-    ("8", "(CHG-ABC12-EHAM0930-EDDF-0-8/", ")", "NO 7 22 26"),
-    ("9", "(CHG-ABC12-EHAM0930-EDDF-0-9/", ")", "NO 7 22 26"),
-    ("10", "(CHG-ABC12-EHAM0930-EDDF-0-10/", ")", "NO 7 22 26"),
-    ("13", "(CNL-ABC12-", "-EDDF-0)", "NO 7 13 10"),
-    ("13open", "(RQP-ABC12-", "-EDDF-0)", "NO 7 13 10"),
-    ("15", "(CHG-ABC12-EHAM0930-EDDF-0-15/", ")", "NO 7 22 26"),
-    ("route", "(CHG-ABC12-EHAM0930-EDDF-0-15/N0440F310 ", ")", "NO 7 22 26"),
-    ("speed", "(CHG-ABC12-EHAM0930-EDDF-0-15/", "F310 DCT)", "NO 7 22 26"),
-    ("level", "(CHG-ABC12-EHAM0930-EDDF-0-15/N0440", " DCT)", "NO 7 22 26"),
-    ("16plan", "(SPL-ABC12-EHAM0930-", "-0-P/1)", "NO 7 16 19"),
-    ("17", "(ARR-ABC12-EHAM0930-EDDF-", ")", "NO 7 17 24"),
-    ("18", "(CNL-ABC12-EHAM0930-EDDF-", ")", "NO 7 18 24"),
-    ("19", "(SPL-ABC12-EHAM0930-EDDF0100-0-", ")", "NO 7 19 30"),
+    ("7", "(CNL-", "-EHAM0930-EDDF-0)", "NO 7 7"),
+    ("8", "(CHG-ABC12-EHAM0930-EDDF-0-8/", ")", "NO 7 22"),
+    ("9", "(CHG-ABC12-EHAM0930-EDDF-0-9/", ")", "NO 7 22"),
+    ("10", "(CHG-ABC12-EHAM0930-EDDF-0-10/", ")", "NO 7 22"),
+    ("13", "(CNL-ABC12-", "-EDDF-0)", "NO 7 13"),
+    ("13open", "(RQP-ABC12-", "-EDDF-0)", "NO 7 13"),
+    ("15", "(CHG-ABC12-EHAM0930-EDDF-0-15/", ")", "NO 7 22"),
+    ("route", "(CHG-ABC12-EHAM0930-EDDF-0-15/N0440F310 ", ")", "NO 7 22"),
+    ("speed", "(CHG-ABC12-EHAM0930-EDDF-0-15/", "F310 DCT)", "NO 7 22"),
+    ("level", "(CHG-ABC12-EHAM0930-EDDF-0-15/N0440", " DCT)", "NO 7 22"),
+    ("16plan", "(SPL-ABC12-EHAM0930-", "-0-P/1)", "NO 7 16"),
+    ("17", "(ARR-ABC12-EHAM0930-EDDF-", ")", "NO 7 17"),
+    ("18", "(CNL-ABC12-EHAM0930-EDDF-", ")", "NO 7 18"),
+    ("19", "(SPL-ABC12-EHAM0930-EDDF0100-0-", ")", "NO 7 19"),
 ];
 
 /// All the lists, in the order in which they are asked.
@@ -112,11 +112,15 @@ fn block(block: &str) -> Vec<Listed> {
     let carried = contents.lines().map(|content| format!("{before}{content}{behind}"));
     match verdict {
         "fits" => carried.map(|message| accepted(&message)).collect(),
-        "no" => {
-            carried.map(|message| Listed { question: format!("R {message}"), answer: refused.to_string() }).collect()
-        }
+        "no" => carried.map(|message| refused_at_mark(&message, refused)).collect(),
         _ => panic!("no verdict: {head}"),
     }
+}
+
+/// A message that is refused at the byte behind the mark `^`.
+fn refused_at_mark(message: &str, refused: &str) -> Listed {
+    let (before, behind) = message.split_once('^').expect("a mark before the byte at which the content goes wrong");
+    Listed { question: format!("R {before}{behind}"), answer: format!("{refused} {}", before.len()) }
 }
 
 /// Generated questions, the same each time: valid messages of each type, damaged ones, short rooms, runs of updates, fields in force.
