@@ -4,6 +4,7 @@
 //! In `data/`, a question stands on one line and its answer behind `= ` on the next; `= itself` is
 //! an accepted message spelled as it stands, and `{3*AB}` is AB three times. `#` begins a remark.
 
+use crate::generate::neighbours;
 use crate::generate::questions::{in_force_run, read_damaged, read_in_short_rooms, read_valid, update_run, Line};
 use crate::generate::Dice;
 use crate::kind::Kind;
@@ -124,7 +125,8 @@ fn refused_at_mark(message: &str, refused: &str) -> Listed {
     Listed { question: format!("R {before}{behind}"), answer: format!("{refused} {}", before.len()) }
 }
 
-/// Generated questions, the same each time: valid messages of each type, damaged ones, short rooms, runs of updates, fields in force.
+/// Generated questions, the same each time: valid messages of each type, damaged ones, short rooms, runs of updates, fields in force,
+/// and all messages that differ by little from some valid ones.
 fn generated() -> Vec<Line> {
     let mut dice = Dice::new(2012);
     let mut lines = Vec::new();
@@ -135,6 +137,7 @@ fn generated() -> Vec<Line> {
     lines.extend((0..200).flat_map(|_| read_in_short_rooms(&mut dice)));
     lines.extend((0..500).flat_map(|_| update_run(&mut dice, 10)));
     lines.extend((0..200).flat_map(|_| in_force_run(&mut dice, 10)));
+    lines.extend(neighbours::questions());
     lines
 }
 

@@ -4,7 +4,7 @@ use std::collections::VecDeque;
 
 use super::contents::Flight;
 use super::dice::Dice;
-use super::{contents, damaged, drafts, long_change, long_plan, offered, valid};
+use super::{contents, damaged, damaged_deep, drafts, long_change, long_plan, offered, valid};
 use crate::escapes::escaped;
 use crate::kind::Kind;
 use crate::message::{read, LONGEST};
@@ -30,14 +30,15 @@ impl Questions {
 }
 
 fn some_questions(dice: &mut Dice) -> Vec<Line> {
-    match dice.below(46) {
-        0..=19 => {
+    match dice.below(109) {
+        0..=7 => {
             let kind = *dice.pick(&Kind::ALL);
             vec![read_valid(dice, kind)]
         }
-        20..=34 => vec![read_damaged(dice)],
-        35..=37 => read_in_short_rooms(dice),
-        38..=42 => update_run(dice, 8),
+        8..=27 => vec![read_damaged(dice)],
+        28..=97 => vec![read_damaged_deep(dice)],
+        98..=100 => read_in_short_rooms(dice),
+        101..=105 => update_run(dice, 8),
         _ => in_force_run(dice, 4),
     }
 }
@@ -52,6 +53,14 @@ pub fn read_damaged(dice: &mut Dice) -> Line {
     let kind = *dice.pick(&Kind::ALL);
     let flight = Flight::any(dice);
     ask("R", &damaged(dice, kind, &flight))
+}
+
+/// Reading a message that is damaged deep in one field, mostly of a type with many forms.
+pub fn read_damaged_deep(dice: &mut Dice) -> Line {
+    use Kind::*;
+    let kind = *dice.pick(&[Fpl, Fpl, Fpl, Fpl, Fpl, Fpl, Chg, Chg, Chg, Spl, Spl, Arr, Arr, Cnl, Dla, Dep, Rqp, Rqs]);
+    let flight = Flight::any(dice);
+    ask("R", &damaged_deep(dice, kind, &flight))
 }
 
 /// Reading a message into its spelling's length, one byte less, and some other room.
