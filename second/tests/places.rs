@@ -155,6 +155,7 @@ const GENERATED: usize = 150;
 #[test]
 fn the_definition() {
     let mut dice = Dice::new(7);
+    let mut total = 0;
     for (form, contents) in FORMS {
         let asked =
             Asked { fits: &|content| field_fits(form, content), misfit: &|content| field_misfit(form, content) };
@@ -163,9 +164,12 @@ fn the_definition() {
         let short = generated(form, 40 * DAMAGED, &mut dice).into_iter();
         let fitting = short.filter(|content| field_fits(form, content) && content.len() < 60).take(DAMAGED);
         all.extend(fitting.collect::<Vec<_>>().iter().flat_map(|content| damaged(content, &mut dice)));
+        all.extend((0..3).flat_map(|_| contents).flat_map(|content| damaged(content.as_bytes(), &mut dice)));
         let misfits = asked.check(&all, &endings);
         println!("{form}: {misfits} of {} contents do not fit, {} endings", all.len(), endings.len());
+        total += misfits;
     }
+    assert!(total > 8000, "{total}");
 }
 
 const BEFORE_ENTRY: &[u8] = b"(CHG-AB-EHAM0930-EDDF-0-";

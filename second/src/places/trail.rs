@@ -8,7 +8,6 @@ use crate::alphabet::is_white;
 /// farthest place.
 pub struct Trail<'a> {
     sent: &'a [u8],
-    start: usize,
     at: usize,
     farthest: usize,
 }
@@ -16,7 +15,7 @@ pub struct Trail<'a> {
 impl<'a> Trail<'a> {
     /// The field that begins at this place of the message as sent.
     pub fn of(sent: &'a [u8], start: usize) -> Self {
-        Trail { sent, start, at: start, farthest: start }
+        Trail { sent, at: start, farthest: start }
     }
 
     /// The farthest place that any way came to.
@@ -26,13 +25,14 @@ impl<'a> Trail<'a> {
 
     /// The next byte, where a run of white space is one space; `None` at the field's end.
     ///
-    /// A run before the closing `-` or `)` is none of the field, unless the field begins with it.
+    /// A run before the closing `-` or `)` is none of the field. One that the field begins with is, but since no field begins with a space
+    /// and none is empty, nothing goes on there either way.
     fn next(&self) -> Option<u8> {
         let run = self.run();
         match self.sent.get(self.at + run) {
-            None | Some(b'-' | b')') if run == 0 || self.at > self.start => None,
+            None | Some(b'-' | b')') => None,
             Some(byte) if run == 0 => Some(*byte),
-            _ => Some(b' '),
+            Some(_) => Some(b' '),
         }
     }
 
