@@ -8,7 +8,7 @@ use second::{field_fits, field_misfit, read, Refusal, LONGEST};
 
 type Bytes = Vec<u8>;
 
-/// For each form, contents whose tails complete a content that was cut anywhere, and how many of the shortest strings are tried beside them.
+/// For each form, contents whose tails complete a content that was cut anywhere.
 const FORMS: [(&str, &[&str]); 13] = [
     (
         "3",
