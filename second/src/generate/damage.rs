@@ -263,22 +263,15 @@ fn is_four_letters_at(field: &[u8], place: usize) -> bool {
     opens && field.get(place..place + 4).is_some_and(|four| four.iter().all(u8::is_ascii_uppercase))
 }
 
-#[cfg(test)]
-mod tests {
-    use super::{lengthen, Dice};
-    use crate::generate::drafts::plain;
-
-    #[test]
-    fn a_lengthened_message_has_its_length() {
-        let mut dice = Dice::new(1);
-        for last in ["0", "RMK/A REMARK OF SOME LENGTH", ""] {
-            for least in [0, 60, 61, 62, 63, 1740, 1801] {
-                let mut draft =
-                    ["CNL", "ABC12", "EHAM0930", "EDDF", last].map(|field| field.as_bytes().to_vec()).to_vec();
-                lengthen(&mut dice, &mut draft, least);
-                let length = plain(&draft).len();
-                assert!(least <= length && length < least.max(52) + 18, "{last} {least}: {length}");
-            }
+#[test]
+fn a_lengthened_message_has_its_length() {
+    let mut dice = Dice::new(1);
+    for last in ["0", "RMK/A REMARK OF SOME LENGTH", ""] {
+        for least in [0, 60, 61, 62, 63, 1740, 1801] {
+            let mut draft = ["CNL", "ABC12", "EHAM0930", "EDDF", last].map(|field| field.as_bytes().to_vec()).to_vec();
+            lengthen(&mut dice, &mut draft, least);
+            let length = super::drafts::plain(&draft).len();
+            assert!(least <= length && length < least.max(52) + 18, "{last} {least}: {length}");
         }
     }
 }
