@@ -5,6 +5,7 @@
 //! an accepted message spelled as it stands, and `{3*AB}` is AB three times. `#` begins a remark.
 //! The lines of `contents.txt` have no answer.
 
+use crate::generate::neighbours;
 use crate::generate::probes::probes;
 use crate::generate::questions::{
     content_alone, in_force_run, read_damaged, read_in_short_rooms, read_valid, update_run, Line,
@@ -23,11 +24,12 @@ pub struct Listed {
 }
 
 /// The lists of questions. The first begins before any strip is held.
-const QUESTIONS: [&str; 6] = [
+const QUESTIONS: [&str; 7] = [
     include_str!("../data/bad-strips.txt"),
     include_str!("../data/document-01.txt"),
     include_str!("../data/document-01-further.txt"),
     include_str!("../data/decided.txt"),
+    include_str!("../data/document-02-places.txt"),
     include_str!("../data/printed-messages.txt"),
     include_str!("../data/lines.txt"),
 ];
@@ -40,22 +42,22 @@ const ALONE: &str = include_str!("../data/content-lines.txt");
 /// Further contents, each behind the name of its form and with no answer.
 const FURTHER: &str = include_str!("../data/contents.txt");
 
-/// For each form of a content: what stands before and behind it in a message, and the answer if it does not fit.
+/// For each form of a content: what stands before and behind it in a message, and the answer but for its place if it does not fit.
 const CARRIERS: [(&str, &str, &str, &str); 14] = [
-    ("7", "(CNL-", "-EHAM0930-EDDF-0)", "NO 7 7 4"),
-    ("8", "(CHG-ABC12-EHAM0930-EDDF-0-8/", ")", "NO 7 22 26"),
-    ("9", "(CHG-ABC12-EHAM0930-EDDF-0-9/", ")", "NO 7 22 26"),
-    ("10", "(CHG-ABC12-EHAM0930-EDDF-0-10/", ")", "NO 7 22 26"),
-    ("13", "(CNL-ABC12-", "-EDDF-0)", "NO 7 13 10"),
-    ("13open", "(RQP-ABC12-", "-EDDF-0)", "NO 7 13 10"),
-    ("15", "(CHG-ABC12-EHAM0930-EDDF-0-15/", ")", "NO 7 22 26"),
-    ("route", "(CHG-ABC12-EHAM0930-EDDF-0-15/N0440F310 ", ")", "NO 7 22 26"),
-    ("speed", "(CHG-ABC12-EHAM0930-EDDF-0-15/", "F310 DCT)", "NO 7 22 26"),
-    ("level", "(CHG-ABC12-EHAM0930-EDDF-0-15/N0440", " DCT)", "NO 7 22 26"),
-    ("16plan", "(SPL-ABC12-EHAM0930-", "-0-P/1)", "NO 7 16 19"),
-    ("17", "(ARR-ABC12-EHAM0930-EDDF-", ")", "NO 7 17 24"),
-    ("18", "(CNL-ABC12-EHAM0930-EDDF-", ")", "NO 7 18 24"),
-    ("19", "(SPL-ABC12-EHAM0930-EDDF0100-0-", ")", "NO 7 19 30"),
+    ("7", "(CNL-", "-EHAM0930-EDDF-0)", "NO 7 7"),
+    ("8", "(CHG-ABC12-EHAM0930-EDDF-0-8/", ")", "NO 7 22"),
+    ("9", "(CHG-ABC12-EHAM0930-EDDF-0-9/", ")", "NO 7 22"),
+    ("10", "(CHG-ABC12-EHAM0930-EDDF-0-10/", ")", "NO 7 22"),
+    ("13", "(CNL-ABC12-", "-EDDF-0)", "NO 7 13"),
+    ("13open", "(RQP-ABC12-", "-EDDF-0)", "NO 7 13"),
+    ("15", "(CHG-ABC12-EHAM0930-EDDF-0-15/", ")", "NO 7 22"),
+    ("route", "(CHG-ABC12-EHAM0930-EDDF-0-15/N0440F310 ", ")", "NO 7 22"),
+    ("speed", "(CHG-ABC12-EHAM0930-EDDF-0-15/", "F310 DCT)", "NO 7 22"),
+    ("level", "(CHG-ABC12-EHAM0930-EDDF-0-15/N0440", " DCT)", "NO 7 22"),
+    ("16plan", "(SPL-ABC12-EHAM0930-", "-0-P/1)", "NO 7 16"),
+    ("17", "(ARR-ABC12-EHAM0930-EDDF-", ")", "NO 7 17"),
+    ("18", "(CNL-ABC12-EHAM0930-EDDF-", ")", "NO 7 18"),
+    ("19", "(SPL-ABC12-EHAM0930-EDDF0100-0-", ")", "NO 7 19"),
 ];
 
 /// All the lists, in the order in which they are asked.
@@ -122,14 +124,19 @@ fn block(block: &str) -> Vec<Listed> {
     let carried = contents.lines().map(|content| format!("{before}{content}{behind}"));
     match verdict {
         "fits" => carried.map(|message| accepted(&message)).collect(),
-        "no" => {
-            carried.map(|message| Listed { question: format!("R {message}"), answer: refused.to_string() }).collect()
-        }
+        "no" => carried.map(|message| refused_at_mark(&message, refused)).collect(),
         _ => panic!("no verdict: {head}"),
     }
 }
 
-/// Generated questions, the same each time: valid messages of each type, damaged ones, short rooms, runs of updates, fields in force.
+/// A message that is refused at the byte behind the mark `^`.
+fn refused_at_mark(message: &str, refused: &str) -> Listed {
+    let (before, behind) = message.split_once('^').expect("a mark before the byte at which the content goes wrong");
+    Listed { question: format!("R {before}{behind}"), answer: format!("{refused} {}", before.len()) }
+}
+
+/// Generated questions, the same each time: valid messages of each type, damaged ones, short rooms, runs of updates, fields in force,
+/// and all messages that differ by little from some valid ones.
 fn generated() -> Vec<Line> {
     let mut dice = Dice::new(2012);
     let mut lines = Vec::new();
@@ -140,6 +147,7 @@ fn generated() -> Vec<Line> {
     lines.extend((0..200).flat_map(|_| read_in_short_rooms(&mut dice)));
     lines.extend((0..500).flat_map(|_| update_run(&mut dice, 10)));
     lines.extend((0..200).flat_map(|_| in_force_run(&mut dice, 10)));
+    lines.extend(neighbours::questions());
     lines
 }
 

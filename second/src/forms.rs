@@ -190,7 +190,8 @@ fn equipment_side(side: &[u8], most: usize, known: fn(u8, u8) -> bool) -> bool {
     side == b"N" || (side.len() <= most && codes(side, known).is_some())
 }
 
-fn is_left_code(letter: u8, digit: u8) -> bool {
+/// Left of the oblique; the digit 0 stands for none.
+pub fn is_left_code(letter: u8, digit: u8) -> bool {
     match letter {
         b'E' | b'M' => matches!(digit, 1..=3),
         b'J' => matches!(digit, 1..=7),
@@ -200,7 +201,8 @@ fn is_left_code(letter: u8, digit: u8) -> bool {
     }
 }
 
-fn is_right_code(letter: u8, digit: u8) -> bool {
+/// Right of the oblique; the digit 0 stands for none.
+pub fn is_right_code(letter: u8, digit: u8) -> bool {
     match letter {
         b'B' | b'U' | b'V' => matches!(digit, 1 | 2),
         b'D' | b'G' => digit == 1,

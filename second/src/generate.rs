@@ -4,6 +4,7 @@ mod contents;
 mod damage;
 mod dice;
 mod drafts;
+pub mod neighbours;
 pub mod probes;
 pub mod questions;
 
@@ -43,9 +44,9 @@ fn offered(dice: &mut Dice, kind: Kind, flight: &Flight) -> Vec<u8> {
     damaged(dice, kind, flight)
 }
 
-/// Damaged while it is made, before it is written out or as written; now and then valid all the same.
+/// Damaged while it is made, before it is written out, as written, or mostly deep in one field; now and then valid all the same.
 fn damaged(dice: &mut Dice, kind: Kind, flight: &Flight) -> Vec<u8> {
-    match dice.below(5) {
+    match dice.below(8) {
         0 | 1 => {
             let percent = *dice.pick(&[1, 3, 8, 15]);
             let draft = dice.wildly(percent, |dice| contents::draft(dice, kind, flight));
@@ -56,13 +57,21 @@ fn damaged(dice: &mut Dice, kind: Kind, flight: &Flight) -> Vec<u8> {
             damage::draft(dice, &mut draft);
             drafts::write(dice, &draft)
         }
-        _ => {
+        4 => {
             let draft = contents::draft(dice, kind, flight);
             let mut written = drafts::write(dice, &draft);
             damage::bytes(dice, &mut written);
             written
         }
+        _ => damaged_deep(dice, kind, flight),
     }
+}
+
+/// Damaged deep in one field.
+fn damaged_deep(dice: &mut Dice, kind: Kind, flight: &Flight) -> Vec<u8> {
+    let mut draft = contents::draft(dice, kind, flight);
+    damage::deep(dice, &mut draft);
+    drafts::write(dice, &draft)
 }
 
 /// The name of a form and a content for it: valid, damaged while it is made, or damaged afterwards.

@@ -53,6 +53,9 @@ impl Kind {
 }
 
 /// The seven standard types that are not read.
+pub const UNREAD: [&str; 7] = ["ALR", "RCF", "CPL", "EST", "CDN", "ACP", "LAM"];
+
+/// Whether a type is one of these seven.
 pub fn is_unread(name: &[u8]) -> bool {
-    matches!(name, b"ALR" | b"RCF" | b"CPL" | b"EST" | b"CDN" | b"ACP" | b"LAM")
+    UNREAD.iter().any(|unread| unread.as_bytes() == name)
 }

@@ -7,6 +7,7 @@ use crate::explained::unexplained;
 use crate::forms::Form;
 use crate::kind::{is_unread, Kind};
 use crate::outline::{counts, form_at};
+use crate::places::misfit;
 use crate::refusal::Refusal;
 use crate::words::Words;
 
@@ -123,17 +124,27 @@ impl Reading {
     }
 }
 
-/// Takes one field with the `(` or `-` before it: numbers 7, 8 and 9.
+/// Takes one field with the `(` or `-` before it: numbers 7, 8 and 9. The place of 8 and 9 is the `-`, that of 7 in the field.
 fn take_field(form: Form, before: &[Field], words: &mut Words) -> Result<Field, Refusal> {
-    let place = words.place();
-    let refused = |number| Refusal::new(number, form.number(), place);
+    let (sent, place) = (words.sent(), words.place());
     words.step_over(if form == Form::F3 { b'(' } else { b'-' });
-    let content_form = if form == Form::F22 { take_entry_number(before, words).map_err(refused)? } else { form };
+    let (number, content) = take_content(form, before, words).map_err(|number| {
+        let place = if number == 7 { place_of_misfit(form, sent, place + 1) } else { place };
+        Refusal::new(number, form.number(), place)
+    })?;
+    Ok(Field { number, place, content })
+}
+
+/// The field's number, or that of the field that an entry names, and where its content is spelled; else 7, 8 or 9.
+fn take_content(form: Form, before: &[Field], words: &mut Words) -> Result<(u32, Range<usize>), u8> {
+    let content_form = if form == Form::F22 { take_entry_number(before, words)? } else { form };
     let start = words.spelled();
-    if !content_form.take(words) {
-        return Err(refused(7));
-    }
-    Ok(Field { number: content_form.number(), place, content: start..words.spelled() })
+    let fits = content_form.take(words);
+    fits.then(|| (content_form.number(), start..words.spelled())).ok_or(7)
+}
+
+fn place_of_misfit(form: Form, sent: &[u8], start: usize) -> usize {
+    misfit(form, sent, start).expect("a field that does not fit goes wrong somewhere")
 }
 
 /// The form that an entry's number asks for; else 7 (no readable number), 8 or 9.

@@ -47,7 +47,8 @@ fn begins(rank: &mut Option<usize>, key: &[u8]) -> bool {
     in_order
 }
 
-fn is_one_word(key: &[u8]) -> bool {
+/// The keys that have a single word.
+pub fn is_one_word(key: &[u8]) -> bool {
     matches!(key, b"PBN" | b"DOF" | b"SEL" | b"CODE")
 }
 
@@ -64,7 +65,8 @@ fn fits_key(key: &[u8], word: &[u8]) -> bool {
     }
 }
 
-fn is_pbn_code(letter: u8, digit: u8) -> bool {
+/// A code of PBN.
+pub fn is_pbn_code(letter: u8, digit: u8) -> bool {
     match letter {
         b'A' | b'L' => digit == 1,
         b'B' => matches!(digit, 1..=6),
@@ -78,14 +80,18 @@ fn is_pbn_code(letter: u8, digit: u8) -> bool {
 fn is_date(word: &[u8]) -> bool {
     let part = |from: usize| word.get(from..from + 2).and_then(number);
     let (Some(year), Some(month), Some(day)) = (part(0), part(2), part(4)) else { return false };
-    let days = match month {
-        2 if year % 4 == 0 => 29,
+    word.len() == 6 && (1..=days_of(year, month)).contains(&day)
+}
+
+/// The days of a month; none if there is no such month.
+pub fn days_of(year: u16, month: u16) -> u16 {
+    match month {
+        2 if year.is_multiple_of(4) => 29,
         2 => 28,
         4 | 6 | 9 | 11 => 30,
         1..=12 => 31,
         _ => 0,
-    };
-    word.len() == 6 && (1..=days).contains(&day)
+    }
 }
 
 /// 6 to 15 signs, the last four an elapsed time.

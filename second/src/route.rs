@@ -37,7 +37,8 @@ fn is_climb(climb: &[u8]) -> bool {
     is_point(point) && upper.is_some_and(|upper| upper == b"PLUS" || is_level(upper))
 }
 
-fn is_indicator(word: &[u8]) -> bool {
+/// DCT, VFR and IFR are no names.
+pub fn is_indicator(word: &[u8]) -> bool {
     matches!(word, b"DCT" | b"VFR" | b"IFR")
 }
 

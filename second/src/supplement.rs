@@ -4,7 +4,7 @@ use crate::alphabet::{at_oblique, is_digit, is_letter, is_text_word, minutes, so
 use crate::words::Words;
 
 /// The items in their order.
-const ITEMS: &[u8] = b"EPRSJDANC";
+pub const ITEMS: &[u8] = b"EPRSJDANC";
 
 /// One or more items, each at most once, in order.
 pub fn supplement(words: &mut Words) -> bool {

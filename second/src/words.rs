@@ -20,6 +20,11 @@ impl<'a> Words<'a> {
         Words { sent, place: 0, fresh: true, joined: true, spelling }
     }
 
+    /// The message as sent.
+    pub fn sent(&self) -> &'a [u8] {
+        self.sent
+    }
+
     /// The place in the message as sent.
     pub fn place(&self) -> usize {
         self.place

@@ -59,5 +59,8 @@ fn what_was_never_met_is_said() {
         assert!(tally.contains(part), "{part}: {tally}");
     }
     let never = tally.lines().last().expect("a last line");
-    assert!(never.contains("OK CHG,") && never.contains("NO 17,") && never.ends_with(", NO") && !never.contains("NO 7,"), "{never}");
+    assert!(
+        never.contains("OK CHG,") && never.contains("NO 17,") && never.ends_with(", NO") && !never.contains("NO 7,"),
+        "{never}"
+    );
 }

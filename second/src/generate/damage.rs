@@ -81,15 +81,72 @@ pub fn content(dice: &mut Dice, content: &mut Vec<u8>) {
     }
 }
 
+/// Damages one field deep in its form, a long one more often: the type stays, and an entry's number mostly.
+pub fn deep(dice: &mut Dice, draft: &mut Draft) {
+    let position = if dice.chance(30) { dice.below(draft.len()) } else { position_of_some_byte(dice, draft) };
+    let has_entries = draft.first().is_some_and(|three| three.starts_with(b"CHG"));
+    let Some(field) = draft.get_mut(position) else { return };
+    let head = match position {
+        0 => 3,
+        5.. if has_entries && dice.chance(80) => field.iter().position(|&b| b == b'/').map_or(0, |oblique| oblique + 1),
+        _ => 0,
+    };
+    let mut form = field.split_off(head.min(field.len()));
+    for _ in 0..dice.from_to(1, 1 + form.len() / 40) {
+        one_byte(dice, &mut form);
+    }
+    field.extend(form);
+}
+
+/// The position of the field that holds one of all bytes.
+fn position_of_some_byte(dice: &mut Dice, draft: &Draft) -> usize {
+    let mut byte = dice.below(draft.iter().map(Vec::len).sum());
+    let holds = |field: &Vec<u8>| {
+        let holds = byte < field.len();
+        byte = byte.saturating_sub(field.len());
+        holds
+    };
+    draft.iter().position(holds).unwrap_or(0)
+}
+
+/// One byte changed to another of its sort or to any, exchanged with the next, dropped or doubled; white space put in; or the rest cut off.
+fn one_byte(dice: &mut Dice, content: &mut Vec<u8>) {
+    let place = dice.below(content.len());
+    let Some(&byte) = content.get(place) else {
+        content.push(*dice.pick(PUT_IN));
+        return;
+    };
+    let next = (place + 1).min(content.len() - 1);
+    match dice.below(9) {
+        0..=2 => content[place] = *dice.pick(same_sort(byte)),
+        3 => content[place] = *dice.pick(PUT_IN),
+        4 => content.swap(place, next),
+        5 => drop(content.remove(place)),
+        6 => content.insert(place, byte),
+        7 => drop(content.splice(place..place, dice.pick(&[" ", "  ", "\r\n", " \n "]).bytes())),
+        _ => content.truncate(place),
+    }
+}
+
+/// Bytes that a byte may be mistaken for.
+fn same_sort(byte: u8) -> &'static [u8] {
+    match byte {
+        b'0'..=b'9' => b"0123456789",
+        b'A'..=b'Z' => b"ABCDEFGHIJKLMNOPQRSTUVWXYZ",
+        _ => b" /.,?+",
+    }
+}
+
 /// Makes a draft so long that the message written has at least so many bytes.
 pub fn lengthen(dice: &mut Dice, draft: &mut Draft, least: usize) {
-    let length: usize = draft.iter().map(|field| field.len() + 1).sum();
     let word = *dice.pick(&[" LONG", " REMARK", " NO OBLIQUE IN IT"]);
-    let Some(last) = draft.last_mut() else { return };
+    let Some((last, others)) = draft.split_last_mut() else { return };
     if last == b"0" {
         last.splice(.., *b"RMK/X");
     }
-    while last.len() + length < least {
+    // One byte stands before each field, and `)` behind the last.
+    let before: usize = others.iter().map(|field| 1 + field.len()).sum();
+    while before + 1 + last.len() + 1 < least {
         last.extend(word.bytes());
     }
 }
@@ -204,4 +261,17 @@ fn unname(dice: &mut Dice, draft: &mut Draft) {
 fn is_four_letters_at(field: &[u8], place: usize) -> bool {
     let opens = place == 0 || field[place - 1] == b' ';
     opens && field.get(place..place + 4).is_some_and(|four| four.iter().all(u8::is_ascii_uppercase))
+}
+
+#[test]
+fn a_lengthened_message_has_its_length() {
+    let mut dice = Dice::new(1);
+    for last in ["0", "RMK/A REMARK OF SOME LENGTH", ""] {
+        for least in [0, 60, 61, 62, 63, 1740, 1801] {
+            let mut draft = ["CNL", "ABC12", "EHAM0930", "EDDF", last].map(|field| field.as_bytes().to_vec()).to_vec();
+            lengthen(&mut dice, &mut draft, least);
+            let length = super::drafts::plain(&draft).len();
+            assert!(least <= length && length < least.max(52) + 18, "{last} {least}: {length}");
+        }
+    }
 }

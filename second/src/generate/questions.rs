@@ -4,7 +4,7 @@ use std::collections::VecDeque;
 
 use super::contents::Flight;
 use super::dice::Dice;
-use super::{contents, damaged, drafts, form_and_content, long_change, long_plan, offered, valid};
+use super::{contents, damaged, damaged_deep, drafts, form_and_content, long_change, long_plan, offered, valid};
 use crate::escapes::escaped;
 use crate::kind::Kind;
 use crate::message::{read, LONGEST};
@@ -30,15 +30,16 @@ impl Questions {
 }
 
 fn some_questions(dice: &mut Dice) -> Vec<Line> {
-    match dice.below(52) {
-        0..=19 => {
+    match dice.below(121) {
+        0..=7 => {
             let kind = *dice.pick(&Kind::ALL);
             vec![read_valid(dice, kind)]
         }
-        20..=34 => vec![read_damaged(dice)],
-        35..=37 => read_in_short_rooms(dice),
-        38..=42 => update_run(dice, 8),
-        43..=45 => in_force_run(dice, 4),
+        8..=27 => vec![read_damaged(dice)],
+        28..=97 => vec![read_damaged_deep(dice)],
+        98..=100 => read_in_short_rooms(dice),
+        101..=105 => update_run(dice, 8),
+        106..=108 => in_force_run(dice, 4),
         _ => vec![content_alone(dice)],
     }
 }
@@ -59,6 +60,14 @@ pub fn read_damaged(dice: &mut Dice) -> Line {
 pub fn content_alone(dice: &mut Dice) -> Line {
     let (form, content) = form_and_content(dice);
     ask(&format!("C {form}"), &content)
+}
+
+/// Reading a message that is damaged deep in one field, mostly of a type with many forms.
+pub fn read_damaged_deep(dice: &mut Dice) -> Line {
+    use Kind::*;
+    let kind = *dice.pick(&[Fpl, Fpl, Fpl, Fpl, Fpl, Fpl, Chg, Chg, Chg, Spl, Spl, Arr, Arr, Cnl, Dla, Dep, Rqp, Rqs]);
+    let flight = Flight::any(dice);
+    ask("R", &damaged_deep(dice, kind, &flight))
 }
 
 /// Reading a message into its spelling's length, one byte less, and some other room.
