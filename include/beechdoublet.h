@@ -51,7 +51,8 @@ extern "C" {
 
 /*
  * Every answer begins with number, field and place. The number is 0 where the message was accepted (or the field was found), and then field and
- * place are 0 too; otherwise it says why not (1 to 17, document 01's numbers), and what follows the place is 0.
+ * place are 0 too; otherwise it says why not (1 to 17, document 01's numbers), and what follows the place is 0. The place of a 7 is that of the
+ * first byte, counted from 0, at which no field that fits could go on, or of the one just behind a field that stops too soon.
  */
 
 /* The answer to reading. */
