@@ -2,7 +2,7 @@
 
 mod common;
 
-use common::{line, list};
+use common::{line, list, marked};
 use second::{read, Kind, Refusal};
 
 #[test]
@@ -22,6 +22,16 @@ fn pieces_of_the_listing() {
     assert_eq!(list(b"(CNL-ABC12\n(CNL-ABC12-EHAM0930-EDDF-0)"), "NO 2 0 11\n");
     let stops = b"(CNL-ABC12-EHAM0930-EDDF-0).\n(CNL-ABC12-EHAM0930-EDDF-0)";
     assert_eq!(list(stops), "OK CNL (CNL-ABC12-EHAM0930-EDDF-0)\nNO 2 0 0\n");
+}
+
+#[test]
+fn marks() {
+    let delay = "(DLA-ABC12-EHAM2460-EDDF-0)";
+    assert_eq!(marked(delay.as_bytes()), format!("NO 7 13 16\n{delay}\n                ^\n"));
+    assert_eq!(marked(b"(CNL-ABC12-EHAM0930-EDDF-0)"), "OK CNL (CNL-ABC12-EHAM0930-EDDF-0)\n");
+    assert_eq!(marked(b"(CNL\r\n-ABC12\r\n-EHAM\r\n-EDDF-0)"), "NO 7 13 19\n-EHAM\n     ^\n");
+    assert_eq!(marked(b"(CNL-ABC12\n"), "NO 2 0 11\n\n^\n");
+    assert_eq!(marked(b"(CNL\t-AB\x00\xff\x7f)"), "NO 3 0 4\n(CNL -AB???)\n    ^\n");
 }
 
 #[test]

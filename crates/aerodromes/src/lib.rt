@@ -11,7 +11,7 @@ ghost use Rattle.aerodromes.specs.Field17.{fits17};
 ghost use Rattle.aerodromes.specs.Asked.{clockAt, hasAlternate, aerodromeIn, isLetters};
 
 // Whether w is four letters.
-fn four_letters(w: &[u8]) -> bool
+pub fn four_letters(w: &[u8]) -> bool
     ensures { λ r. ⌜ r ≡ fourLetters (now (w .entry)) ⌝ }
 {
     if w.len() != 4 {
@@ -21,7 +21,7 @@ fn four_letters(w: &[u8]) -> bool
 }
 
 // Whether w is an aerodrome joined to a time of day.
-fn at_clock(w: &[u8]) -> bool
+pub fn at_clock(w: &[u8]) -> bool
     ensures { λ r. ⌜ r ≡ timed clockHours (now (w .entry)) ⌝ }
 {
     if w.len() < 4 {
@@ -34,7 +34,7 @@ fn at_clock(w: &[u8]) -> bool
 }
 
 // Whether w is an aerodrome joined to an elapsed time.
-fn at_elapsed(w: &[u8]) -> bool
+pub fn at_elapsed(w: &[u8]) -> bool
     ensures { λ r. ⌜ r ≡ timed elapsedHours (now (w .entry)) ⌝ }
 {
     if w.len() < 4 {

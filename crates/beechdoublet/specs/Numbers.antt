@@ -68,7 +68,7 @@ askedWhole asked (InChange from to) = InChange from to
 askedWhole asked (NotShown number field place) = NotShown number (fieldTold asked number field) place
 
 -- EXAMPLES, computed: the three messages of the listing (27 bytes accepted as a CNL; 7 in field 13 at 10; 5 in field 3 at 0), and an update
-listed : (readNumbers (ReadAs Cnl 27) ≡ 0 ∷ 0 ∷ 0 ∷ 3 ∷ 27 ∷ []) × (readNumbers (NotRead 7 13 10) ≡ 7 ∷ 13 ∷ 10 ∷ 0 ∷ 0 ∷ [])
+listed : (readNumbers (ReadAs Cnl 27) ≡ 0 ∷ 0 ∷ 0 ∷ 3 ∷ 27 ∷ []) × (readNumbers (NotRead 7 13 16) ≡ 7 ∷ 13 ∷ 16 ∷ 0 ∷ 0 ∷ [])
     × (readNumbers (NotRead 5 3 0) ≡ 5 ∷ 3 ∷ 0 ∷ 0 ∷ 0 ∷ [])
 listed = (refl, refl, refl)
 

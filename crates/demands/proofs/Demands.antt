@@ -25,6 +25,7 @@ use Rattle.history.specs.Demand3.{updater, Meets as Meets3}
 use Rattle.history.proofs.Demand3.{demand3 as of-history}
 use Rattle.demands.specs.Demands.{Reader, Reads, Demand1, accepted, refused, IsRecord, Fits, Spelled, spellingIn, Demand2, Passes, NotPassing}
 use Rattle.demands.proofs.Places.{refused-place}
+use Rattle.demands.proofs.Pointed.{refused-points}
 
 -- DEMAND 1
 
@@ -41,6 +42,7 @@ demand1 m out a after r = go (answered a)
           least = k .0;
           greatest = k .1;
           inside = refused-place m (length out) number field place q;
+          points = refused-points m (length out) number field place q;
           stays = r .output-is ∙ refused-leaves m out number field place q;
         })
 

@@ -1,4 +1,5 @@
 pub mod Examples
 pub mod Places
+pub mod Pointed
 pub mod Demands
 pub mod Determined

@@ -1,15 +1,16 @@
 -- The place of a refusal is one in the message, or its end. Assumes nothing.
 use Prim.Native.Nat.{ℕ, zero, suc, _+_, _-_, _≤_}
 use mathlib.Core.Path.{_≡_, refl, subst}
-use mathlib.Core.Bool.{Bool, true, false, cond}
+use mathlib.Core.Bool.{Bool, true, false, _&&_, cond}
 use mathlib.Core.List.{List, [], _∷_}
 use native.Mathlib.Omega.{arith}
 use borrow.Author.Tests.{ltb-true}
 use lib.Dec.{eqb, ltb}
-use lib.ListN.{length}
-use Rattle.alphabet.specs.Alphabet.{inAlphabet}
+use lib.ListN.{length, drop, length-drop}
+use Rattle.alphabet.specs.Alphabet.{inAlphabet, white}
 use Rattle.text.specs.Words.{upTo}
 use Rattle.space.specs.Hyphens.{upToHyphen, placeOfHyphen}
+use Rattle.space.specs.Places.{sentFrom, pastLead, sentPlace}
 use Rattle.sent.specs.Sent.{contents}
 use Rattle.outer.specs.declared.Outer.{Outer}
 use Rattle.outer.specs.declared.Outer.the-variants.{Good, Bad}
@@ -17,12 +18,13 @@ use Rattle.outer.specs.Outer.{closing, parensFrom, parens, lettersFrom, orElse,
 use Rattle.kinds.specs.declared.MessageType.{MessageType}
 use Rattle.kinds.specs.declared.Named.{Named}
 use Rattle.kinds.specs.declared.Named.the-variants.{Read, NotRead, NoType}
-use Rattle.kinds.specs.Kinds.{leastOf, greatestOf, typeNamed}
+use Rattle.kinds.specs.Kinds.{leastOf, greatestOf, formAt, typeNamed}
+use Rattle.form_places.specs.Places.{placeIn}
 use Rattle.message.specs.declared.Fault.{Fault}
 use Rattle.message.specs.declared.Fault.the-variants.{Clear, At}
 use Rattle.message.specs.declared.Answer.{Answer}
 use Rattle.message.specs.declared.Answer.the-variants.{Accepted, Refused}
-use Rattle.message.specs.Reading.{countOf, spellingOf, faultIn, isPlan, unexplainedIn, placeInPlan}
+use Rattle.message.specs.Reading.{countOf, contentOf, spellingOf, faultIn, placeOf7, isPlan, unexplainedIn, placeInPlan}
 use Rattle.message.specs.Reading.{roomAs, explainedAs, faultAs, countAs, typeAs, three, outerAs, answerOf}
 
 -- HYPHENS
@@ -45,6 +47,30 @@ hyphen-inside : (j : ℕ) (m : List ℕ) → placeOfHyphen j m ≤ length m
 unfolding placeOfHyphen
 hyphen-inside zero m = omega arith
 hyphen-inside (suc n) m = hyphen-from n m
+
+-- A PLACE IN A FIELD, as sent
+
+from-inside : (r : Bool) (n : ℕ) (s : List ℕ) → sentFrom r n s ≤ length s
+unfolding sentFrom
+from-inside r n [] = omega arith
+from-inside r zero (b ∷ s) = go (r && white b) (from-inside true zero s)
+  where
+    go : (x : Bool) → sentFrom true zero s ≤ length s → cond x (suc (sentFrom true zero s)) 0 ≤ suc (length s)
+    go true h = omega arith
+    go false h = omega arith
+from-inside r (suc n) (b ∷ s) = let h = from-inside (white b) (cond (r && white b) (suc n) n) s in omega arith
+
+lead-inside : (n : ℕ) (s : List ℕ) → pastLead n s ≤ length s
+lead-inside n [] = omega arith
+lead-inside n (b ∷ s) = let h = from-inside false n s in omega arith
+
+sent-inside : (j n : ℕ) (m : List ℕ) → sentPlace j n m ≤ length m
+unfolding sentPlace
+sent-inside j n m =
+    let h = hyphen-inside j m in
+    let l = lead-inside n (drop (placeOfHyphen j m) m) in
+    let d : length (drop (placeOfHyphen j m) m) ≡ length m - placeOfHyphen j m = length-drop (placeOfHyphen j m) m in
+    omega arith
 
 -- NUMBERS 1 TO 3
 
@@ -120,8 +146,12 @@ fields-inside : (f : Fault) (t : MessageType) (m : List ℕ) (room : ℕ) → In
 fields-inside Clear t m room = explained-inside (cond (isPlan t) (unexplainedIn (contents m)) 0) t m room
 fields-inside (At number j) t m room = go (eqb number 7)
   where
-    go : (b : Bool) → cond b (placeOfHyphen j m) (placeOfHyphen j m) ≤ length m
-    go true = hyphen-inside j m
+    pointed : placeOf7 t j m ≤ length m
+    unfolding placeOf7
+    pointed = sent-inside j (placeIn (formAt t (countOf m) j) (contentOf j m)) m
+
+    go : (b : Bool) → cond b (placeOf7 t j m) (placeOfHyphen j m) ≤ length m
+    go true = pointed
     go false = hyphen-inside j m
 
 count-inside : (t : MessageType) (m : List ℕ) (room : ℕ) → Inside (length m) (countAs t m room)

@@ -6,10 +6,15 @@ use mathlib.Core.Bool.{true, false}
 use mathlib.Core.List.{List, []}
 use lib.ListN.{length, take}
 use Rattle.text.specs.Lent.{front}
+use Rattle.places.specs.Place.{IsPlace}
+use Rattle.space.specs.Places.{sentPlace}
 use Rattle.kinds.specs.declared.MessageType.{MessageType}
+use Rattle.kinds.specs.declared.Named.the-variants.{Read}
+use Rattle.kinds.specs.Kinds.{formAt, numberOf, typeNamed}
+use Rattle.forms.specs.Forms.{fieldOf}
 use Rattle.message.specs.declared.Answer.{Answer}
 use Rattle.message.specs.declared.Answer.the-variants.{Accepted, Refused}
-use Rattle.message.specs.Reading.{answerOf, outAfter}
+use Rattle.message.specs.Reading.{countOf, contentOf, three, answerOf, outAfter}
 use Rattle.message.specs.Message.{Message, canonicalMessage, spelling, validMessage, SentAs, accepts, Meets, Writes}
 
 -- A READER, by the results that it may give: for the bytes m and the output `out`, an answer and the output `after`
@@ -25,16 +30,29 @@ pub record Reads (m out : List ℕ) (a : Answer) (after : List ℕ) : Type 0 whe
 -- DEMAND 1. Any bytes at all get an answer. That reading never traps, never reads past an end and always ends is not said here: the kit
 -- proves it of every function for the inputs that its `requires` allows, and `read` has no `requires`, so that no caller must look first.
 
+-- number 7 points at the byte (document 02, request 4): the place is that of the first byte of the field's content, as sent, at which no
+-- content that fits its form could go on, or the one just behind it
+pub record Points (m : List ℕ) (field place : ℕ) : Type 0 where
+  pub type : MessageType
+  pub type-is : typeNamed (three m) ≡ Read type
+  -- which field, counted from 0, and the place in its content
+  pub which : ℕ
+  pub at : ℕ
+  pub field-is : field ≡ numberOf (formAt type (countOf m) which)
+  pub is-place : IsPlace (fieldOf (formAt type (countOf m) which) .fits) (contentOf which m) at
+  pub place-is : place ≡ sentPlace which at m
+
 -- a message that is not taken gets one of reading's numbers, a field and a place in it or at its end; every byte of the output stays
-pub record Refusal (m out : List ℕ) (number place : ℕ) (after : List ℕ) : Type 0 where
+pub record Refusal (m out : List ℕ) (number field place : ℕ) (after : List ℕ) : Type 0 where
   pub least : 1 ≤ number
   pub greatest : number ≤ 11
   pub inside : place ≤ length m
+  pub points : number ≡ 7 → Points m field place
   pub stays : after ≡ out
 
 pub data Demand1 (m out : List ℕ) (a : Answer) (after : List ℕ) : Type 0 where
   accepted : (t : MessageType) (n : ℕ) → a ≡ Accepted t n → Demand1 m out a after
-  refused : (number field place : ℕ) → a ≡ Refused number field place → Refusal m out number place after → Demand1 m out a after
+  refused : (number field place : ℕ) → a ≡ Refused number field place → Refusal m out number field place after → Demand1 m out a after
 
 -- DEMAND 2
 

@@ -5,7 +5,7 @@ ghost use Rattle.codes.specs.Codes.{codes};
 ghost use Rattle.equipment.specs.Field10.{edition, present, sideFits, fits10};
 
 // Whether a side fits: N alone, or one or more codes of the list, none twice, in at most so many bytes.
-fn side(list: &[u8], most: usize, s: &[u8]) -> bool
+pub fn side(list: &[u8], most: usize, s: &[u8]) -> bool
     ensures { λ r. ⌜ r ≡ sideFits (cells 2 (now (list .entry))) most (codes (now (s .entry))) ⌝ }
 {
     if text::same_bytes(s, b"N") {

@@ -24,11 +24,11 @@ use Rattle.head.proofs.Laws.{within, ends, lead-seam, letter-no-digit, 
 
 -- A UNIT
 
-record Unit-of (w : Word) : Type 0 where
-  least : 1 ≤ length w
-  letters : all letter w ≡ true
-  clear : free 47 w ≡ true
-  run : within false w ≡ true
+pub record Unit-of (w : Word) : Type 0 where
+  pub least : 1 ≤ length w
+  pub letters : all letter w ≡ true
+  pub clear : free 47 w ≡ true
+  pub run : within false w ≡ true
 
 no-digit : (b : ℕ) → letter b ≡ true → Bool·beq (digit b) false ≡ true
 no-digit b e = go (digit b) (letter-no-digit b e)
@@ -37,7 +37,7 @@ no-digit b e = go (digit b) (letter-no-digit b e)
     go true h = absurd (false≢true h)
     go false h = refl
 
-unit-of : (w : Word) → unit w ≡ true → Unit-of w
+pub unit-of : (w : Word) → unit w ≡ true → Unit-of w
 unit-of w e =
     let g = both (leb 1 (length w)) _ e in
     let h = both (leb (length w) 4) (all letter w) (g .1) in
@@ -50,14 +50,14 @@ unit-of w e =
 
 -- ONE NUMBER
 
-record Number-of (w : Word) : Type 0 where
-  oblique : holds 47 w ≡ true
-  sender-fits : unit (before 47 w) ≡ true
-  receiver-fits : unit (receiver (behind 47 w)) ≡ true
-  serial-digits : all digit (serial (behind 47 w)) ≡ true
-  serial-three : length (serial (behind 47 w)) ≡ 3
+pub record Number-of (w : Word) : Type 0 where
+  pub oblique : holds 47 w ≡ true
+  pub sender-fits : unit (before 47 w) ≡ true
+  pub receiver-fits : unit (receiver (behind 47 w)) ≡ true
+  pub serial-digits : all digit (serial (behind 47 w)) ≡ true
+  pub serial-three : length (serial (behind 47 w)) ≡ 3
 
-number-of : (w : Word) → numberFits w ≡ true → Number-of w
+pub number-of : (w : Word) → numberFits w ≡ true → Number-of w
 unfolding numberFits
 number-of w e =
     let f = behind 47 w in

@@ -13,7 +13,7 @@ ghost use Rattle.head.specs.Field9.{countFits, typeFits, isWake, aircraf
 use text::Kind;
 
 // How many bytes at the front are digits, or are none.
-fn run(digits: bool, s: &[u8]) -> usize
+pub fn run(digits: bool, s: &[u8]) -> usize
     ensures { λ r. ⌜ (r ≡ lead digits (now (s .entry))) × (r ≤ length (now (s .entry))) ⌝ }
 {
     let mut i = 0;
@@ -27,7 +27,7 @@ fn run(digits: bool, s: &[u8]) -> usize
 }
 
 // 1 to 4 letters.
-fn is_unit(w: &[u8]) -> bool
+pub fn is_unit(w: &[u8]) -> bool
     ensures { λ r. ⌜ r ≡ unit (now (w .entry)) ⌝ }
 {
     if w.len() < 1 {
@@ -103,7 +103,7 @@ pub fn fits_field3(s: &[u8]) -> bool
 }
 
 // 2 to 7 signs.
-fn is_identification(w: &[u8]) -> bool
+pub fn is_identification(w: &[u8]) -> bool
     ensures { λ r. ⌜ r ≡ identificationFits (now (w .entry)) ⌝ }
 {
     if w.len() < 2 {
@@ -154,7 +154,7 @@ pub fn fits_field8(s: &[u8]) -> bool
 }
 
 // Of digits: none, or 2 to 99 without leading zero.
-fn is_count(w: &[u8]) -> bool
+pub fn is_count(w: &[u8]) -> bool
     ensures { λ r. ⌜ r ≡ countFits (now (w .entry)) ⌝ }
 {
     if w.len() == 0 {
@@ -170,7 +170,7 @@ fn is_count(w: &[u8]) -> bool
 }
 
 // 2 to 4 signs, the first a letter.
-fn is_type(w: &[u8]) -> bool
+pub fn is_type(w: &[u8]) -> bool
     ensures { λ r. ⌜ r ≡ typeFits (now (w .entry)) ⌝ }
 {
     if w.len() < 2 {

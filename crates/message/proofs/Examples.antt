@@ -8,7 +8,11 @@ use Rattle.text.specs.Lent.{front}
 use Rattle.shape.specs.Shape.{letters}
 use Rattle.shape.specs.Time.{timeFits}
 use Rattle.space.specs.Reduced.{opens, closes, standsForRun, reducedFrom, reduced}
-use Rattle.space.specs.Hyphens.{hyphens, upToHyphen, placeOfHyphen}
+use Rattle.space.specs.Hyphens.{hyphens, upToHyphen, placeOfHyphen, behindHyphen}
+use Rattle.space.specs.Places.{sentFrom, sentPlace}
+use Rattle.places.specs.Parts.{timePlace}
+use Rattle.head_places.specs.Places.{place7, place9, aircraftPlace}
+use Rattle.form_places.specs.Places.{place22}
 use Rattle.outer.specs.Outer.{parensFrom, parens, lettersFrom, outer}
 use Rattle.head.specs.Field3.{types, fits3, numbersFit}
 use Rattle.head.specs.Field7.{fits7}
@@ -31,7 +35,7 @@ use Rattle.kinds.specs.Kinds.{typesRead, typeRanked, typeNamed}
 use Rattle.forms.specs.Field22.{labels, fits22, fault22}
 use Rattle.plan.specs.Unexplained.{unexplained}
 use Rattle.message.specs.declared.Answer.the-variants.{Accepted, Refused}
-use Rattle.message.specs.Reading.{spellingOf, faultIn, countAs, answerOf, outAfter}
+use Rattle.message.specs.Reading.{placeOf7, spellingOf, faultIn, countAs, answerOf, outAfter}
 
 -- THE LISTING of document 01
 
@@ -40,8 +44,8 @@ unfolding answerOf countAs faultIn spellingOf outer parens parensFrom lettersFro
     hyphens typeNamed typeRanked typesRead types formsOf briefForms fits3 numbersFit fits7 fourLetters timed timeFits fitsIn
 cancelled = refl
 
-pub not-a-time : answerOf (bytes "(DLA-ABC12-EHAM2460-EDDF-0)") 100 ≡ Refused 7 13 10
-unfolding answerOf countAs faultIn outer parens parensFrom lettersFrom inAlphabet white reduced reducedFrom standsForRun opens closes hyphens
+pub not-a-time : answerOf (bytes "(DLA-ABC12-EHAM2460-EDDF-0)") 100 ≡ Refused 7 13 16
+unfolding answerOf placeOf7 sentPlace sentFrom behindHyphen timePlace countAs faultIn outer parens parensFrom lettersFrom inAlphabet white reduced reducedFrom standsForRun opens closes hyphens
     upToHyphen placeOfHyphen typeNamed typeRanked typesRead types formsOf briefForms formAt fits3 numbersFit fits7 fourLetters timed timeFits
 not-a-time = refl
 
@@ -85,12 +89,13 @@ refused-outer = (refl, refl, refl, refl, refl, refl, refl)
 pub refused-fields :
     (answerOf (bytes "(CNL-ABC12)") 100 ≡ Refused 6 0 10)
     × (answerOf (bytes "(CNL-ABC12-EHAM0930-EDDF-0-0-0)") 100 ≡ Refused 6 0 26)
-    × (answerOf (bytes "(CHG-ABC12-EHAM0930-EDDF-0-9/X)") 100 ≡ Refused 7 22 26)
+    × (answerOf (bytes "(CHG-ABC12-EHAM0930-EDDF-0-9/X)") 100 ≡ Refused 7 22 30)
     × (answerOf (bytes "(CHG-ABC12-EHAM0930-EDDF-0-14/X)") 100 ≡ Refused 8 22 26)
     × (answerOf (bytes "(CHG-ABC12-EHAM0930-EDDF-0-8/IN-8/IS)") 100 ≡ Refused 9 22 31)
     × (answerOf (bytes "(FPL-ABC12-IS-ZZZZ/M-SDFG/S-EHAM0930-N0440F310 DCT PAM DCT-EDDF0100 EDDK-0)") 100 ≡ Refused 10 9 13)
     × (answerOf (bytes "(CNL-ABC12-EHAM0930-EDDF-0)") 26 ≡ Refused 11 0 0)
-unfolding answerOf countAs faultIn spellingOf outer parens parensFrom lettersFrom inAlphabet white reduced reducedFrom standsForRun opens closes
+unfolding answerOf placeOf7 sentPlace sentFrom behindHyphen place9 aircraftPlace place22 countAs faultIn spellingOf outer parens parensFrom lettersFrom
+    inAlphabet white reduced reducedFrom standsForRun opens closes
     hyphens upToHyphen placeOfHyphen typeNamed typeRanked typesRead types formsOf planForms briefForms formAt fits3 numbersFit fits7 fits8 fits9
     countFits aircraftFits fits10 valid10 present fits16plan fits15 starts speeds levels speedDigits levelDigits elementFits letters within
     radialFits indicators nameFits pointFits fourLetters timed timeFits fitsIn unexplained hasKey labels fits22 fault22
@@ -106,3 +111,15 @@ unfolding outAfter front answerOf countAs faultIn spellingOf outer parens parens
     opens closes hyphens upToHyphen placeOfHyphen typeNamed typeRanked typesRead types formsOf briefForms formAt fits3 numbersFit fits7
     fourLetters timed timeFits fitsIn
 written-out = (refl, refl, refl)
+
+-- POINTING AT THE BYTE: a run where no space may stand has its first byte, a content that stops too soon before white space that drops out has
+-- the first byte that drops out
+pub pointed :
+    (answerOf (bytes "(CNL-ABC12-EHAM \r\n0930-EDDF-0)") 100 ≡ Refused 7 13 15)
+    × (answerOf (bytes "(CNL-ABC12-EHAM09 \r\n-EDDF-0)") 100 ≡ Refused 7 13 17)
+    × (answerOf (bytes "(CNL-ABC12/A7780 -EHAM0930-EDDF-0)") 100 ≡ Refused 7 7 14)
+    × (answerOf (bytes "(CNL-ABC12-EHAM0930- EDDF-0)") 100 ≡ Refused 7 16 20)
+unfolding answerOf placeOf7 sentPlace sentFrom behindHyphen timePlace place7 letters countAs faultIn outer parens parensFrom lettersFrom inAlphabet white
+    reduced reducedFrom standsForRun opens closes hyphens upToHyphen placeOfHyphen typeNamed typeRanked typesRead types formsOf briefForms formAt
+    fits3 numbersFit fits7 fourLetters timed timeFits
+pointed = (refl, refl, refl, refl)

@@ -39,7 +39,7 @@ accepts-all r each meets = false≢true (sym (ap accepts (meets misdelaying 100 
 -- a reader that gives one fixed answer
 pub one-answer : (a : Answer) → Meets (λ m room. a) → ⊥
 one-answer a meets =
-    let e : Accepted Cnl 27 ≡ Refused 7 13 10 = sym (meets cancelling 100 ∙ cancelled) ∙ meets misdelaying 100 ∙ not-a-time in
+    let e : Accepted Cnl 27 ≡ Refused 7 13 16 = sym (meets cancelling 100 ∙ cancelled) ∙ meets misdelaying 100 ∙ not-a-time in
     let z : _≡_ {A = ℕ} 0 1 = cc in
     omega arith
 

@@ -25,7 +25,7 @@ use Rattle.kinds.proofs.Fields.{forms-length}
 use Rattle.message.specs.declared.Fault.{Fault}
 use Rattle.message.specs.declared.Fault.the-variants.{Clear, At}
 use Rattle.message.specs.declared.Answer.the-variants.{Accepted, Refused}
-use Rattle.message.specs.Reading.{textOf, countOf, spelledFrom, spellingOf, faultIn, isPlan, unexplainedIn, placeInPlan, Counted}
+use Rattle.message.specs.Reading.{textOf, countOf, spelledFrom, spellingOf, faultIn, isPlan, unexplainedIn, placeInPlan, placeOfFault, Counted}
 use Rattle.message.specs.Reading.{roomAs, faultAs, fieldsAs, countAs}
 
 -- NUMBERS 10 AND 11
@@ -66,14 +66,10 @@ module _ (t : MessageType) (m : List ℕ) (count : ℕ) (s : List ℕ) (k : Coun
   fault-is = ap₂ (faultIn t) (k .count-is) contents-are
 
   pub field-fault : (room number j : ℕ) → faultIn t count (split 45 s) ≡ At number j
-      → fieldsAs t m room ≡ Refused number (numberOf (formAt t count j)) (placeOfHyphen j m)
+      → fieldsAs t m room ≡ Refused number (numberOf (formAt t count j)) (placeOfFault number t j m)
   field-fault room number j e =
       ap (λ (f : Fault). faultAs f t m room) (sym fault-is ∙ e)
-      ∙ ap₂ (λ (n p : ℕ). Refused number (numberOf (formAt t n j)) p) (sym (k .count-is)) (either (eqb number 7))
-    where
-      either : (b : Bool) → cond b (placeOfHyphen j m) (placeOfHyphen j m) ≡ placeOfHyphen j m
-      either true = refl
-      either false = refl
+      ∙ ap (λ (n : ℕ). Refused number (numberOf (formAt t n j)) (placeOfFault number t j m)) (sym (k .count-is))
 
   pub fields-clear : (room : ℕ) → faultIn t count (split 45 s) ≡ Clear → fieldsAs t m room ≡ faultAs Clear t m room
   fields-clear room e = ap (λ (f : Fault). faultAs f t m room) (sym fault-is ∙ e)

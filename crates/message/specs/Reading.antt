@@ -7,11 +7,12 @@ use mathlib.Core.List.{List, [], _∷_, _++_}
 use lib.Dec.{eqb, ltb}
 use lib.ListN.{length, take, drop, getD}
 use Rattle.alphabet.specs.Alphabet.{oneOf}
-use Rattle.text.specs.Words.{Word, split}
+use Rattle.text.specs.Words.{Word, split, before}
 use Rattle.text.specs.Lent.{front}
 use Rattle.space.specs.Reduced.{reduced}
 use Rattle.space.specs.Fields.{inner}
-use Rattle.space.specs.Hyphens.{hyphens, placeOfHyphen}
+use Rattle.space.specs.Hyphens.{hyphens, placeOfHyphen, behindHyphen}
+use Rattle.space.specs.Places.{sentPlace}
 use Rattle.sent.specs.Sent.{contents}
 use Rattle.outer.specs.declared.Outer.{Outer}
 use Rattle.outer.specs.declared.Outer.the-variants.{Good, Bad}
@@ -24,6 +25,7 @@ use Rattle.kinds.specs.declared.Named.{Named}
 use Rattle.kinds.specs.declared.Named.the-variants.{Read, NotRead, NoType}
 use Rattle.kinds.specs.Kinds.{leastOf, greatestOf, roleOf, formsOf, formAt, numberOf, plan9, plan13, plan16, plan18, typeNamed}
 use Rattle.forms.specs.Forms.{rankIn, faultOf, writtenOf}
+use Rattle.form_places.specs.Places.{placeIn}
 use Rattle.plan.specs.Unexplained.{unexplained}
 use Rattle.message.specs.declared.Fault.{Fault}
 use Rattle.message.specs.declared.Fault.the-variants.{Clear, At}
@@ -67,9 +69,13 @@ faultFrom earlier j (f ∷ fs) (c ∷ cs) =
 unfoldable pub faultIn : MessageType → ℕ → List Word → Fault
 faultIn t n cs = faultFrom [] 0 (formsOf t n) cs
 
--- where field j of a message does not fit: its `-`, or 0 for field 3
-abbrev pub placeOf7 : MessageType → ℕ → List ℕ → ℕ
-placeOf7 t j m = placeOfHyphen j m
+-- the content of field j: what stands behind the j-th hyphen, up to the next
+abbrev pub contentOf : ℕ → List ℕ → Word
+contentOf j m = before 45 (behindHyphen j (textOf m))
+
+-- where field j of a message does not fit: the first byte, as sent, at which no content that fits its form could go on
+unfoldable pub placeOf7 : MessageType → ℕ → List ℕ → ℕ
+placeOf7 t j m = sentPlace j (placeIn (formAt t (countOf m) j) (contentOf j m)) m
 
 abbrev pub placeOfFault : ℕ → MessageType → ℕ → List ℕ → ℕ
 placeOfFault number t j m = cond (eqb number 7) (placeOf7 t j m) (placeOfHyphen j m)

@@ -18,6 +18,7 @@ ghost use Rattle.message.specs.Reading.{
   spelledFrom,
   isPlan,
   placeInPlan,
+  placeOfFault,
   Counted,
   countOf,
   three,
@@ -240,6 +241,19 @@ fn read_explained(t: MessageType, count: usize, msg: &[u8], s: &[u8], out: &mut 
     read_room(t, count, msg, s, out)
 }
 
+// The place of a field that has number 7, 8 or 9: its `-`, or 0 for field 3; for 7 the first byte at which no content that fits could go on.
+fn fault_place(number: u8, t: MessageType, count: usize, j: usize, msg: &[u8], s: &[u8]) -> usize
+    requires { ⌜ Counted t (now msg) count (now s) ⌝ }
+    ensures { λ r. ⌜ r ≡ placeOfFault number t j (now (msg .entry)) ⌝ }
+{
+    if number != 7 {
+        return space::place_of_hyphen(msg, j);
+    }
+    let at = onward(s, Cursor { at: 0 }, j);
+    let n = form_places::place_in(t.form_at(count, j), at.part(s, b'-'));
+    space::place_sent(msg, j, n)
+}
+
 // Numbers 7 to 11, for the text of a message whose fields are as many as its type allows.
 fn read_text(t: MessageType, count: usize, msg: &[u8], s: &[u8], out: &mut [u8]) -> Answer
     requires { ⌜ Counted t (now msg) count (now s) ⌝ }
@@ -250,7 +264,7 @@ fn read_text(t: MessageType, count: usize, msg: &[u8], s: &[u8], out: &mut [u8])
         Fault::At { number, field } => Answer::Refused {
             number,
             field: t.form_at(count, field).number(),
-            place: space::place_of_hyphen(msg, field),
+            place: fault_place(number, t, count, field, msg, s),
         },
         Fault::Clear => read_explained(t, count, msg, s, out),
     }

@@ -16,7 +16,7 @@ use Rattle.other.specs.Field18.{group, itemsFit, fitFrom, fitMore}
 
 -- ONE WORD MORE
 
-fit-step : (ed : Edition) (last : ℕ) (w : Word) (ws : List Word)
+pub fit-step : (ed : Edition) (last : ℕ) (w : Word) (ws : List Word)
     → fitFrom ed last (w ∷ ws)
     ≡ (holds 47 w
     && (ltb last (rankIn ed (before 47 w))
@@ -33,7 +33,7 @@ fit-step ed last w ws = go (holds 47 w) refl
     go true e = rw e
     go false e = rw e
 
-more-step : (ed : Edition) (k : ℕ) (w : Word) (ws : List Word)
+pub more-step : (ed : Edition) (k : ℕ) (w : Word) (ws : List Word)
     → fitMore ed k (w ∷ ws) ≡ cond (holds 47 w) (fitFrom ed k (w ∷ ws)) (moreFits (ruleIn ed k) w && fitMore ed k ws)
 more-step ed k w ws = go (holds 47 w) refl
   where

@@ -8,7 +8,7 @@ ghost use Rattle.other.specs.Rules.{statuses, approved, daysIn, date, ti
 ghost use Rattle.other.specs.Field18.{fitFrom, fitMore, fitsIn, fits18, hasKey, wordsOf, wordsFrom, Found};
 
 // What the words under a key must be: `Free` is any text words.
-enum Rule {
+pub enum Rule {
     Status,
     Approvals,
     Day,
@@ -121,7 +121,7 @@ fn is_address(w: &[u8]) -> bool
 }
 
 // Whether w may stand under a key of this rule.
-fn word_fits(rule: Rule, w: &[u8]) -> bool
+pub fn word_fits(rule: Rule, w: &[u8]) -> bool
     ensures { λ r. ⌜ r ≡ wordFits rule (now (w .entry)) ⌝ }
 {
     match rule {
@@ -136,7 +136,7 @@ fn word_fits(rule: Rule, w: &[u8]) -> bool
 }
 
 // Whether a key of this rule has one word only.
-fn is_single(rule: Rule) -> bool
+pub fn is_single(rule: Rule) -> bool
     ensures { λ r. ⌜ r ≡ single rule ⌝ }
 {
     match rule {
@@ -151,7 +151,7 @@ fn is_single(rule: Rule) -> bool
 }
 
 // Whether w may stand behind the first word.
-fn more_fits(rule: Rule, w: &[u8]) -> bool
+pub fn more_fits(rule: Rule, w: &[u8]) -> bool
     ensures { λ r. ⌜ r ≡ moreFits rule (now (w .entry)) ⌝ }
 {
     if is_single(rule) {
@@ -176,7 +176,7 @@ fn rule_of(b: u8) -> Rule
 }
 
 // The rule of the key at place k, counted from 1.
-fn rule_at(rules: &[u8], k: usize) -> Rule
+pub fn rule_at(rules: &[u8], k: usize) -> Rule
     requires { ⌜ 0 < k ⌝ }
     ensures { λ r. ⌜ r ≡ ruleOf (getD (now (rules .entry)) (k - 1) 0) ⌝ }
 {

@@ -1,7 +1,7 @@
 -- The definitions of field 15 where the code stands: the lists of shapes byte for byte, a word at its oblique, the words one by one. Assumes nothing.
 use Prim.Native.Nat.{ℕ, _+_, _-_, _<_, _≤_}
 use mathlib.Core.Path.{_≡_, refl, ap}
-use mathlib.Core.Bool.{Bool, true, false, cond, _&&_}
+use mathlib.Core.Bool.{Bool, true, false, cond, _&&_, and-true}
 use mathlib.Core.List.{List, _++_}
 use native.Mathlib.Omega.{arith}
 use native.Mathlib.Numerals.{add-one}
@@ -19,26 +19,26 @@ use Rattle.route.specs.Field15.{pairFits, wordFits, elementFits, routeFi
 
 -- THE LISTS OF SHAPES, byte for byte as the code has them
 
-abbrev starts-text : List ℕ
+abbrev pub starts-text : List ℕ
 starts-text = bytes "k9999f999 k9999s9999 k9999VFR M999f999 M999s9999 M999VFR"
 
-abbrev changes-text : List ℕ
+abbrev pub changes-text : List ℕ
 changes-text = bytes "k9999f999 k9999s9999 M999f999 M999s9999"
 
-abbrev climbs-text : List ℕ
+abbrev pub climbs-text : List ℕ
 climbs-text =
     bytes "k9999f999f999 k9999f999s9999 k9999f999PLUS k9999s9999f999 k9999s9999s9999 k9999s9999PLUS "
     ++ bytes "M999f999f999 M999f999s9999 M999f999PLUS M999s9999f999 M999s9999s9999 M999s9999PLUS"
 
-starts-wide : split 32 starts-text ≡ wides starts
+pub starts-wide : split 32 starts-text ≡ wides starts
 unfolding starts speeds levels
 starts-wide = refl
 
-changes-wide : split 32 changes-text ≡ wides changes
+pub changes-wide : split 32 changes-text ≡ wides changes
 unfolding changes speeds levels
 changes-wide = refl
 
-climbs-wide : split 32 climbs-text ≡ wides climbs
+pub climbs-wide : split 32 climbs-text ≡ wides climbs
 unfolding climbs speeds levels
 climbs-wide = refl
 
@@ -79,10 +79,6 @@ module _ (w : Word) (o : ℕ) (at : o ≡ 0 + upTo 47 w) where
   element-at last ne le = rw (← at′, lt-ltb o (length w) (lt-of-le-ne le ne), add-one o)
 
 -- THE WORDS ONE BY ONE
-
-and-true : (a : Bool) → (a && true) ≡ a
-and-true true = refl
-and-true false = refl
 
 module _ (s : List ℕ) (at e : ℕ) (end : e ≡ at + upTo 32 (drop at s)) where
   pub route-last : length s ≤ e → routeFits (split 32 (drop at s)) ≡ elementFits true (take (e - at) (drop at s))

@@ -140,13 +140,13 @@ minutes-back c e =
 
 -- POINTS WITH BEARING
 
-record Bearing (w : Word) : Type 0 where
-  size : length w ≤ 11
-  signs : all sign (signsOf w) ≡ true
-  shape : fits (wide polar) (polarOf w) ≡ true
-  circle : leb (numberAt 0 3 (polarOf w)) 360 ≡ true
+pub record Bearing (w : Word) : Type 0 where
+  pub size : length w ≤ 11
+  pub signs : all sign (signsOf w) ≡ true
+  pub shape : fits (wide polar) (polarOf w) ≡ true
+  pub circle : leb (numberAt 0 3 (polarOf w)) 360 ≡ true
 
-bearing-parts : (w : Word) → radialFits w ≡ true → Bearing w
+pub bearing-parts : (w : Word) → radialFits w ≡ true → Bearing w
 unfolding radialFits
 bearing-parts w e =
     let a = both (leb (length w) 11) _ e in
@@ -175,7 +175,7 @@ radial-held w l e =
     )
 
 -- signs and then bearing and distance are no coordinate
-no-long : (w u : Word) → fits (wide polar) u ≡ true → fits (wide long) (w ++ u) ≡ false
+pub no-long : (w u : Word) → fits (wide polar) u ≡ true → fits (wide long) (w ++ u) ≡ false
 unfolding letters
 no-long w u e = go (fits (wide long) (w ++ u)) refl
   where
@@ -347,7 +347,7 @@ pub record Known (w : Word) : Type 0 where
   pub other : elem w indicators ≡ false
 
 -- indicators have three letters
-three-letters : (w : Word) → elem w indicators ≡ true → length w ≡ 3
+pub three-letters : (w : Word) → elem w indicators ≡ true → length w ≡ 3
 unfolding indicators
 three-letters w e = elem-length 3 indicators refl w e
 
@@ -358,7 +358,7 @@ no-indicator w h = go (elem w indicators) refl
     go true e = absurd (h (three-letters w e))
     go false e = refl
 
-short-signs : (w : Word) → fits (wide short) w ≡ true → all sign w ≡ true
+pub short-signs : (w : Word) → fits (wide short) w ≡ true → all sign w ≡ true
 unfolding letters
 short-signs w p = fits-all sign digit-sign (wide short) w refl p
 

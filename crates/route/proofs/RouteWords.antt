@@ -39,7 +39,7 @@ pair-parts ts w e =
     let i = both (pointFits 5 (before 47 w)) (any ts (behind 47 w)) (h .1) in
     record { oblique = h .0; point = i .0; form = i .1 }
 
-known-free : (w : Word) → Known w → free 47 w ≡ true
+pub known-free : (w : Word) → Known w → free 47 w ≡ true
 known-free w k = all-free sign 47 refl w (k .signs)
 
 module _ (A : Type 0) (ts : List Word) (of : Word → A) (spell : A → Word) (valid : A → Bool) (g : Part A (any (wides ts)) of spell valid) where
@@ -192,7 +192,7 @@ element-held last w (a-plain h s i q) = ap (validElement last) (is-plain last w 
 
 -- COMPLETE
 
-indicator-free : (w : Word) → elem w indicators ≡ true → free 47 w ≡ true
+pub indicator-free : (w : Word) → elem w indicators ≡ true → free 47 w ≡ true
 unfolding indicators
 indicator-free w e = of-elem (free 47) indicators refl w e
 

@@ -8,7 +8,7 @@ use lib.ListN.{length, take, drop, getD}
 use Rattle.alphabet.specs.Text.{bytes}
 use Rattle.alphabet.specs.Alphabet.{sign, oneOf}
 use Rattle.text.specs.Words.{Word, split, all, elem}
-use Rattle.shape.specs.Shape.{fits, wide, spells}
+use Rattle.shape.specs.Shape.{letters, fits, wide, spells}
 use Rattle.route.specs.Levels.{numberAt}
 
 -- COORDINATES
@@ -142,6 +142,10 @@ pointFits most w =
     (cond (ltb 7 (length w)) (radialFits w)
     (nameFits most w)))
 
+-- a word of that shape out of range
+unfoldable pub outOfRange : Word → Bool
+outOfRange w = fits (wide short) w && not (degreesInRange (degreesOf w))
+
 abbrev pub pointOf : Word → Point
 pointOf w =
     cond (fits (wide short) w) (inDegrees (degreesOf w))
@@ -157,6 +161,10 @@ coordinates = (refl, refl)
 minutes : (minutesInRange (minutesOf (bytes "9000N18000E")) ≡ true) × (minutesInRange (minutesOf (bytes "9001N07805W")) ≡ false)
 unfolding within
 minutes = (refl, refl)
+
+out-of-range : (outOfRange (bytes "91N078W") ≡ true) × (outOfRange (bytes "46N078W") ≡ false) × (outOfRange (bytes "UPAMPA7") ≡ false)
+unfolding outOfRange letters
+out-of-range = (refl, refl, refl)
 
 bearings : (radialFits (bytes "FOJ180040") ≡ true) × (radialFits (bytes "FOJ361040") ≡ false)
 unfolding radialFits

@@ -4,10 +4,22 @@ ghost use Prim.Native.Nat.{ℕ, _+_, _-_, _≤_, _<_};
 ghost use lib.ListN.{length, drop};
 ghost use Rattle.text.specs.Words.{split, elem};
 ghost use Rattle.shape.specs.Shape.{wides};
-ghost use Rattle.route.specs.Levels.{changes, climbs};
+ghost use Rattle.shape.specs.Shape.{any as anyOf};
+ghost use Rattle.route.specs.Levels.{starts, changes, climbs};
 ghost use Rattle.route.specs.Points.{degreesInRange, within as withinDegrees, minutesInRange, degreesOf, minutesOf};
-ghost use Rattle.route.specs.Points.{radialFits, indicators, nameFits, pointFits};
+ghost use Rattle.route.specs.Points.{radialFits, indicators, nameFits, pointFits, outOfRange};
 ghost use Rattle.route.specs.Field15.{pairFits, wordFits, elementFits, routeFits, fits15};
+
+// The shapes of speed and level at the start.
+pub const STARTS: [u8; 56] = *b"k9999f999 k9999s9999 k9999VFR M999f999 M999s9999 M999VFR";
+
+// At a point, where VFR may not stand.
+pub const CHANGES: [u8; 39] = *b"k9999f999 k9999s9999 M999f999 M999s9999";
+
+// At a climb: a speed and two levels, or PLUS for the second.
+pub const CLIMBS: [u8; 171] =
+    *b"k9999f999f999 k9999f999s9999 k9999f999PLUS k9999s9999f999 k9999s9999s9999 k9999s9999PLUS \
+    M999f999f999 M999f999s9999 M999f999PLUS M999s9999f999 M999s9999s9999 M999s9999PLUS";
 
 // 99N999W in range: latitude at most 90, longitude at most 180.
 fn in_degrees(w: &[u8]) -> bool
@@ -92,8 +104,18 @@ fn name(most: usize, w: &[u8]) -> bool
     !is_indicator(w)
 }
 
+// Whether a word is shaped as a coordinate in degrees and out of range.
+pub fn out_of_range(w: &[u8]) -> bool
+    ensures { λ r. ⌜ r ≡ outOfRange (now (w .entry)) ⌝ }
+{
+    if !shape::fits(b"99n999e", w) {
+        return false;
+    }
+    !in_degrees(w)
+}
+
 // A coordinate, a point with bearing and distance, or a name of at most so many signs.
-fn point(most: usize, w: &[u8]) -> bool
+pub fn point(most: usize, w: &[u8]) -> bool
     ensures { λ r. ⌜ r ≡ pointFits most (now (w .entry)) ⌝ }
 {
     if shape::fits(b"99n999e", w) {
@@ -140,21 +162,18 @@ fn word(last: bool, w: &[u8]) -> bool
 fn climb(w: &[u8]) -> bool
     ensures { λ r. ⌜ r ≡ pairFits (wides climbs) (now (w .entry)) ⌝ }
 {
-    pair(
-        b"k9999f999f999 k9999f999s9999 k9999f999PLUS k9999s9999f999 k9999s9999s9999 k9999s9999PLUS M999f999f999 M999f999s9999 M999f999PLUS M999s9999f999 M999s9999s9999 M999s9999PLUS",
-        w,
-    )
+    pair(&CLIMBS, w)
 }
 
 // A change of speed and level at a point.
 fn change(w: &[u8]) -> bool
     ensures { λ r. ⌜ r ≡ pairFits (wides changes) (now (w .entry)) ⌝ }
 {
-    pair(b"k9999f999 k9999s9999 M999f999 M999s9999", w)
+    pair(&CHANGES, w)
 }
 
 // A word. `C/` is a climb, any other oblique a change of speed and level.
-fn element(last: bool, w: &[u8]) -> bool
+pub fn element(last: bool, w: &[u8]) -> bool
     ensures { λ r. ⌜ r ≡ elementFits last (now (w .entry)) ⌝ }
 {
     let o = text::find(w, 0, b'/');
@@ -185,6 +204,13 @@ fn elements(s: &[u8], from: usize) -> bool
     }
 }
 
+// Speed and level at the start.
+pub fn start(w: &[u8]) -> bool
+    ensures { λ r. ⌜ r ≡ anyOf (wides starts) (now (w .entry)) ⌝ }
+{
+    shape::any(&STARTS, w)
+}
+
 // Whether a content fits field 15's form.
 pub fn fits_field15(s: &[u8]) -> bool
     ensures { λ r. ⌜ r ≡ fits15 (now (s .entry)) ⌝ }
@@ -193,10 +219,7 @@ pub fn fits_field15(s: &[u8]) -> bool
     if e == s.len() {
         return false;
     }
-    if !shape::any(
-        b"k9999f999 k9999s9999 k9999VFR M999f999 M999s9999 M999VFR",
-        &s[..e],
-    ) {
+    if !start(&s[..e]) {
         return false;
     }
     elements(s, e + 1)

@@ -145,9 +145,9 @@ pub enum ElapsedRead {
     NoElapsedTime,
 }
 
-const CLOCK_HOURS: usize = 23;
+pub const CLOCK_HOURS: usize = 23;
 
-const ELAPSED_HOURS: usize = 23;
+pub const ELAPSED_HOURS: usize = 23;
 
 // Whether w is four digits, hours of at most so many and minutes of at most 59.
 fn is_time(most: usize, w: &[u8]) -> bool

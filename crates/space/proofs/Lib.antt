@@ -5,3 +5,4 @@ pub mod Hyphens
 pub mod Fields
 pub mod Frame
 pub mod Tidy
+pub mod Places

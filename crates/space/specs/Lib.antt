@@ -1,3 +1,4 @@
 pub mod Reduced
 pub mod Fields
 pub mod Hyphens
+pub mod Places

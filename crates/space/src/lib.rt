@@ -1,9 +1,11 @@
 // White space reduced into a scratch, and the places of the hyphens in a message as sent.
 ghost use mathlib.Core.Path.{_≡_};
-ghost use Prim.Native.Nat.{ℕ, _≤_};
+ghost use Prim.Native.Nat.{ℕ, _+_, _≤_, _<_};
 ghost use lib.ListN.{length, drop};
 ghost use Rattle.text.specs.Lent.{front};
 ghost use Rattle.space.specs.Reduced.{opens, closes, standsForRun, reduced};
+ghost use Rattle.space.specs.Places.{countsAt, sentFrom, sentPlace};
+ghost use mathlib.Core.Bool.{false};
 ghost use Rattle.space.specs.Hyphens.{hyphens, placeOfHyphen};
 
 fn is_opening(b: u8) -> bool
@@ -104,4 +106,49 @@ pub fn place_of_hyphen(msg: &[u8], j: usize) -> usize
         }
     }
     i
+}
+
+// Whether the byte at i counts: white space directly behind white space does not. What stands before `at` plays no part.
+fn counts(msg: &[u8], at: usize, i: usize) -> bool
+    requires { ⌜ (at ≤ i) × (i < length (now msg)) ⌝ }
+    ensures { λ r. ⌜ r ≡ countsAt (now (msg .entry)) at i ⌝ }
+{
+    if i == at {
+        return true;
+    }
+    if !alphabet::is_white(msg[i - 1]) {
+        return true;
+    }
+    !alphabet::is_white(msg[i])
+}
+
+// The place from `at` on that has n bytes before it that count.
+fn sent_from(msg: &[u8], at: usize, n: usize) -> usize
+    requires { ⌜ at ≤ length (now msg) ⌝ }
+    ensures { λ r. ⌜ r ≡ at + sentFrom false n (drop at (now (msg .entry))) ⌝ }
+{
+    let mut left = n;
+    let mut i = at;
+    while i < msg.len() {
+        let here = i;
+        i += 1;
+        if counts(msg, at, here) {
+            if left == 0 {
+                return here;
+            }
+            left -= 1;
+        }
+    }
+    i
+}
+
+// The place in a message as sent of place n in the content of its field j.
+pub fn place_sent(msg: &[u8], j: usize, n: usize) -> usize
+    ensures { λ r. ⌜ r ≡ sentPlace j n (now (msg .entry)) ⌝ }
+{
+    let h = place_of_hyphen(msg, j);
+    if h < msg.len() {
+        return sent_from(msg, h + 1, n);
+    }
+    h
 }

@@ -75,7 +75,7 @@ key-letter N e = refl
 key-letter C e = refl
 key-letter Other e = absurd (false≢true e)
 
-no-key : (v : Word) → (length v ≡ 1 → ⊥) → place (keyed v) ≤ 0
+pub no-key : (v : Word) → (length v ≡ 1 → ⊥) → place (keyed v) ≤ 0
 no-key v n = go (ltb 0 (place (keyed v))) refl
   where
     go : (b : Bool) → ltb 0 (place (keyed v)) ≡ b → place (keyed v) ≤ 0

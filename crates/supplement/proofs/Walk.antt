@@ -158,7 +158,7 @@ first-go C w l is = texts-go Pilot 9 (λ g. refl) w l is
 first-go Other w l is = refl
 
 -- no key is behind the last
-last : (k : Key) → ltb 9 (place k) ≡ false
+pub last : (k : Key) → ltb 9 (place k) ≡ false
 last E = refl
 last P = refl
 last R = refl

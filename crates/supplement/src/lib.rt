@@ -24,7 +24,7 @@ pub enum Stage {
 }
 
 // The place of an item in their order, by its key's letter, from 1; 0 for any other byte.
-fn place(key: u8) -> usize
+pub fn place(key: u8) -> usize
     ensures { λ r. ⌜ r ≡ placeOf (byLetter key) ⌝ }
 {
     match key {
@@ -42,7 +42,7 @@ fn place(key: u8) -> usize
 }
 
 // The place that the next item's key has to be behind; none is behind 9.
-fn past(stage: Stage) -> usize
+pub fn past(stage: Stage) -> usize
     ensures { λ r. ⌜ r ≡ pastOf stage ⌝ }
 {
     match stage {
@@ -83,7 +83,7 @@ fn is_count(most: usize, w: &[u8]) -> bool
 }
 
 // Whether w is letters of a set, at least one and none twice.
-fn is_some_of(set: &[u8], w: &[u8]) -> bool
+pub fn is_some_of(set: &[u8], w: &[u8]) -> bool
     ensures { λ r. ⌜ r ≡ someOf (now (set .entry)) (now (w .entry)) ⌝ }
 {
     let mut i = 0;

@@ -2,13 +2,20 @@
 
 #![allow(dead_code)]
 
-use second::programs::{desk, listing};
+use second::programs::{desk, listing, mark};
 
 /// The listing's output for an input.
 pub fn list(input: &[u8]) -> String {
     let mut out = Vec::new();
     listing(input, &mut out).expect("memory takes all output");
     String::from_utf8(out).expect("an accepted spelling is ASCII")
+}
+
+/// The listing's output with marks.
+pub fn marked(input: &[u8]) -> String {
+    let mut out = Vec::new();
+    mark(input, &mut out).expect("memory takes all output");
+    String::from_utf8(out).expect("what is shown is ASCII")
 }
 
 /// The listing's one line for one piece.

@@ -23,8 +23,8 @@ form-at-requires c κs = search needs
 number-requires : tie.Need-number-requires
 number-requires c κs = search needs
 
-place-of-hyphen-requires : tie.Need-place-of-hyphen-requires
-place-of-hyphen-requires c κs = search needs
+fault-place-requires : tie.Need-fault-place-requires
+fault-place-requires c κs = start (c .before .before .before .before .before) .pre
 
 enum-told : tie.Need-enum-told
 enum-told c = search needs
@@ -40,7 +40,7 @@ returns c =
       field-fault _ _ _ _ (start d .pre) (length (start d .args .out .now)) _ _ (sym (d .fields-fault .ensures) ∙ n .number .given .1),
       ← c .before .before .form-at .ensures,
       ← c .before .number2 .ensures,
-      ← c .place-of-hyphen .ensures,
+      ← c .fault-place .ensures,
     ) (refl, refl)
 
 same-length : tie.Need-same-length
@@ -62,7 +62,7 @@ read-text-spec =
     enum-known-number
     form-at-requires
     number-requires
-    place-of-hyphen-requires
+    fault-place-requires
     enum-told
     read-explained-requires
     returns

@@ -1,0 +1,152 @@
+-- `aerodromes::place_field17` meets its contract. Assumes nothing.
+use Prim.Native.Nat.{_+_, _-_, _≤_}
+use mathlib.Core.Path.{_≡_, refl, sym, ap, _∙_}
+use lib.ListN.{length, take, drop}
+use Rattle.text.specs.Words.{split}
+use Rattle.places.specs.Words.{wordsPlace}
+use Rattle.places.proofs.Index.{words-last, words-stuck, words-end, words-next}
+use Rattle.aerodromes_places.specs.Places.{landed, landedPlace, place17}
+use Rattle.aerodromes_places.proofs.Places.{word-length}
+use Rattle.aerodromes_places.proofs.Landed.{landed-within, after-none, after-some, goes-more}
+use borrow.Author.Needs.{needs}
+use native.Mathlib.Omega.{arith}
+use Rattle.aerodromes_places.proofs.place_field17.Statement.{statement}
+use Rattle.aerodromes_places.proofs.place_field17.Tie as tie
+use Rattle.aerodromes_places.proofs.place_field17.Reads as reads
+use Rattle.aerodromes_places.proofs.place_field17.Lts as lts
+use Rattle.aerodromes_places.proofs.landed_next.Reads as landed-next-reads
+use Rattle.aerodromes_places.proofs.landed_place.Reads as landed-place-reads
+use Rattle.text.proofs.find.Reads as find-reads
+
+abbrev Inv-loop : tie.InvT-loop
+Inv-loop s at₀ n₀ at n = (at ≤ length s) × (wordsPlace landed landedPlace 0 (split 32 s) ≡ at + wordsPlace landed landedPlace n (split 32 (drop at s)))
+
+abbrev μ-loop : tie.MeasureT-loop
+μ-loop s at₀ n₀ at n = length s - at
+
+loop-holds : tie.Need-loop-holds Inv-loop μ-loop
+loop-holds c = (search needs, search needs)
+
+find-requires : tie.Need-find-requires Inv-loop μ-loop
+find-requires c κs = search needs
+
+sub-landed-place : tie.Need-sub-landed-place Inv-loop μ-loop
+sub-landed-place c = search needs
+
+part-landed-place-start : tie.Need-part-landed-place-start Inv-loop μ-loop
+part-landed-place-start c = search needs
+
+part-landed-place-end : tie.Need-part-landed-place-end Inv-loop μ-loop
+part-landed-place-end c = search needs
+
+landed-place-requires : tie.Need-landed-place-requires Inv-loop μ-loop
+landed-place-requires c κs = search needs
+
+add-result : tie.Need-add-result Inv-loop μ-loop
+add-result c =
+    let a = c .before .before .before .before .before .before .args in
+    let l = c .before .before .before .before .loop in
+    let e = c .before .before .before .find .result in
+    omega (arith, landed-within (l .n) (take (e - l .at) (drop (l .at) (a .s .now))), c .landed-place .ensures, word-length (a .s .now) (l .at) e (omega arith) (omega arith))
+
+returns : tie.Need-returns Inv-loop μ-loop
+unfolding place17
+returns c =
+    let a = c .before .before .before .before .before .before .args in
+    let l = c .before .before .before .before .loop in
+    omega (arith, c .landed-place .ensures, words-last landed landedPlace (l .n) (a .s .now) (l .at) (c .before .before .before .find .result) (c .before .before .before .find .ensures .0) (omega arith))
+
+sub-landed-next : tie.Need-sub-landed-next Inv-loop μ-loop
+sub-landed-next c = search needs
+
+part-landed-next-start : tie.Need-part-landed-next-start Inv-loop μ-loop
+part-landed-next-start c = search needs
+
+part-landed-next-end : tie.Need-part-landed-next-end Inv-loop μ-loop
+part-landed-next-end c = search needs
+
+landed-next-requires : tie.Need-landed-next-requires Inv-loop μ-loop
+landed-next-requires c κs = search needs
+
+sub-landed-place-2 : tie.Need-sub-landed-place-2 Inv-loop μ-loop
+sub-landed-place-2 c = search needs
+
+part-landed-place-start-2 : tie.Need-part-landed-place-start-2 Inv-loop μ-loop
+part-landed-place-start-2 c = search needs
+
+part-landed-place-end-2 : tie.Need-part-landed-place-end-2 Inv-loop μ-loop
+part-landed-place-end-2 c = search needs
+
+landed-place-requires-2 : tie.Need-landed-place-requires-2 Inv-loop μ-loop
+landed-place-requires-2 c κs = search needs
+
+add-result-2 : tie.Need-add-result-2 Inv-loop μ-loop
+add-result-2 c =
+    let a = c .before .before .before .before .before .before .before .before .before .args in
+    let l = c .before .before .before .before .before .before .before .loop in
+    let e = c .before .before .before .before .before .before .find .result in
+    omega (arith, landed-within (l .n) (take (e - l .at) (drop (l .at) (a .s .now))), c .landed-place2 .ensures, word-length (a .s .now) (l .at) e (omega arith) (omega arith))
+
+returns-2 : tie.Need-returns-2 Inv-loop μ-loop
+unfolding place17
+returns-2 c =
+    let a = c .before .before .before .before .before .before .before .before .before .args in
+    let l = c .before .before .before .before .before .before .before .loop in
+    let e = c .before .before .before .before .before .before .find .result in
+    let q = after-none (l .n) (take (e - l .at) (drop (l .at) (a .s .now))) (sym (c .before .before .before .landed-next .ensures) ∙ c .before .before .if2 .taken) in
+    omega (arith, c .landed-place2 .ensures, words-stuck landed landedPlace (l .n) (a .s .now) (l .at) e (c .before .before .before .before .before .before .find .ensures .0) (omega arith) q)
+
+returns-3 : tie.Need-returns-3 Inv-loop μ-loop
+unfolding place17
+returns-3 c =
+    let a = c .before .before .before .before .before .before .before .before .args in
+    let l = c .before .before .before .before .before .before .loop in
+    let e = c .before .before .before .before .before .find .result in
+    let j = c .before .before .landed-next .result in
+    let q = after-some (l .n) (take (e - l .at) (drop (l .at) (a .s .now))) j (c .before .before .landed-next .ensures) (c .before .if2 .left) in
+    omega (arith, word-length (a .s .now) (l .at) e (omega arith) (omega arith), words-end landed landedPlace (l .n) (a .s .now) (l .at) e (c .before .before .before .before .before .find .ensures .0) j (omega arith) q (ap (landed .goes) (c .if3 .taken)))
+
+add-at : tie.Need-add-at Inv-loop μ-loop
+add-at c = search needs
+
+loop-less : tie.Need-loop-less Inv-loop μ-loop
+loop-less c = search needs
+
+loop-again : tie.Need-loop-again Inv-loop μ-loop
+loop-again c =
+    let a = c .before .before .before .before .before .before .before .before .args in
+    let l = c .before .before .before .before .before .before .loop in
+    let e = c .before .before .before .before .before .find .result in
+    let j = c .before .before .landed-next .result in
+    let w = take (e - l .at) (drop (l .at) (a .s .now)) in
+    let q = after-some (l .n) w j (c .before .before .landed-next .ensures) (c .before .if2 .left) in
+    omega (arith, word-length (a .s .now) (l .at) e (omega arith) (omega arith), words-next landed landedPlace (l .n) (a .s .now) (l .at) e (c .before .before .before .before .before .find .ensures .0) j (omega arith) q (goes-more j w (c .before .if2 .left) (c .if3 .left)))
+
+pub place-field17-spec : {M : Type 1} → statement M
+place-field17-spec =
+    tie.close
+    (tie.spec
+    Inv-loop
+    μ-loop
+    loop-holds
+    find-requires
+    sub-landed-place
+    part-landed-place-start
+    part-landed-place-end
+    landed-place-requires
+    add-result
+    returns
+    sub-landed-next
+    part-landed-next-start
+    part-landed-next-end
+    landed-next-requires
+    sub-landed-place-2
+    part-landed-place-start-2
+    part-landed-place-end-2
+    landed-place-requires-2
+    add-result-2
+    returns-2
+    returns-3
+    add-at
+    loop-less
+    loop-again)

@@ -1,0 +1,51 @@
+-- `aerodromes::place_timed` meets its contract. Assumes nothing.
+use mathlib.Core.Path.{_≡_, refl, sym, ap, _∙_}
+use Rattle.places.proofs.Index.{fixed-short, fixed-whole, behind-within}
+use Rattle.alphabet.specs.Alphabet.{letter}
+use Rattle.places.specs.Parts.{timePlace}
+use Rattle.aerodromes_places.proofs.Places.{time-within}
+use native.Mathlib.Omega.{arith}
+use borrow.Author.Needs.{needs}
+use Rattle.aerodromes_places.proofs.place_timed.Statement.{statement}
+use Rattle.aerodromes_places.proofs.place_timed.Tie as tie
+use Rattle.aerodromes_places.proofs.place_timed.Reads as reads
+use Rattle.aerodromes_places.proofs.place_timed.Lts as lts
+use Rattle.places.proofs.front_of.Reads as front-of-reads
+use Rattle.places.proofs.time_place.Reads as time-place-reads
+
+front-of-requires : tie.Need-front-of-requires
+front-of-requires c κs = search needs
+
+returns : tie.Need-returns
+returns c = fixed-short letter 4 (timePlace (c .before .before .before .args .most)) (c .before .before .before .args .s .now) (c .before .front-of .result) (c .before .front-of .ensures .0) (c .if1 .taken)
+
+sub-time-place : tie.Need-sub-time-place
+sub-time-place c = search needs
+
+part-time-place-start : tie.Need-part-time-place-start
+part-time-place-start c = search needs
+
+part-time-place-end : tie.Need-part-time-place-end
+part-time-place-end c = search needs
+
+time-place-requires : tie.Need-time-place-requires
+time-place-requires c κs = search needs
+
+add-result : tie.Need-add-result
+add-result c = omega (arith, behind-within (timePlace (c .before .before .before .before .before .args .most)) (time-within (c .before .before .before .before .before .args .most)) (c .before .before .before .before .before .args .s .now) 4 (c .time-place .result) (omega arith) (c .time-place .ensures))
+
+returns-2 : tie.Need-returns-2
+returns-2 c = fixed-whole letter 4 (timePlace (c .before .before .before .before .before .args .most)) (c .before .before .before .before .before .args .s .now) (c .before .before .before .front-of .result) (c .before .before .before .front-of .ensures .0) (c .time-place .result) (c .before .before .if1 .left) (c .time-place .ensures)
+
+pub place-timed-spec : {M : Type 1} → statement M
+place-timed-spec =
+    tie.close
+    (tie.spec
+    front-of-requires
+    returns
+    sub-time-place
+    part-time-place-start
+    part-time-place-end
+    time-place-requires
+    add-result
+    returns-2)

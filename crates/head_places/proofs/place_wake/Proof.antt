@@ -1,0 +1,39 @@
+-- `head::place_wake` meets its contract. Assumes nothing.
+use mathlib.Core.Path.{refl, sym, ap, _∙_}
+use borrow.Author.Tests.{not-true, not-false}
+use Rattle.places.proofs.Index.{first-none, first-stop, first-goes, behind-within}
+use Rattle.places.specs.Parts.{noMore}
+use Rattle.head.specs.Field9.{wakeFits}
+use native.Mathlib.Omega.{arith}
+use borrow.Author.Needs.{needs}
+use Rattle.head_places.proofs.place_wake.Statement.{statement}
+use Rattle.head_places.proofs.place_wake.Tie as tie
+
+returns : tie.Need-returns
+returns c = sym (first-none wakeFits (λ a. noMore) (c .before .before .args .w .now) (c .if1 .taken))
+
+shared-slice-read-one-of : tie.Need-shared-slice-read-one-of
+shared-slice-read-one-of c = search needs
+
+slice-aggregate-one-of : tie.Need-slice-aggregate-one-of
+slice-aggregate-one-of c = search needs
+
+one-of-requires : tie.Need-one-of-requires
+one-of-requires c κs = search needs
+
+returns-2 : tie.Need-returns-2
+returns-2 c = sym (first-stop wakeFits (λ a. noMore) (c .before .before .before .before .before .before .args .w .now) (sym (c .before .one-of .ensures) ∙ not-true _ (c .if2 .taken)))
+
+returns-3 : tie.Need-returns-3
+returns-3 c = sym (first-goes wakeFits (λ a. noMore) (c .before .before .before .before .before .before .args .w .now) (c .before .before .before .before .if1 .left) (sym (c .before .one-of .ensures) ∙ not-false _ (c .if2 .left)))
+
+pub place-wake-spec : {M : Type 1} → statement M
+place-wake-spec =
+    tie.close
+    (tie.spec
+    returns
+    shared-slice-read-one-of
+    slice-aggregate-one-of
+    one-of-requires
+    returns-2
+    returns-3)

@@ -1,0 +1,9 @@
+pub mod Place
+pub mod Parts
+pub mod Leaves
+pub mod Cuts
+pub mod Fixed
+pub mod Words
+pub mod Index
+pub mod Texts
+pub mod Given

@@ -1,0 +1,4 @@
+pub mod Place
+pub mod Parts
+pub mod Words
+pub mod Given

@@ -1,0 +1,118 @@
+-- The place of a form from the places of its parts. Assumes nothing.
+use Prim.Native.Nat.{ℕ, zero, suc, _+_, _*_, _-_}
+use mathlib.Core.Path.{_≡_, refl}
+use mathlib.Core.Bool.{Bool, true, false, _&&_, cond}
+use mathlib.Core.List.{List, [], _∷_, _++_}
+use lib.Dec.{leb, ltb}
+use lib.ListN.{length, take, drop, getD}
+use Rattle.text.specs.Words.{Word, all, upTo, holds, before, behind}
+use Rattle.alphabet.specs.Alphabet.{digit}
+use Rattle.shape.specs.Shape.{inClass, letters, fits}
+
+-- the larger and the smaller of two places
+abbrev pub larger : ℕ → ℕ → ℕ
+larger p q = cond (leb p q) q p
+
+abbrev pub smaller : ℕ → ℕ → ℕ
+smaller p q = cond (leb p q) p q
+
+-- how many bytes at the front are of a set
+abbrev pub front : (ℕ → Bool) → List ℕ → ℕ
+front p [] = 0
+front p (b ∷ s) = cond (p b) (suc (front p s)) 0
+
+-- ONE PART BEHIND ANOTHER, cut at the first byte that is not of a set: f before it, g from it on
+
+abbrev pub inFront : (ℕ → Bool) → List ℕ → List ℕ
+inFront p s = take (front p s) s
+
+abbrev pub fromThere : (ℕ → Bool) → List ℕ → List ℕ
+fromThere p s = drop (front p s) s
+
+abbrev pub thenFits : (ℕ → Bool) → (f g : List ℕ → Bool) → List ℕ → Bool
+thenFits p f g s = f (inFront p s) && g (fromThere p s)
+
+-- the place is in g's part where f's part fits and something stands behind it, and else in f's
+abbrev pub thenPlace : (ℕ → Bool) → (List ℕ → Bool) → (pf pg : List ℕ → ℕ) → List ℕ → ℕ
+thenPlace p f pf pg s =
+    cond (ltb (front p s) (length s) && f (inFront p s))
+    (front p s + pg (fromThere p s))
+    (pf (inFront p s))
+
+-- the same cut at the first c, which belongs to neither part
+abbrev pub cutPlace : ℕ → (List ℕ → Bool) → (pf pg : List ℕ → ℕ) → List ℕ → ℕ
+cutPlace c f pf pg s = cond (holds c s && f (before c s)) (suc (upTo c s) + pg (behind c s)) (pf (before c s))
+
+-- A FIRST BYTE, and what may follow it
+
+abbrev pub firstFits : (ℕ → Bool) → (ℕ → List ℕ → Bool) → List ℕ → Bool
+firstFits q f [] = false
+firstFits q f (b ∷ s) = q b && f b s
+
+abbrev pub firstPlace : (ℕ → Bool) → (ℕ → List ℕ → ℕ) → List ℕ → ℕ
+firstPlace q pf [] = 0
+firstPlace q pf (b ∷ s) = cond (q b) (suc (pf b s)) 0
+
+-- nothing more: the place is where anything stands
+abbrev pub noMore : List ℕ → ℕ
+noMore s = 0
+
+-- SO MANY BYTES of a set, and what may follow them
+
+abbrev pub fixedFits : (ℕ → Bool) → ℕ → (List ℕ → Bool) → List ℕ → Bool
+fixedFits p zero g s = g s
+fixedFits p (suc n) g s = firstFits p (λ a. fixedFits p n g) s
+
+abbrev pub fixedPlace : (ℕ → Bool) → ℕ → (List ℕ → ℕ) → List ℕ → ℕ
+fixedPlace p n pg s = cond (leb n (front p s)) (n + pg (drop n s)) (front p s)
+
+-- A TIME, for a greatest hour: the hours' first digit, both, the minutes' first digit, and the last
+
+abbrev pub tens : ℕ → ℕ → Bool
+tens most a = digit a && leb ((a - 48) * 10) most
+
+abbrev pub units : ℕ → ℕ → ℕ → Bool
+units most a b = digit b && leb ((a - 48) * 10 + (b - 48)) most
+
+abbrev pub sixty : ℕ → Bool
+sixty c = leb 48 c && leb c 53
+
+abbrev pub minutesPlace : Word → ℕ
+minutesPlace w = firstPlace sixty (λ c. firstPlace digit (λ d. noMore)) w
+
+unfoldable pub timePlace : ℕ → Word → ℕ
+timePlace most w = firstPlace (tens most) (λ a. firstPlace (units most a) (λ b. minutesPlace)) w
+
+-- A RUN of bytes of a set, so many at least and at most
+
+abbrev pub runFits : ℕ → ℕ → (ℕ → Bool) → List ℕ → Bool
+runFits least most p w = leb least (length w) && (leb (length w) most && all p w)
+
+abbrev pub runPlace : ℕ → (ℕ → Bool) → List ℕ → ℕ
+runPlace most p w = smaller most (front p w)
+
+-- A SHAPE, AND A LIST OF SHAPES: how far the bytes follow the shape, and how far they follow the one that they follow farthest
+
+abbrev pub along : Word → Word → ℕ
+along [] w = 0
+along (t ∷ ts) [] = 0
+along (t ∷ ts) (b ∷ w) = cond (inClass t b) (suc (along ts w)) 0
+
+abbrev pub farthest : List Word → Word → ℕ
+farthest [] w = 0
+farthest (t ∷ ts) w = larger (along t w) (farthest ts w)
+
+-- PREFIXES, by a test that says which of them can be completed: how many more bytes pass it, the ones before being p
+
+abbrev pub passes : (List ℕ → Bool) → List ℕ → List ℕ → ℕ
+passes v p [] = 0
+passes v p (b ∷ s) = cond (v (p ++ (b ∷ []))) (suc (passes v (p ++ (b ∷ [])) s)) 0
+
+-- a word of each shape
+abbrev pub sample : Word → Word
+sample [] = []
+sample (t ∷ ts) = cond (digit t) 48 (getD (letters t) 0 0) ∷ sample ts
+
+-- every shape of a list has a word
+abbrev pub sampled : List Word → Bool
+sampled ts = all (λ t. fits t (sample t)) ts

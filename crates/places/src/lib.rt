@@ -1,0 +1,113 @@
+// The place of a content that does not fit: the parts that the forms share.
+ghost use mathlib.Core.Path.{_≡_};
+ghost use Prim.Native.Nat.{_≤_};
+ghost use lib.ListN.{length};
+ghost use Rattle.text.specs.Kinds.{ofKind};
+ghost use Rattle.places.specs.Parts.{larger, smaller, front, runPlace, along, minutesPlace, timePlace};
+use text::Kind;
+
+pub fn larger_of(p: usize, q: usize) -> usize
+    ensures { λ r. ⌜ r ≡ larger p q ⌝ }
+{
+    if p <= q {
+        return q;
+    }
+    p
+}
+
+pub fn smaller_of(p: usize, q: usize) -> usize
+    ensures { λ r. ⌜ r ≡ smaller p q ⌝ }
+{
+    if p <= q {
+        return p;
+    }
+    q
+}
+
+// How many bytes at the front are of a kind.
+pub fn front_of(k: Kind, s: &[u8]) -> usize
+    ensures { λ r. ⌜ (r ≡ front (ofKind k) (now (s .entry))) × (r ≤ length (now (s .entry))) ⌝ }
+{
+    let mut i = 0;
+    while i < s.len() {
+        if !text::is_kind(k, s[i]) {
+            return i;
+        }
+        i += 1;
+    }
+    i
+}
+
+// The place of a run of bytes of a kind, at most so many.
+pub fn run_place(most: usize, k: Kind, s: &[u8]) -> usize
+    ensures { λ r. ⌜ r ≡ runPlace most (ofKind k) (now (s .entry)) ⌝ }
+{
+    smaller_of(most, front_of(k, s))
+}
+
+// How far w follows a shape, given byte for byte.
+pub fn along_shape(t: &[u8], w: &[u8]) -> usize
+    ensures { λ r. ⌜ r ≡ along (now (t .entry)) (now (w .entry)) ⌝ }
+{
+    let mut i = 0;
+    while i < t.len() {
+        if i == w.len() {
+            return i;
+        }
+        let e = i + 1;
+        if !shape::fits(&t[i..e], &w[i..e]) {
+            return i;
+        }
+        i = e;
+    }
+    i
+}
+
+// The place of the minutes of a time.
+fn minutes_place(w: &[u8]) -> usize
+    ensures { λ r. ⌜ r ≡ minutesPlace (now (w .entry)) ⌝ }
+{
+    if w.len() == 0 {
+        return 0;
+    }
+    let a = w[0];
+    if a < b'0' {
+        return 0;
+    }
+    if a > b'5' {
+        return 0;
+    }
+    if w.len() == 1 {
+        return 1;
+    }
+    if !alphabet::is_digit(w[1]) {
+        return 1;
+    }
+    2
+}
+
+// The place of a time that is none, for a greatest hour.
+pub fn time_place(most: usize, w: &[u8]) -> usize
+    ensures { λ r. ⌜ r ≡ timePlace most (now (w .entry)) ⌝ }
+{
+    if w.len() == 0 {
+        return 0;
+    }
+    if !alphabet::is_digit(w[0]) {
+        return 0;
+    }
+    let tens = shape::one(w[0]) * 10;
+    if most < tens {
+        return 0;
+    }
+    if w.len() == 1 {
+        return 1;
+    }
+    if !alphabet::is_digit(w[1]) {
+        return 1;
+    }
+    if most < tens + shape::one(w[1]) {
+        return 1;
+    }
+    2 + minutes_place(&w[2..])
+}

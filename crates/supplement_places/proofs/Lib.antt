@@ -1,0 +1,3 @@
+pub mod WordPlaces
+pub mod Places
+pub mod PlaceIndex
