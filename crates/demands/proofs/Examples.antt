@@ -20,11 +20,13 @@ use Rattle.other.specs.Field18.{fitsIn, hasKey}
 use Rattle.head.specs.Field3.{types, fits3, numbersFit}
 use Rattle.space.specs.Reduced.{opens, closes, standsForRun, reducedFrom, reduced}
 use Rattle.space.specs.Hyphens.{hyphens, upToHyphen, placeOfHyphen, behindHyphen}
+use Rattle.space.specs.Places.{sentFrom, sentPlace}
+use Rattle.places.specs.Parts.{timePlace}
 use Rattle.outer.specs.Outer.{parensFrom, parens, lettersFrom, outer}
 use Rattle.kinds.specs.Kinds.{planForms, briefForms, formsOf, formAt, typesRead, typeRanked, typeNamed}
 use Rattle.forms.specs.Field22.{labels, fits22, fault22}
 use Rattle.plan.specs.Unexplained.{unexplained}
-use Rattle.message.specs.Reading.{spellingOf, faultIn, countAs, answerOf}
+use Rattle.message.specs.Reading.{placeOf7, spellingOf, faultIn, countAs, answerOf}
 use Rattle.text.specs.Lent.{front}
 use Rattle.force.specs.InForce.{namedBy, namedAt}
 use Rattle.opening.specs.Opening.{canonicalPlan, openingOf}
@@ -48,7 +50,7 @@ fields-hold =
     (refl, (refl, (refl, (refl, (refl, (refl, (refl, (refl, (refl, (refl, tt))))))))))
 
 messages-hold : AllHold ofMessages
-unfolding answerOf countAs faultIn spellingOf outer parens parensFrom lettersFrom inAlphabet white reduced reducedFrom standsForRun opens closes hyphens
+unfolding answerOf placeOf7 sentPlace sentFrom behindHyphen timePlace countAs faultIn spellingOf outer parens parensFrom lettersFrom inAlphabet white reduced reducedFrom standsForRun opens closes hyphens
     upToHyphen placeOfHyphen typeNamed typeRanked typesRead types formsOf briefForms formAt fits3 numbersFit fits7 fourLetters timed timeFits fitsIn
 messages-hold = ((refl, refl), (refl, (refl, (refl, (refl, tt)))))
 

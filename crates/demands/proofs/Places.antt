@@ -143,15 +143,12 @@ explained-inside field t m room = go (eqb field 0)
     go false = hyphen-inside (placeInPlan field) m
 
 fields-inside : (f : Fault) (t : MessageType) (m : List ℕ) (room : ℕ) → Inside (length m) (faultAs f t m room)
+unfolding placeOf7
 fields-inside Clear t m room = explained-inside (cond (isPlan t) (unexplainedIn (contents m)) 0) t m room
 fields-inside (At number j) t m room = go (eqb number 7)
   where
-    pointed : placeOf7 t j m ≤ length m
-    unfolding placeOf7
-    pointed = sent-inside j (placeIn (formAt t (countOf m) j) (contentOf j m)) m
-
     go : (b : Bool) → cond b (placeOf7 t j m) (placeOfHyphen j m) ≤ length m
-    go true = pointed
+    go true = sent-inside j (placeIn (formAt t (countOf m) j) (contentOf j m)) m
     go false = hyphen-inside j m
 
 count-inside : (t : MessageType) (m : List ℕ) (room : ℕ) → Inside (length m) (countAs t m room)

@@ -48,6 +48,7 @@ explained-points field t m room = go (eqb field 0)
 
 module _ (t : MessageType) (m : List ℕ) (k : typeNamed (three m) ≡ Read t) where
   fields-points : (f : Fault) (room : ℕ) → Pointed m (faultAs f t m room)
+  unfolding placeOf7
   fields-points Clear room = explained-points (cond (isPlan t) (unexplainedIn (contents m)) 0) t m room
   fields-points (At number j) room =
       λ e.
@@ -62,7 +63,6 @@ module _ (t : MessageType) (m : List ℕ) (k : typeNamed (three m) ≡ Read t) w
       }
     where
       there : number ≡ 7 → placeOfFault number t j m ≡ sentPlace j (placeIn (formAt t (countOf m) j) (contentOf j m)) m
-      unfolding placeOf7
       there e = ap (λ (b : Bool). cond b (placeOf7 t j m) (placeOfHyphen j m)) (eq-eqb number 7 e)
 
   count-points : (room : ℕ) → Pointed m (countAs t m room)

@@ -99,7 +99,7 @@ ofFields =
 abbrev pub ofMessages : List Example
 ofMessages =
     accepted "(CNL-ABC12-EHAM0930-EDDF-0)" Cnl "(CNL-ABC12-EHAM0930-EDDF-0)"
-    ∷ (refused "(DLA-ABC12-EHAM2460-EDDF-0)" 7 13 10
+    ∷ (refused "(DLA-ABC12-EHAM2460-EDDF-0)" 7 13 16
     ∷ (refused "(ACP-ABC12)" 5 3 0
     ∷ (refused "(" 2 0 1
     ∷ (refused "((" 2 0 1 ∷ []))))

@@ -1,5 +1,5 @@
--- Readers that do not meet the answers: one that refuses all, one that gives one fixed answer, one that accepts everything as one type with one
--- length, and one that writes one fixed spelling. Assumes nothing.
+-- Readers that do not meet the answers: one that refuses all, one that gives one fixed answer, one that points elsewhere than at the byte, one that
+-- accepts everything as one type with one length, and one that writes one fixed spelling. Assumes nothing.
 use Prim.Native.Nat.{ℕ}
 use mathlib.Core.Path.{_≡_, sym, ap, _∙_}
 use mathlib.Core.Bool.{true, false, false≢true}
@@ -42,6 +42,21 @@ one-answer a meets =
     let e : Accepted Cnl 27 ≡ Refused 7 13 16 = sym (meets cancelling 100 ∙ cancelled) ∙ meets misdelaying 100 ∙ not-a-time in
     let z : _≡_ {A = ℕ} 0 1 = cc in
     omega arith
+
+-- a reader that points elsewhere than at the byte
+pub points-elsewhere : (r : List ℕ → ℕ → Answer) (p : ℕ) → r misdelaying 100 ≡ Refused 7 13 p → (p ≡ 16 → ⊥) → Meets r → ⊥
+points-elsewhere r p e n meets = n (ap pointed (sym e ∙ meets misdelaying 100 ∙ not-a-time))
+  where
+    abbrev pointed : Answer → ℕ
+    pointed (Accepted t k) = 0
+    pointed (Refused number field place) = place
+
+-- one byte early, one byte late, and at the field's `-`
+pub wrong-places : (r : List ℕ → ℕ → Answer)
+    → (r misdelaying 100 ≡ Refused 7 13 15 → Meets r → ⊥) × (r misdelaying 100 ≡ Refused 7 13 17 → Meets r → ⊥)
+    × (r misdelaying 100 ≡ Refused 7 13 10 → Meets r → ⊥)
+wrong-places r =
+    (λ e. points-elsewhere r 15 e (λ z. omega arith), λ e. points-elsewhere r 17 e (λ z. omega arith), λ e. points-elsewhere r 10 e (λ z. omega arith))
 
 -- a reader that accepts some, but all that it accepts as one type and of one length
 pub one-acceptance : (t : MessageType) (n : ℕ) (r : List ℕ → ℕ → Answer) → ((m : List ℕ) (room : ℕ) → accepts (r m room) ≡ true → r m room ≡ Accepted t n)
