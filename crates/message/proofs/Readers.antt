@@ -44,12 +44,12 @@ one-answer a meets =
     omega arith
 
 -- a reader that points elsewhere than at the byte
+abbrev placeGiven : Answer → ℕ
+placeGiven (Accepted t n) = 0
+placeGiven (Refused number field place) = place
+
 pub points-elsewhere : (r : List ℕ → ℕ → Answer) (p : ℕ) → r misdelaying 100 ≡ Refused 7 13 p → (p ≡ 16 → ⊥) → Meets r → ⊥
-points-elsewhere r p e n meets = n (ap pointed (sym e ∙ meets misdelaying 100 ∙ not-a-time))
-  where
-    abbrev pointed : Answer → ℕ
-    pointed (Accepted t k) = 0
-    pointed (Refused number field place) = place
+points-elsewhere r p e n meets = n (ap placeGiven (sym e ∙ meets misdelaying 100 ∙ not-a-time))
 
 -- one byte early, one byte late, and at the field's `-`
 pub wrong-places : (r : List ℕ → ℕ → Answer)
