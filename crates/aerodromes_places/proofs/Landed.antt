@@ -1,75 +1,33 @@
 -- The place of field 17 is right. Assumes nothing.
-use Prim.Native.Nat.{ℕ, zero, suc, _+_, _<_, _≤_}
-use mathlib.Core.Path.{_≡_, refl, sym, ap, _∙_, subst}
-use mathlib.Core.Bool.{Bool, true, false, _&&_, _||_, not, cond, false≢true, true≢false}
-use mathlib.Core.List.{List, [], _∷_, _++_, append-nil}
+use Prim.Native.Nat.{ℕ, zero, suc, _≤_}
+use mathlib.Core.Path.{_≡_, refl, sym, ap, _∙_}
+use mathlib.Core.Bool.{Bool, true, false, _&&_, _||_, not, cond, true≢false}
+use mathlib.Core.List.{List, [], _∷_}
 use mathlib.Core.Option.{Option, none, some}
 use native.Mathlib.Omega.{arith}
-use lib.Dec.{leb, ltb, eqb}
+use lib.Dec.{ltb, eqb}
 use lib.ListN.{length}
-use borrow.Author.Tests.{ltb-true, ltb-false, lt-ltb, le-ltb, eqb-true, eq-eqb, ne-eqb, not-true}
+use borrow.Author.Tests.{lt-ltb, ne-eqb}
 use Rattle.alphabet.specs.Text.{bytes}
-use Rattle.alphabet.specs.Alphabet.{text, inAlphabet, white}
+use Rattle.alphabet.specs.Alphabet.{text}
 use Rattle.text.specs.Words.{Word, all, null, same, free, split, textWord}
-use Rattle.text.proofs.Tests.{both, and-both, and-false, all-free, all-append}
+use Rattle.text.proofs.Tests.{both}
 use Rattle.text.proofs.Index.{null-split}
-use Rattle.shape.specs.Time.{timeFits, clockHours}
+use Rattle.shape.specs.Time.{clockHours}
 use Rattle.places.specs.Place.{IsPlace}
-use Rattle.places.specs.Parts.{front, passes}
-use Rattle.places.specs.Words.{Words, ended, wordsFit, contentFits, wordsPlace}
+use Rattle.places.specs.Parts.{front}
+use Rattle.places.specs.Words.{ended, wordsFit, contentFits, wordsPlace}
+use Rattle.places.specs.Given.{given, orZero}
+use Rattle.places.proofs.Given.{given-ended, given-some, given-place, or-some}
 use Rattle.places.proofs.Place.{place-of-language, no-place}
-use Rattle.places.proofs.Leaves.{Viable, passes-place}
-use Rattle.places.proofs.Words.{words-place}
-use Rattle.aerodromes.specs.Aerodromes.{fourLetters, timed, aerodromeOf, first, others}
+use Rattle.places.proofs.Texts.{letter-a, text-place, text-free}
+use Rattle.places.proofs.Words.{none-fits, words-place}
+use Rattle.aerodromes.specs.Aerodromes.{timed, aerodromeOf, first, others}
 use Rattle.aerodromes.specs.Field17.{unlisted, placeFits, fits17}
-use Rattle.aerodromes_places.specs.Places.{given, timedPlace, landed, landedPlace, orZero, landedAfter, place17}
-use Rattle.aerodromes_places.proofs.Places.{given-ended, given-some, timed-right, timed-free, sample-timed}
+use Rattle.aerodromes_places.specs.Places.{timedPlace, landed, landedPlace, landedAfter, place17}
+use Rattle.aerodromes_places.proofs.Places.{timed-right, timed-free, sample-timed}
 
--- A TEXT WORD
-
-front-part : (p : ℕ → Bool) (v w : List ℕ) → all p (v ++ w) ≡ true → all p v ≡ true
-front-part p [] w e = refl
-front-part p (x ∷ v) w e = let q = both (p x) (all p (v ++ w)) e in rw (q .0, front-part p v w (q .1))
-
-one-more : (p : ℕ → Bool) (v : List ℕ) (b : ℕ) → all p v ≡ true → all p (v ++ (b ∷ [])) ≡ p b
-one-more p [] b e = yes (p b)
-  where
-    yes : (x : Bool) → (x && true) ≡ x
-    yes true = refl
-    yes false = refl
-one-more p (x ∷ v) b e = let q = both (p x) (all p v) e in rw (q .0) (one-more p v b (q .1))
-
-passes-front : (p : ℕ → Bool) (s v : List ℕ) → all p v ≡ true → passes (all p) v s ≡ front p s
-passes-front p [] v e = refl
-passes-front p (b ∷ s) v e = rw (one-more p v b e) (go (p b) refl (passes-front p s (v ++ (b ∷ []))))
-  where
-    go : (x : Bool) → p b ≡ x → (all p (v ++ (b ∷ [])) ≡ true → passes (all p) (v ++ (b ∷ [])) s ≡ front p s)
-        → cond x (suc (passes (all p) (v ++ (b ∷ [])) s)) 0 ≡ cond x (suc (front p s)) 0
-    go true q ih = ap suc (ih (one-more p v b e ∙ q))
-    go false q ih = refl
-
-letter-a : text 65 ≡ true
-unfolding text inAlphabet white
-letter-a = refl
-
-no-space : text 32 ≡ false
-unfolding text inAlphabet white
-no-space = refl
-
-text-done : (p : List ℕ) → all text p ≡ true → (t : List ℕ) × (textWord (p ++ t) ≡ true)
-text-done [] e = (65 ∷ [], rw letter-a)
-text-done (b ∷ p) e = ([], ap textWord (append-nil (b ∷ p)) ∙ e)
-
-text-right : (s : List ℕ) → IsPlace textWord s (front text s)
-text-right s =
-    subst (IsPlace textWord s) (passes-front text s [] refl)
-    (passes-place textWord (all text)
-    (record { kept = λ p t e. front-part text p t (both (not (null (p ++ t))) (all text (p ++ t)) e .1); completed = text-done }) s [])
-
-text-free : (w : Word) → textWord w ≡ true → free 32 w ≡ true
-text-free w e = all-free text 32 no-space w (both (not (null w)) (all text w) e .1)
-
--- FIELD 17, by words
+-- BY WORDS
 
 abbrev which : Word → ℕ
 which w = cond (same (aerodromeOf w) unlisted) 2 1
@@ -78,11 +36,10 @@ landed-right : (n : ℕ) (w : Word) → IsPlace (λ v. ended (landed .after n v)
 landed-right n w = go (eqb n 0) (ltb 1 n)
   where
     go : (x y : Bool)
-        → IsPlace (λ v. ended (cond x (given (timed clockHours v) (which v)) (given (y && textWord v) 3))) w (cond x (timedPlace clockHours w) (cond y (front text w) 0))
-    go true y =
-        place-of-language (timed clockHours) (λ v. ended (given (timed clockHours v) (which v))) (λ v. sym (given-ended (timed clockHours v) (which v))) w (timedPlace clockHours w)
-        (timed-right clockHours w)
-    go false true = place-of-language textWord (λ v. ended (given (textWord v) 3)) (λ v. sym (given-ended (textWord v) 3)) w (front text w) (text-right w)
+        → IsPlace (λ v. ended (cond x (given (timed clockHours v) (which v)) (given (y && textWord v) 3))) w
+        (cond x (timedPlace clockHours w) (cond y (front text w) 0))
+    go true y = given-place (timed clockHours) which w (timedPlace clockHours w) (timed-right clockHours w)
+    go false true = given-place textWord (λ v. 3) w (front text w) (text-place w)
     go false false = no-place w
 
 landed-free : (n : ℕ) (w : Word) → ended (landed .after n w) ≡ true → free 32 w ≡ true
@@ -118,10 +75,6 @@ landed-closed n e w = go (eqb n 0) (ltb 1 n) e
     go false true q = absurd (true≢false q)
     go false false q = refl
 
-none-fits : (ws : List Word) → wordsFit landed ws none ≡ false
-none-fits [] = refl
-none-fits (w ∷ ws) = refl
-
 -- words of text
 texts : (vs : List Word) → wordsFit landed vs (some 3) ≡ all textWord vs
 texts [] = refl
@@ -129,7 +82,7 @@ texts (v ∷ vs) = go (textWord v) (texts vs)
   where
     go : (x : Bool) → wordsFit landed vs (some 3) ≡ all textWord vs → wordsFit landed vs (given x 3) ≡ (x && all textWord vs)
     go true e = e
-    go false e = none-fits vs
+    go false e = none-fits landed vs
 
 behind-zzzz : (vs : List Word) → wordsFit landed vs (some 2) ≡ (not (null vs) && all textWord vs)
 behind-zzzz [] = refl
@@ -137,7 +90,7 @@ behind-zzzz (v ∷ vs) = texts (v ∷ vs)
 
 behind-other : (vs : List Word) → wordsFit landed vs (some 1) ≡ null vs
 behind-other [] = refl
-behind-other (v ∷ vs) = none-fits vs
+behind-other (v ∷ vs) = none-fits landed vs
 
 landed-is : (s : List ℕ) → contentFits landed 0 s ≡ fits17 s
 unfolding fits17
@@ -146,7 +99,7 @@ landed-is s = go (split 32 s) (null-split 32 s)
     begun : (x y : Bool) (vs : List Word) → wordsFit landed vs (given x (cond y 2 1)) ≡ (x && cond y (not (null vs) && all textWord vs) (null vs))
     begun true true vs = behind-zzzz vs
     begun true false vs = behind-other vs
-    begun false y vs = none-fits vs
+    begun false y vs = none-fits landed vs
 
     go : (ws : List Word) → null ws ≡ false → wordsFit landed ws (some 0) ≡ (timed clockHours (first ws) && placeFits (aerodromeOf (first ws)) (others ws))
     go [] h = absurd (true≢false h)
@@ -162,10 +115,6 @@ placed17 s =
 
 pub landed-within : (n : ℕ) (w : Word) → landedPlace n w ≤ length w
 landed-within n w = landed-right n w .within
-
-or-given : (b : Bool) (n : ℕ) → orZero (given b n) ≡ cond b n 0
-or-given true n = refl
-or-given false n = refl
 
 module _ (n : ℕ) (w : Word) where
   pub first-off : n ≡ 0 → timed clockHours w ≡ false → 0 ≡ landedAfter n w
@@ -203,25 +152,21 @@ module _ (n : ℕ) (w : Word) where
 
   positive : (y : Option ℕ) → landed .after n w ≡ y → orZero y ≡ 0 → y ≡ none
   positive none e h = refl
-  positive (some j) e h = absurd (true≢false (sym (landed-alive-positive j e) ∙ rw h))
+  positive (some j) e h = absurd (true≢false (sym (above j e) ∙ rw h))
     where
-      landed-alive-positive : (j : ℕ) → landed .after n w ≡ some j → ltb 0 j ≡ true
-      landed-alive-positive j = go (eqb n 0)
+      above : (j : ℕ) → landed .after n w ≡ some j → ltb 0 j ≡ true
+      above j = go (eqb n 0)
         where
-          two : (x : Bool) (j : ℕ) → cond x 2 1 ≡ j → ltb 0 j ≡ true
-          two true j e = ap (ltb 0) (sym e)
-          two false j e = ap (ltb 0) (sym e)
+          two : (x : Bool) → ltb 0 (cond x 2 1) ≡ true
+          two true = refl
+          two false = refl
 
           go : (x : Bool) → cond x (given (timed clockHours w) (which w)) (given (ltb 1 n && textWord w) 3) ≡ some j → ltb 0 j ≡ true
-          go true e = two (same (aerodromeOf w) unlisted) j (given-some (timed clockHours w) (which w) j e .1)
+          go true e = ap (ltb 0) (sym (given-some (timed clockHours w) (which w) j e .1)) ∙ two (same (aerodromeOf w) unlisted)
           go false e = ap (ltb 0) (sym (given-some (ltb 1 n && textWord w) 3 j e .1))
 
   pub after-none : landedAfter n w ≡ 0 → landed .after n w ≡ none
   after-none h = positive (landed .after n w) refl h
 
   pub after-some : (j : ℕ) → j ≡ landedAfter n w → (j ≡ 0 → ⊥) → landed .after n w ≡ some j
-  after-some j e z = go (landed .after n w) e
-    where
-      go : (y : Option ℕ) → j ≡ orZero y → y ≡ some j
-      go none q = absurd (z q)
-      go (some i) q = ap some (sym q)
+  after-some j e z = or-some (landed .after n w) j e z

@@ -1,49 +1,46 @@
 -- The places of fields 13, 16 and 17 are right. Assumes nothing.
-use Prim.Native.Nat.{ℕ, zero, suc, _+_, _-_, _<_, _≤_}
-use mathlib.Core.Path.{_≡_, refl, sym, ap, _∙_, subst}
-use mathlib.Core.Bool.{Bool, true, false, _&&_, _||_, not, cond, false≢true, true≢false}
-use mathlib.Core.List.{List, [], _∷_, _++_}
-use mathlib.Core.Option.{Option, none, some}
+use Prim.Native.Nat.{ℕ, zero, suc, _+_, _<_, _≤_}
+use mathlib.Core.Path.{_≡_, refl, sym, ap, _∙_}
+use mathlib.Core.Bool.{Bool, true, false, _&&_, _||_, cond, and-true, and-false, false≢true, true≢false}
+use mathlib.Core.List.{List, [], _∷_}
+use mathlib.Core.Option.{none, some}
 use native.Mathlib.Omega.{arith}
-use native.Mathlib.Nat.{not-suc-le-zero}
-use lib.Dec.{leb, ltb, eqb}
-use lib.ListN.{length, take, drop, length-drop}
-use lib.Seq.{length-take-le}
-use borrow.Author.Tests.{leb-true, leb-false, le-leb, lt-leb, ltb-true, ltb-false, lt-ltb, le-ltb, eqb-true, eq-eqb, ne-eqb}
+use native.Mathlib.Nat.{zero-add}
+use lib.Dec.{leb, eqb}
+use lib.ListN.{length}
+use borrow.Author.Tests.{leb-true, leb-false, le-leb, lt-leb, eqb-true, ne-eqb}
 use Rattle.alphabet.specs.Text.{bytes}
-use Rattle.alphabet.specs.Alphabet.{letter, text, inAlphabet, white}
-use Rattle.text.specs.Words.{Word, all, null, same, free, split, textWord, tidyWord}
-use Rattle.text.proofs.Tests.{both, and-both, and-false, all-free}
+use Rattle.alphabet.specs.Alphabet.{letter}
+use Rattle.text.specs.Words.{Word, all, null, free, split}
+use Rattle.text.proofs.Tests.{both}
 use Rattle.text.proofs.Index.{null-split}
 use Rattle.text.proofs.Tidy.{word-free}
-use Rattle.shape.specs.Time.{timeFits, clockHours, elapsedHours, clockFits}
-use Rattle.places.specs.Place.{IsPlace, Hopeful, Hopeless}
-use Rattle.places.specs.Parts.{front, noMore, fixedFits, fixedPlace, timePlace}
-use Rattle.places.specs.Words.{Words, ended, wordsFit, contentFits, wordsPlace}
+use Rattle.shape.specs.Time.{timeFits, clockHours, elapsedHours}
+use Rattle.places.specs.Place.{IsPlace}
+use Rattle.places.specs.Parts.{noMore, fixedFits, fixedPlace, timePlace}
+use Rattle.places.specs.Given.{given}
+use Rattle.places.specs.Words.{ended, wordsFit, contentFits, wordsPlace}
+use Rattle.places.proofs.Given.{given-ended, given-some, given-place}
 use Rattle.places.proofs.Place.{place-of-language, no-place}
 use Rattle.places.proofs.Leaves.{nil-place, maybe-place}
 use Rattle.places.proofs.Fixed.{fixed-place, time-place}
-use Rattle.places.proofs.Words.{words-place}
+use Rattle.places.proofs.Words.{none-of, none-fits, words-place}
 use Rattle.aerodromes.specs.Aerodromes.{fourLetters, timed, aerodromeOf, joinedOf, first, others}
 use Rattle.aerodromes.specs.Field13.{fits13, fits13open, clockOrNone}
 use Rattle.aerodromes.specs.Field16.{fits16, fits16plan, fewAerodromes, mostAlternates}
-use Rattle.aerodromes.specs.Field17.{unlisted, placeFits, fits17}
-use Rattle.aerodromes_places.specs.Places.{aerodromePlace, timedPlace, place13, place16, given, plan, planPlace, place16plan, landed, landedPlace, place17}
+use Rattle.aerodromes_places.specs.Places.{aerodromePlace, timedPlace, place13, place16, plan, planPlace, place16plan}
 use Rattle.aerodromes.proofs.Aerodromes.{timed-tidy, four-tidy}
 
 -- FOUR LETTERS, and what follows them
 
 module _ (g : List ℕ → Bool) where
-  no : (x : Bool) → (x && false) ≡ false
-  no true = refl
-  no false = refl
-
   four-is : (s : List ℕ) → fixedFits letter 4 g s ≡ (fourLetters (aerodromeOf s) && g (joinedOf s))
   unfolding fourLetters
   four-is [] = refl
-  four-is (a ∷ []) = no (letter a)
-  four-is (a ∷ b ∷ []) = ap (λ (x : Bool). letter a && x) (no (letter b)) ∙ no (letter a)
-  four-is (a ∷ b ∷ c ∷ []) = ap (λ (x : Bool). letter a && (letter b && x)) (no (letter c)) ∙ ap (λ (x : Bool). letter a && x) (no (letter b)) ∙ no (letter a)
+  four-is (a ∷ []) = and-false (letter a)
+  four-is (a ∷ b ∷ []) = ap (λ (x : Bool). letter a && x) (and-false (letter b)) ∙ and-false (letter a)
+  four-is (a ∷ b ∷ c ∷ []) =
+      ap (λ (x : Bool). letter a && (letter b && x)) (and-false (letter c)) ∙ ap (λ (x : Bool). letter a && x) (and-false (letter b)) ∙ and-false (letter a)
   four-is (a ∷ b ∷ c ∷ d ∷ s) = go (letter a) (letter b) (letter c) (letter d)
     where
       go : (x y z u : Bool) → (x && (y && (z && (u && g s)))) ≡ ((x && (y && (z && (u && true)))) && g s)
@@ -79,7 +76,8 @@ unfolding fits13open
 placed13open s =
     place-of-language (λ w. fourLetters (aerodromeOf w) && (null (joinedOf w) || timeFits clockHours (joinedOf w))) fits13open
     (λ w. ap (λ (x : Bool). fourLetters (aerodromeOf w) && x) (open-is (joinedOf w))) s (place13 s)
-    (four-right (λ w. null w || timeFits clockHours w) (timePlace clockHours) (λ w. maybe-place (timeFits clockHours) w (timePlace clockHours w) (time-place clockHours w)) [] refl s)
+    (four-right (λ w. null w || timeFits clockHours w) (timePlace clockHours)
+    (λ w. maybe-place (timeFits clockHours) w (timePlace clockHours w) (time-place clockHours w)) [] refl s)
 
 alone-is : (w : Word) → (fourLetters (aerodromeOf w) && null (joinedOf w)) ≡ fourLetters w
 unfolding fourLetters
@@ -87,12 +85,9 @@ alone-is [] = refl
 alone-is (a ∷ []) = refl
 alone-is (a ∷ b ∷ []) = refl
 alone-is (a ∷ b ∷ c ∷ []) = refl
-alone-is (a ∷ b ∷ c ∷ d ∷ []) = yes (letter a && (letter b && (letter c && (letter d && true))))
-  where
-    yes : (x : Bool) → (x && true) ≡ x
-    yes true = refl
-    yes false = refl
-alone-is (a ∷ b ∷ c ∷ d ∷ x ∷ w) = no null (letter a && (letter b && (letter c && (letter d && true)))) ∙ sym (rw (ne-eqb (suc (suc (suc (suc (suc (length w)))))) 4 (omega arith)))
+alone-is (a ∷ b ∷ c ∷ d ∷ []) = and-true (letter a && (letter b && (letter c && (letter d && true))))
+alone-is (a ∷ b ∷ c ∷ d ∷ x ∷ w) =
+    and-false (letter a && (letter b && (letter c && (letter d && true)))) ∙ sym (rw (ne-eqb (suc (suc (suc (suc (suc (length w)))))) 4 (omega arith)))
 
 aerodrome-right : (s : List ℕ) → IsPlace fourLetters s (aerodromePlace s)
 aerodrome-right s =
@@ -104,14 +99,6 @@ placed16 = aerodrome-right
 
 -- FIELD 16 IN FPL AND SPL
 
-pub given-ended : (b : Bool) (n : ℕ) → ended (given b n) ≡ b
-given-ended true n = refl
-given-ended false n = refl
-
-pub given-some : (b : Bool) (n j : ℕ) → given b n ≡ some j → (b ≡ true) × (n ≡ j)
-given-some true n j e = (refl, cc)
-given-some false n j e = let z : _≡_ {A = ℕ} 0 1 = cc in absurd (omega arith)
-
 pub timed-free : (most : ℕ) (w : Word) → timed most w ≡ true → free 32 w ≡ true
 timed-free most w e = word-free w (timed-tidy most w e)
 
@@ -122,9 +109,10 @@ plan-right : (n : ℕ) (w : Word) → IsPlace (λ v. ended (plan .after n v)) w 
 plan-right n w = go (eqb n 0) (leb n mostAlternates)
   where
     go : (x y : Bool)
-        → IsPlace (λ v. ended (cond x (given (timed elapsedHours v) 1) (given (y && fourLetters v) (suc n)))) w (cond x (timedPlace elapsedHours w) (cond y (aerodromePlace w) 0))
-    go true y = place-of-language (timed elapsedHours) (λ v. ended (given (timed elapsedHours v) 1)) (λ v. sym (given-ended (timed elapsedHours v) 1)) w (timedPlace elapsedHours w) (timed-right elapsedHours w)
-    go false true = place-of-language fourLetters (λ v. ended (given (fourLetters v) (suc n))) (λ v. sym (given-ended (fourLetters v) (suc n))) w (aerodromePlace w) (aerodrome-right w)
+        → IsPlace (λ v. ended (cond x (given (timed elapsedHours v) 1) (given (y && fourLetters v) (suc n)))) w
+        (cond x (timedPlace elapsedHours w) (cond y (aerodromePlace w) 0))
+    go true y = given-place (timed elapsedHours) (λ v. 1) w (timedPlace elapsedHours w) (timed-right elapsedHours w)
+    go false true = given-place fourLetters (λ v. suc n) w (aerodromePlace w) (aerodrome-right w)
     go false false = no-place w
 
 plan-free : (n : ℕ) (w : Word) → ended (plan .after n w) ≡ true → free 32 w ≡ true
@@ -137,7 +125,8 @@ plan-free n w = go (eqb n 0)
 plan-alive : (n j : ℕ) (w : Word) → plan .after n w ≡ some j → (plan .final j || plan .goes j) ≡ true
 plan-alive n j w = go (eqb n 0)
   where
-    go : (x : Bool) → cond x (given (timed elapsedHours w) 1) (given (leb n mostAlternates && fourLetters w) (suc n)) ≡ some j → (leb 1 j || leb j mostAlternates) ≡ true
+    go : (x : Bool) → cond x (given (timed elapsedHours w) 1) (given (leb n mostAlternates && fourLetters w) (suc n)) ≡ some j
+        → (leb 1 j || leb j mostAlternates) ≡ true
     go true e = let h = given-some (timed elapsedHours w) 1 j e in rw (le-leb 1 j (omega arith))
     go false e = let h = given-some (leb n mostAlternates && fourLetters w) (suc n) j e in rw (le-leb 1 j (omega arith))
 
@@ -158,32 +147,21 @@ rest-fit : (vs : List Word) (n : ℕ) → n ≤ 2 → wordsFit plan vs (some (su
 rest-fit [] n h = rw (le-leb 1 (suc n) (omega arith), le-leb (n + 0) 2 (omega arith))
 rest-fit (v ∷ vs) n h = rw (ne-eqb (suc n) 0 (omega arith)) (go (leb (suc n) 2) refl (fourLetters v) (rest-fit vs (suc n)))
   where
-    none-fits : (ws : List Word) → wordsFit plan ws none ≡ false
-    none-fits [] = refl
-    none-fits (w ∷ ws) = refl
-
     go : (x : Bool) → leb (suc n) 2 ≡ x → (y : Bool) → (suc n ≤ 2 → wordsFit plan vs (some (suc (suc n))) ≡ (leb (suc n + length vs) 2 && all fourLetters vs))
         → wordsFit plan vs (given (x && y) (suc (suc n))) ≡ (leb (n + suc (length vs)) 2 && (y && all fourLetters vs))
     go true e true ih =
         let z : suc n + length vs ≡ n + suc (length vs) = omega arith in
         ih (leb-true (suc n) 2 e) ∙ ap (λ (m : ℕ). leb m 2 && all fourLetters vs) z
-    go true e false ih = none-fits vs ∙ sym (and-false (leb (n + suc (length vs)) 2) false refl)
-    go false e y ih = let l : 2 < suc n = leb-false (suc n) 2 e in none-fits vs ∙ sym (rw (lt-leb (n + suc (length vs)) 2 (omega arith)))
+    go true e false ih = none-fits plan vs ∙ sym (and-false (leb (n + suc (length vs)) 2))
+    go false e y ih = let l : 2 < suc n = leb-false (suc n) 2 e in none-fits plan vs ∙ sym (rw (lt-leb (n + suc (length vs)) 2 (omega arith)))
 
 plan-is : (s : List ℕ) → contentFits plan 0 s ≡ fits16plan s
 unfolding fits16plan
 plan-is s = go (split 32 s) (null-split 32 s)
   where
-    none-fits : (ws : List Word) → wordsFit plan ws none ≡ false
-    none-fits [] = refl
-    none-fits (w ∷ ws) = refl
-
     begun : (x : Bool) (vs : List Word) → wordsFit plan vs (given x 1) ≡ (x && fewAerodromes mostAlternates vs)
-    begun true vs = rest-fit vs 0 (omega arith) ∙ ap (λ (m : ℕ). leb m 2 && all fourLetters vs) (zero-plus (length vs))
-      where
-        zero-plus : (n : ℕ) → 0 + n ≡ n
-        zero-plus n = omega arith
-    begun false vs = none-fits vs
+    begun true vs = rest-fit vs 0 (omega arith) ∙ ap (λ (m : ℕ). leb m 2 && all fourLetters vs) (zero-add (length vs))
+    begun false vs = none-fits plan vs
 
     go : (ws : List Word) → null ws ≡ false → wordsFit plan ws (some 0) ≡ (timed elapsedHours (first ws) && fewAerodromes mostAlternates (others ws))
     go [] h = absurd (true≢false h)
@@ -196,9 +174,6 @@ placed16plan s =
     (words-place plan planPlace plan-right plan-free plan-alive plan-more plan-closed 0 s)
 
 -- FOR THE CODE
-
-pub time-within : (most : ℕ) (w : Word) → timePlace most w ≤ length w
-time-within most w = time-place most w .within
 
 pub plan-within : (n : ℕ) (w : Word) → planPlace n w ≤ length w
 plan-within n w = plan-right n w .within
@@ -216,11 +191,4 @@ plan-next n w = go (eqb n 0) refl
     go false q e = got (leb n mostAlternates && fourLetters w) (suc n) (n + 1) (omega arith) e
 
 pub plan-stuck : (n : ℕ) (w : Word) → ended (plan .after n w) ≡ false → plan .after n w ≡ none
-plan-stuck n w = go (plan .after n w)
-  where
-    go : (o : Option ℕ) → ended o ≡ false → o ≡ none
-    go none e = refl
-    go (some k) e = absurd (true≢false e)
-
-pub word-length : (s : List ℕ) (at e : ℕ) → at ≤ e → e ≤ length s → length (take (e - at) (drop at s)) ≡ e - at
-word-length s at e h l = length-take-le (e - at) (drop at s) (let z : length (drop at s) ≡ length s - at = length-drop at s in omega arith)
+plan-stuck n w = none-of (plan .after n w)

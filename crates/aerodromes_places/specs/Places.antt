@@ -1,16 +1,15 @@
 -- The place of a content of field 13, 16 or 17 that does not fit (document 02, request 4). Assumes nothing.
 use Prim.Native.Nat.{ℕ, suc}
 use mathlib.Core.Path.{_≡_, refl}
-use mathlib.Core.Bool.{Bool, true, false, _&&_, _||_, cond}
-use mathlib.Core.List.{List, [], _∷_}
-use mathlib.Core.Option.{Option, none, some}
+use mathlib.Core.Bool.{_&&_, _||_, cond}
+use mathlib.Core.List.{List, []}
 use lib.Dec.{leb, ltb, eqb}
-use lib.ListN.{take}
 use Rattle.alphabet.specs.Text.{bytes}
 use Rattle.alphabet.specs.Alphabet.{letter, text, inAlphabet, white}
 use Rattle.text.specs.Words.{Word, split, same, textWord}
 use Rattle.shape.specs.Time.{timeFits, clockHours, elapsedHours}
 use Rattle.places.specs.Parts.{front, noMore, fixedPlace, timePlace}
+use Rattle.places.specs.Given.{given, orZero}
 use Rattle.places.specs.Words.{Words, wordsPlace}
 use Rattle.aerodromes.specs.Aerodromes.{fourLetters, timed, aerodromeOf}
 use Rattle.aerodromes.specs.Field16.{mostAlternates}
@@ -33,9 +32,6 @@ abbrev pub place16 : List ℕ → ℕ
 place16 s = aerodromePlace s
 
 -- FIELD 16 IN FPL AND SPL, by words: what is known is how many there were
-
-abbrev pub given : Bool → ℕ → Option ℕ
-given b n = cond b (some n) none
 
 abbrev pub plan : Words
 plan =
@@ -69,10 +65,6 @@ abbrev pub landedPlace : ℕ → Word → ℕ
 landedPlace n w = cond (eqb n 0) (timedPlace clockHours w) (cond (ltb 1 n) (front text w) 0)
 
 -- what is known behind a word; 0 where it may not stand there
-abbrev pub orZero : Option ℕ → ℕ
-orZero none = 0
-orZero (some j) = j
-
 abbrev pub landedAfter : ℕ → Word → ℕ
 landedAfter n w = orZero (landed .after n w)
 

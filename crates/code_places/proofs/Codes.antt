@@ -1,7 +1,7 @@
 -- The place of codes is right, for every list of codes. Assumes nothing.
 use Prim.Native.Nat.{ℕ, zero, suc, _+_, _<_, _≤_}
 use mathlib.Core.Path.{_≡_, refl, sym, ap, _∙_, subst}
-use mathlib.Core.Bool.{Bool, true, false, _&&_, _||_, not, cond, false≢true}
+use mathlib.Core.Bool.{Bool, true, false, _&&_, _||_, not, cond, false≢true, or-true}
 use mathlib.Core.List.{List, [], _∷_, _++_, append-assoc, append-nil}
 use native.Mathlib.Omega.{arith}
 use native.Mathlib.Nat.{not-suc-le-zero}
@@ -17,7 +17,6 @@ use Rattle.codes.specs.Codes.{codes, codesFit}
 use Rattle.places.specs.Place.{IsPlace}
 use Rattle.places.specs.Parts.{passes}
 use Rattle.places.proofs.Leaves.{passes-place}
-use Rattle.places.proofs.Given.{or-true}
 use Rattle.code_places.specs.Codes.{someCodes, withDigit, goesOn, codesPlace}
 
 -- CUTTING: behind some bytes a code ends, or the digit behind them belongs to the last

@@ -1,16 +1,16 @@
 -- The place of an entry is right, where the places behind its labels are. Assumes nothing.
-use Prim.Native.Nat.{ℕ, zero, suc, _<_, _≤_}
+use Prim.Native.Nat.{ℕ, zero, suc, _<_}
 use mathlib.Core.Path.{_≡_, refl, sym, ap, _∙_}
-use mathlib.Core.Bool.{Bool, true, false, _&&_, _||_, cond, false≢true}
+use mathlib.Core.Bool.{Bool, true, false, _||_, cond}
 use mathlib.Core.List.{List, [], _∷_, _++_}
 use native.Mathlib.Omega.{arith}
 use native.Mathlib.Nat.{not-suc-le-zero, le-of-suc-le-suc}
 use lib.Dec.{eqb}
-use lib.ListN.{length, take}
-use borrow.Author.Tests.{eqb-true}
+use lib.ListN.{take}
 use Rattle.text.specs.Words.{Word, same, elem, free}
 use Rattle.text.proofs.Tests.{and-both, and-false, same-self, same-eq}
 use Rattle.places.specs.Place.{IsPlace, Hopeful}
+use Rattle.places.proofs.Given.{iff, or-cond}
 use Rattle.places.proofs.Place.{place-of-language, no-place, either-place}
 use Rattle.places.proofs.Cuts.{cut-place}
 use Rattle.entries.specs.Entries.{Entry, entryFits, anyEntry, matched, anyOf, entryPlace, entriesPlace}
@@ -35,11 +35,6 @@ label-place (x ∷ l) (b ∷ s) = go (eqb x b) refl (label-place l s)
         }
     go false q ih = record { within = omega arith; before = λ k h. absurd (not-suc-le-zero h); there = λ h t. rw q }
 
-iff : (a b : Bool) → (a ≡ true → b ≡ true) → (b ≡ true → a ≡ true) → a ≡ b
-iff true b f g = sym (f refl)
-iff false true f g = g refl
-iff false false f g = refl
-
 pub same-swap : (v w : Word) → same v w ≡ same w v
 same-swap v w = iff (same v w) (same w v) (λ e. ap (same w) (same-eq v w e) ∙ same-self w) (λ e. ap (same v) (same-eq w v e) ∙ same-self v)
 
@@ -47,12 +42,8 @@ same-swap v w = iff (same v w) (same w v) (λ e. ap (same w) (same-eq v w e) ∙
 pub any-label-place : (vs : List Word) (s : List ℕ) → IsPlace (λ w. elem w vs) s (anyOf vs s)
 any-label-place [] s = no-place s
 any-label-place (v ∷ vs) s =
-    place-of-language (λ w. same v w || elem w vs) (λ w. elem w (v ∷ vs)) (λ w. rw (same-swap v w) (or (same w v) (elem w vs))) s (anyOf (v ∷ vs) s)
+    place-of-language (λ w. same v w || elem w vs) (λ w. elem w (v ∷ vs)) (λ w. rw (same-swap v w) (or-cond (same w v) (elem w vs))) s (anyOf (v ∷ vs) s)
     (either-place (same v) (λ w. elem w vs) s (matched v s) (anyOf vs s) (label-place v s) (any-label-place vs s))
-  where
-    or : (a b : Bool) → (a || b) ≡ cond a true b
-    or true b = refl
-    or false b = refl
 
 -- what an entry has to give
 pub record Right (e : Entry) : Type 0 where

@@ -1,16 +1,18 @@
 -- One of some labels of one length, and what may follow it: the place. Assumes nothing.
 use Prim.Native.Nat.{ℕ, suc, _+_, _≤_}
 use mathlib.Core.Path.{_≡_, refl, sym, ap, _∙_, subst}
-use mathlib.Core.Bool.{Bool, true, false, _&&_, _||_, cond}
+use mathlib.Core.Bool.{Bool, true, false, _&&_, _||_, cond, and-false}
 use mathlib.Core.List.{List, [], _∷_, _++_}
 use native.Mathlib.Omega.{arith}
-use lib.Dec.{leb, eqb}
+use native.Mathlib.Nat.{zero-add, suc-add}
+use lib.Dec.{eqb}
 use lib.ListN.{length, take, drop}
-use borrow.Author.Tests.{leb-true, le-leb, eqb-true, eq-eqb}
+use borrow.Author.Tests.{eqb-true, eq-eqb}
 use Rattle.text.specs.Words.{Word, all, same, elem}
-use Rattle.text.proofs.Tests.{both, and-false}
+use Rattle.text.proofs.Tests.{both}
 use Rattle.places.specs.Place.{IsPlace}
 use Rattle.places.specs.Parts.{larger, firstFits, firstPlace}
+use Rattle.places.proofs.Larger.{larger-one, larger-second, larger-under}
 use Rattle.places.proofs.Place.{place-of-language, no-place, either-place}
 use Rattle.places.proofs.Leaves.{first-place}
 use Rattle.entries.specs.Entries.{matched, anyOf}
@@ -24,14 +26,6 @@ matched-le (x ∷ l) (b ∷ s) = go (eqb x b) (matched-le l s)
     go : (u : Bool) → matched l s ≤ length l → cond u (suc (matched l s)) 0 ≤ suc (length l)
     go true h = omega arith
     go false h = omega arith
-
--- a larger place and a smaller one
-larger-left : (p q : ℕ) → q ≤ p → larger p q ≡ p
-larger-left p q o = go (leb p q) refl
-  where
-    go : (u : Bool) → leb p q ≡ u → cond u q p ≡ p
-    go true r = let t : p ≤ q = leb-true p q r in omega arith
-    go false r = refl
 
 -- ONE LABEL, and g behind it
 
@@ -55,15 +49,13 @@ module _ (g : List ℕ → Bool) (pg : List ℕ → ℕ) where
       go false e = refl
 
   place-is : (l s : List ℕ) → labelPlace l s ≡ cond (same l (take (length l) s)) (length l + pg (drop (length l) s)) (matched l s)
-  place-is [] s = let z : 0 + pg s ≡ pg s = omega arith in sym z
+  place-is [] s = sym (zero-add (pg s))
   place-is (x ∷ l) [] = refl
   place-is (x ∷ l) (b ∷ s) = go (eqb x b) (same l (take (length l) s)) (place-is l s)
     where
       go : (u v : Bool) → labelPlace l s ≡ cond v (length l + pg (drop (length l) s)) (matched l s)
           → cond u (suc (labelPlace l s)) 0 ≡ cond (u && v) (suc (length l) + pg (drop (length l) s)) (cond u (suc (matched l s)) 0)
-      go true true q =
-          let z : suc (length l) + pg (drop (length l) s) ≡ suc (length l + pg (drop (length l) s)) = omega arith in
-          ap suc q ∙ sym z
+      go true true q = ap suc q ∙ sym (suc-add (length l) (pg (drop (length l) s)))
       go true false q = ap suc q
       go false v q = refl
 
@@ -84,7 +76,7 @@ module _ (g : List ℕ → Bool) (pg : List ℕ → ℕ) where
 
     label-right : (l s : List ℕ) → IsPlace (labelFits l) s (labelPlace l s)
     label-right [] s = right s
-    label-right (x ∷ l) s = first-place (λ b. eqb x b) (λ b. labelFits l) (λ b. labelPlace l) (λ b. label-right l) (λ b q. (l ++ e, one-fits l)) s
+    label-right (x ∷ l) s = first-place (λ b. eqb x b) (λ b. labelFits l) (λ b. labelPlace l) (λ b q. label-right l) (λ b q. (l ++ e, one-fits l)) s
 
     some-right : (ls : List Word) (s : List ℕ) → IsPlace (someFit ls) s (somePlace ls s)
     some-right [] s = no-place s
@@ -102,11 +94,7 @@ module _ (g : List ℕ → Bool) (pg : List ℕ → ℕ) where
         let q = both (eqb (length l) n) (sized ls) h in
         let m = matched-le l s in
         let k : length l ≡ n = eqb-true (length l) n (q .0) in
-        go (leb (matched l s) (anyOf ls s)) (any-le s ls (q .1)) (omega arith)
-      where
-        go : (u : Bool) → anyOf ls s ≤ n → matched l s ≤ n → cond u (anyOf ls s) (matched l s) ≤ n
-        go true x y = x
-        go false x y = y
+        larger-under (matched l s) (anyOf ls s) n (omega arith) (any-le s ls (q .1))
 
     -- the bytes that begin with one of them
     abbrev named : List Word → List ℕ → Bool
@@ -123,7 +111,7 @@ module _ (g : List ℕ → Bool) (pg : List ℕ → ℕ) where
       where
         go : (u v : Bool) → someFit ls s ≡ (elem (take n s) ls && v) → ((u && v) || someFit ls s) ≡ (cond u true (elem (take n s) ls) && v)
         go true true e = refl
-        go true false e = e ∙ and-false (elem (take n s) ls) false refl
+        go true false e = e ∙ and-false (elem (take n s) ls)
         go false v e = e
 
     -- the place: behind the label, or how far a label is followed
@@ -149,9 +137,9 @@ module _ (g : List ℕ → Bool) (pg : List ℕ → ℕ) where
 
         go : (u v : Bool) → matched l s ≤ n → anyOf ls s ≤ n
             → larger (cond u there (matched l s)) (cond v there (anyOf ls s)) ≡ cond (cond u true v) there (larger (matched l s) (anyOf ls s))
-        go true true x y = larger-left there there (omega arith)
-        go true false x y = larger-left there (anyOf ls s) (omega arith)
-        go false true x y = rw (le-leb (matched l s) there (omega arith))
+        go true true x y = larger-one there there (omega arith)
+        go true false x y = larger-one there (anyOf ls s) (omega arith)
+        go false true x y = larger-second (matched l s) there (omega arith)
         go false false x y = refl
 
 -- THE PLACE

@@ -1,7 +1,7 @@
 -- One of some labels, an oblique, and a content whose form goes by the label: an entry of field 22, an item of field 18. Assumes nothing.
 use Prim.Native.Nat.{ℕ, suc}
 use mathlib.Core.Path.{_≡_, refl}
-use mathlib.Core.Bool.{Bool, true, false, _&&_, _||_, cond}
+use mathlib.Core.Bool.{Bool, false, _&&_, _||_, cond}
 use mathlib.Core.List.{List, [], _∷_}
 use lib.Dec.{eqb}
 use Rattle.alphabet.specs.Text.{bytes}

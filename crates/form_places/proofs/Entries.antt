@@ -1,13 +1,13 @@
 -- An entry of field 22 is one of eight labels with a content whose form goes by the label, and so has their place. Assumes nothing.
 use Prim.Native.Nat.{ℕ, zero, suc, _+_, _<_, _≤_}
 use mathlib.Core.Path.{_≡_, refl, sym, ap, ap₂, subst, _∙_}
-use mathlib.Core.Bool.{Bool, true, false, _&&_, _||_, cond, false≢true}
+use mathlib.Core.Bool.{Bool, true, false, _&&_, _||_, cond, or-true, false≢true}
 use mathlib.Core.List.{List, [], _∷_}
 use native.Mathlib.Omega.{arith}
-use lib.Dec.{leb, ltb, eqb}
+use lib.Dec.{ltb, eqb}
 use lib.ListN.{length}
 use lib.Seq.{length-take-le}
-use borrow.Author.Tests.{leb-true, le-leb, lt-ltb, ltb-true, ltb-false, eqb-true, eqb-false}
+use borrow.Author.Tests.{lt-ltb, ltb-true, ltb-false, eqb-true, eqb-false}
 use Rattle.alphabet.specs.Text.{bytes}
 use Rattle.text.specs.Words.{Word, holds, upTo, before, behind, same, rank}
 use Rattle.text.proofs.Tests.{both, and-both, and-false, same-eq, same-self}
@@ -16,16 +16,18 @@ use Rattle.shape.specs.Shape.{letters}
 use Rattle.shape.specs.Time.{timeFits}
 use Rattle.places.specs.Place.{IsPlace}
 use Rattle.places.specs.Parts.{larger}
+use Rattle.places.proofs.Given.{iff}
+use Rattle.places.proofs.Larger.{larger-one, larger-second, larger-under}
 use Rattle.places.proofs.Place.{place-of-language}
 use Rattle.entries.specs.Entries.{Entry, entryFits, anyEntry, matched, anyOf, entryPlace, entriesPlace}
 use Rattle.entries.proofs.Entries.{AllRight, none-left, and-then, label-place, entries-place}
-use Rattle.head.specs.Field7.{fits7, identificationFits}
+use Rattle.head.specs.Field7.{fits7}
 use Rattle.head.specs.Field8.{fits8}
 use Rattle.head.specs.Field9.{fits9, countFits, aircraftFits}
 use Rattle.equipment.specs.Field10.{fits10, valid10, present}
 use Rattle.aerodromes.specs.Aerodromes.{fourLetters, timed}
 use Rattle.aerodromes.specs.Field16.{fits16plan}
-use Rattle.route.specs.Levels.{speeds, levels, starts, changes, climbs}
+use Rattle.route.specs.Levels.{speeds, levels, starts}
 use Rattle.route.specs.Points.{within, radialFits, indicators, nameFits, pointFits}
 use Rattle.route.specs.Field15.{pairFits, elementFits, fits15}
 use Rattle.other.specs.Field18.{fitsIn}
@@ -38,30 +40,6 @@ use Rattle.forms.specs.Field22.{labels, labelOf, fieldNamed, whichOf, fits22}
 use Rattle.forms.proofs.Labels.{label-ranked, ranked-label}
 use Rattle.forms.proofs.Field22.{fitting}
 use Rattle.form_places.specs.Places.{placeNamed, place22}
-
-iff : (a b : Bool) → (a ≡ true → b ≡ true) → (b ≡ true → a ≡ true) → a ≡ b
-iff true b f g = sym (f refl)
-iff false true f g = g refl
-iff false false f g = refl
-
--- THE LARGER OF TWO PLACES
-
-larger-under : (p q v : ℕ) → p ≤ v → q ≤ v → larger p q ≤ v
-larger-under p q v a b = go (leb p q)
-  where
-    go : (x : Bool) → cond x q p ≤ v
-    go true = b
-    go false = a
-
-larger-second : (p q : ℕ) → p ≤ q → larger p q ≡ q
-larger-second p q h = rw (le-leb p q h)
-
-larger-one : (p q : ℕ) → q ≤ p → larger p q ≡ p
-larger-one p q h = go (leb p q) refl
-  where
-    go : (x : Bool) → leb p q ≡ x → cond x q p ≡ p
-    go true e = let l : p ≤ q = leb-true p q e in omega arith
-    go false e = refl
 
 -- AN ENTRY OF A RANK from 1 to 8 is one of field 22's
 
@@ -115,10 +93,6 @@ fits-any : (m k n : ℕ) → k ≤ n → n < k + m → (s : List ℕ) → entryF
 fits-any zero k n l h s e = absurd (omega arith)
 fits-any (suc m) k n l h s e = go (λ g. fits-any m (suc k) n g (omega arith) s e) (ltb k n) refl
   where
-    or-true : (x : Bool) → (x || true) ≡ true
-    or-true true = refl
-    or-true false = refl
-
     go : (suc k ≤ n → anyEntry (from (suc k) m) s ≡ true) → (x : Bool) → ltb k n ≡ x → (entryFits (entryNamed k) s || anyEntry (from (suc k) m) s) ≡ true
     go ih true q = rw (ih (ltb-true k n q)) (or-true (entryFits (entryNamed k) s))
     go ih false q =

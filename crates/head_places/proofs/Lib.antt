@@ -1,2 +1,3 @@
 pub mod Places
 pub mod Number3
+pub mod Reached

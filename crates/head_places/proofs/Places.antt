@@ -1,19 +1,20 @@
 -- The places of fields 7, 8 and 9 are right. Assumes nothing.
-use Prim.Native.Nat.{ℕ, zero, suc, _+_, _<_, _≤_}
-use mathlib.Core.Path.{_≡_, refl, sym, ap, _∙_, subst}
-use mathlib.Core.Bool.{Bool, true, false, _&&_, _||_, not, cond, Bool·beq, false≢true, true≢false}
+use Prim.Native.Nat.{ℕ, suc, _≤_}
+use mathlib.Core.Path.{_≡_, refl, ap, _∙_, subst}
+use mathlib.Core.Bool.{Bool, true, false, _&&_, _||_, not, cond, Bool·beq, false≢true, and-true, and-false, or-true}
 use mathlib.Core.List.{List, [], _∷_}
 use native.Mathlib.Omega.{arith}
-use lib.Dec.{leb, ltb, eqb, leb·suc-suc}
-use lib.ListN.{length, take, drop, getD}
-use borrow.Author.Tests.{ne-eqb, leb-true, leb-false, le-leb, lt-leb}
+use lib.Dec.{leb, eqb, leb·suc-suc}
+use lib.ListN.{length, take, getD}
+use borrow.Author.Tests.{ne-eqb, leb-true, leb-false, lt-leb}
 use Rattle.alphabet.specs.Text.{bytes}
-use Rattle.alphabet.specs.Alphabet.{oneOf, letter, digit, sign}
-use Rattle.text.specs.Words.{Word, all, null, free, upTo, holds, before, behind}
-use Rattle.text.proofs.Tests.{both, and-both, and-false, all-free}
+use Rattle.alphabet.specs.Alphabet.{letter, digit, sign}
+use Rattle.text.specs.Words.{all, null, free, upTo, holds, before, behind}
+use Rattle.text.proofs.Tests.{both, all-free}
 use Rattle.shape.specs.Shape.{fits, letters}
 use Rattle.places.specs.Place.{IsPlace}
-use Rattle.places.specs.Parts.{front, firstFits, firstPlace, noMore, runFits, runPlace, along, thenFits, thenPlace, cutPlace, inFront, fromThere}
+use Rattle.places.specs.Parts.{between, front, firstFits, firstPlace, noMore, runFits, runPlace, along, thenFits, thenPlace}
+use Rattle.places.proofs.Larger.{larger-first}
 use Rattle.places.proofs.Place.{place-of-language, either-place}
 use Rattle.places.proofs.Parts.{stops, then-place}
 use Rattle.places.proofs.Leaves.{nil-place, nil-if-place, maybe-place, first-place, run-place, along-place, front-all}
@@ -21,13 +22,14 @@ use Rattle.places.proofs.Cuts.{cut-place, may-place}
 use Rattle.head.specs.Runs.{lead}
 use Rattle.head.specs.Field7.{identificationFits, fits7}
 use Rattle.head.specs.Field8.{rulesFit, flightFits, fits8}
-use Rattle.head.specs.Field9.{typeFits, wakeFits, wakeOf, isWake, countFits, aircraftFits, number, aircraft, fits9}
-use Rattle.head_places.specs.Places.{place7, place8, nonZero, countPlace, typePlace, wakePlace, aircraftPlace, place9}
+use Rattle.head.specs.Field9.{typeFits, wakeFits, isWake, countFits, aircraftFits, fits9}
+use Rattle.head_places.specs.Places.{place7, place8, countPlace, typePlace, wakePlace, aircraftPlace, place9}
 
 -- FIELD 7
 
 run-free : (least most : ℕ) (w : List ℕ) → runFits least most sign w ≡ true → free 47 w ≡ true
-run-free least most w e = all-free sign 47 refl w (both (leb (length w) most) (all sign w) (both (leb least (length w)) (leb (length w) most && all sign w) e .1) .1)
+run-free least most w e =
+    all-free sign 47 refl w (both (leb (length w) most) (all sign w) (both (leb least (length w)) (leb (length w) most && all sign w) e .1) .1)
 
 pub placed7 : (s : List ℕ) → IsPlace fits7 s (place7 s)
 unfolding fits7 place7 letters
@@ -43,25 +45,17 @@ two-bytes s = firstFits rulesFit (λ a w. null w || firstFits flightFits (λ b. 
 eight : (s : List ℕ) → two-bytes s ≡ fits8 s
 unfolding fits8 two-bytes
 eight [] = refl
-eight (a ∷ []) = yes (rulesFit a)
-  where
-    yes : (x : Bool) → (x && true) ≡ x
-    yes true = refl
-    yes false = refl
-eight (a ∷ (b ∷ [])) = ap (λ (x : Bool). rulesFit a && x) (yes (flightFits b))
-  where
-    yes : (x : Bool) → (x && true) ≡ x
-    yes true = refl
-    yes false = refl
-eight (a ∷ (b ∷ (c ∷ s))) = and-false (rulesFit a) (flightFits b && false) (and-false (flightFits b) false refl)
+eight (a ∷ []) = and-true (rulesFit a)
+eight (a ∷ (b ∷ [])) = ap (λ (x : Bool). rulesFit a && x) (and-true (flightFits b))
+eight (a ∷ (b ∷ (c ∷ s))) = ap (λ (x : Bool). rulesFit a && x) (and-false (flightFits b)) ∙ and-false (rulesFit a)
 
 pub placed8 : (s : List ℕ) → IsPlace fits8 s (place8 s)
 unfolding place8 two-bytes
 placed8 s =
     place-of-language two-bytes fits8 eight s (firstPlace rulesFit (λ a. firstPlace flightFits (λ b. noMore)) s)
     (first-place rulesFit (λ a w. null w || firstFits flightFits (λ b. null) w) (λ a. firstPlace flightFits (λ b. noMore))
-    (λ a w. maybe-place (firstFits flightFits (λ b. null)) w (firstPlace flightFits (λ b. noMore) w)
-    (first-place flightFits (λ b. null) (λ b. noMore) (λ b. nil-place) (λ b e. ([], refl)) w))
+    (λ a e w. maybe-place (firstFits flightFits (λ b. null)) w (firstPlace flightFits (λ b. noMore) w)
+    (first-place flightFits (λ b. null) (λ b. noMore) (λ b e. nil-place) (λ b e. ([], refl)) w))
     (λ a e. ([], refl)) s)
 
 -- FIELD 9
@@ -69,17 +63,13 @@ placed8 s =
 -- the wake
 wake : (w : List ℕ) → firstFits wakeFits (λ a. null) w ≡ isWake w
 wake [] = refl
-wake (b ∷ []) = yes (wakeFits b)
-  where
-    yes : (x : Bool) → (x && true) ≡ x
-    yes true = refl
-    yes false = refl
-wake (b ∷ (c ∷ w)) = rw (ne-eqb (suc (suc (length w))) 1 (omega arith)) (and-false (wakeFits b) false refl)
+wake (b ∷ []) = and-true (wakeFits b)
+wake (b ∷ (c ∷ w)) = rw (ne-eqb (suc (suc (length w))) 1 (omega arith)) (and-false (wakeFits b))
 
 wake-right : (s : List ℕ) → IsPlace isWake s (wakePlace s)
 wake-right s =
     place-of-language (firstFits wakeFits (λ a. null)) isWake wake s (wakePlace s)
-    (first-place wakeFits (λ a. null) (λ a. noMore) (λ a. nil-place) (λ a e. ([], refl)) s)
+    (first-place wakeFits (λ a. null) (λ a. noMore) (λ a e. nil-place) (λ a e. ([], refl)) s)
 
 -- the type
 type : (w : List ℕ) → firstFits letter (λ a. runFits 1 3 sign) w ≡ typeFits w
@@ -96,7 +86,7 @@ type (b ∷ w) = rw (leb·suc-suc 1 (length w), leb·suc-suc (length w) 3) (go (
 type-right : (s : List ℕ) → IsPlace typeFits s (typePlace s)
 type-right s =
     place-of-language (firstFits letter (λ a. runFits 1 3 sign)) typeFits type s (typePlace s)
-    (first-place letter (λ a. runFits 1 3 sign) (λ a. runPlace 3 sign) (λ a. run-place 1 3 sign (omega arith) 65 refl) (λ a e. (65 ∷ [], refl)) s)
+    (first-place letter (λ a. runFits 1 3 sign) (λ a. runPlace 3 sign) (λ a e. run-place 1 3 sign (omega arith) 65 refl) (λ a e. (65 ∷ [], refl)) s)
 
 type-free : (w : List ℕ) → typeFits w ≡ true → free 47 w ≡ true
 type-free w e =
@@ -115,7 +105,7 @@ few w = all digit w && countFits w
 abbrev second : ℕ → List ℕ → Bool
 second a w = (leb 50 a && null w) || firstFits digit (λ b. null) w
 
-count : (w : List ℕ) → (null w || firstFits nonZero second w) ≡ few w
+count : (w : List ℕ) → (null w || firstFits (between 49 57) second w) ≡ few w
 unfolding countFits
 count [] = refl
 count (a ∷ []) = go (leb 50 a) refl (leb 49 a) refl (leb 48 a) refl (leb a 57)
@@ -147,7 +137,7 @@ count (a ∷ (b ∷ [])) = go (leb 49 a) refl (leb 48 a) refl (leb a 57) (leb 50
     go false f true g true x false = refl
     go false f true g false x d = refl
     go false f false g u x d = refl
-count (a ∷ (b ∷ (c ∷ w))) = go (nonZero a) (leb 50 a) (digit b) (all digit (a ∷ (b ∷ (c ∷ w))))
+count (a ∷ (b ∷ (c ∷ w))) = go (between 49 57 a) (leb 50 a) (digit b) (all digit (a ∷ (b ∷ (c ∷ w))))
   where
     go : (y x d z : Bool) → (y && ((x && false) || (d && false))) ≡ (z && false)
     go true true true true = refl
@@ -163,20 +153,16 @@ count (a ∷ (b ∷ (c ∷ w))) = go (nonZero a) (leb 50 a) (digit b) (all digit
 
 count-right : (s : List ℕ) → IsPlace few s (countPlace s)
 count-right s =
-    place-of-language (λ w. null w || firstFits nonZero second w) few count s (countPlace s)
-    (maybe-place (firstFits nonZero second) s (countPlace s)
-    (first-place nonZero second (λ a. firstPlace digit (λ b. noMore)) more (λ a e. (48 ∷ [], or-true (leb 50 a && false))) s))
+    place-of-language (λ w. null w || firstFits (between 49 57) second w) few count s (countPlace s)
+    (maybe-place (firstFits (between 49 57) second) s (countPlace s)
+    (first-place (between 49 57) second (λ a. firstPlace digit (λ b. noMore)) more (λ a e. (48 ∷ [], or-true (leb 50 a && false))) s))
   where
-    or-true : (x : Bool) → (x || true) ≡ true
-    or-true true = refl
-    or-true false = refl
-
-    more : (a : ℕ) (w : List ℕ) → IsPlace (second a) w (firstPlace digit (λ b. noMore) w)
-    more a w =
+    more : (a : ℕ) → between 49 57 a ≡ true → (w : List ℕ) → IsPlace (second a) w (firstPlace digit (λ b. noMore) w)
+    more a e w =
         let n = firstPlace digit (λ b. noMore) w in
-        subst (IsPlace (second a) w) (rw (le-leb 0 n (omega arith)))
+        subst (IsPlace (second a) w) (larger-first n)
         (either-place (λ v. leb 50 a && null v) (firstFits digit (λ b. null)) w 0 n (nil-if-place (leb 50 a) w)
-        (first-place digit (λ b. null) (λ b. noMore) (λ b. nil-place) (λ b e. ([], refl)) w))
+        (first-place digit (λ b. null) (λ b. noMore) (λ b e. nil-place) (λ b e. ([], refl)) w))
 
 -- what stands behind the digits begins with none
 begins : (w : List ℕ) → aircraftFits w ≡ true → stops digit w ≡ true
@@ -195,7 +181,7 @@ begins (b ∷ w) e =
         let y = both (leb (length v) 4) (letter b && all sign v) (x .1) in
         let z = both (letter b) (all sign v) (y .1) .0 in
         let l : 65 ≤ b = leb-true 65 b (both (leb 65 b) (leb b 90) z .0) in
-        rw (lt-leb b 57 (omega arith), and-false (leb 48 b) false refl)
+        rw (lt-leb b 57 (omega arith), and-false (leb 48 b))
 
 one : aircraftFits (bytes "AA/H") ≡ true
 unfolding aircraftFits

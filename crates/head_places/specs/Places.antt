@@ -1,15 +1,15 @@
 -- The place of a content of field 3, 7, 8 or 9 that does not fit (document 02, request 4). Assumes nothing.
 use Prim.Native.Nat.{ℕ, _+_}
 use mathlib.Core.Path.{_≡_, refl}
-use mathlib.Core.Bool.{Bool, true, false, _&&_, cond}
-use mathlib.Core.List.{List, [], _∷_}
-use lib.Dec.{leb, eqb}
+use mathlib.Core.Bool.{Bool, cond}
+use mathlib.Core.List.{List}
+use lib.Dec.{eqb}
 use lib.ListN.{take, drop}
 use Rattle.alphabet.specs.Text.{bytes}
 use Rattle.alphabet.specs.Alphabet.{letter, digit, sign}
 use Rattle.text.specs.Words.{Word, elem}
 use Rattle.shape.specs.Shape.{letters}
-use Rattle.places.specs.Parts.{firstPlace, noMore, runPlace, along, fixedPlace, thenPlace, cutPlace}
+use Rattle.places.specs.Parts.{firstPlace, noMore, twoDigits, runPlace, along, fixedPlace, thenPlace, cutPlace}
 use Rattle.entries.specs.Entries.{anyOf}
 use Rattle.head.specs.Field3.{types, unit}
 use Rattle.head.specs.Field7.{identificationFits}
@@ -18,20 +18,24 @@ use Rattle.head.specs.Field9.{typeFits, wakeFits, countFits}
 
 -- FIELD 3: a type, and up to two numbers: 1 to 4 letters, `/`, 1 to 4 letters, three digits, and what may follow
 
-abbrev pub digitsPlace : (List ℕ → ℕ) → Word → ℕ
-digitsPlace pg w = fixedPlace digit 3 pg w
+abbrev pub unitThen : (List ℕ → ℕ) → Word → ℕ
+unitThen pg w = thenPlace letter unit (runPlace 4 letter) pg w
 
-abbrev pub receiverPlace : (List ℕ → ℕ) → Word → ℕ
-receiverPlace pg w = thenPlace letter unit (runPlace 4 letter) (digitsPlace pg) w
+abbrev pub obliqueThen : (List ℕ → ℕ) → Word → ℕ
+obliqueThen pg w = firstPlace (λ b. eqb b 47) (λ b. unitThen pg) w
 
-abbrev pub obliquePlace : (List ℕ → ℕ) → Word → ℕ
-obliquePlace pg w = firstPlace (λ b. eqb b 47) (λ b. receiverPlace pg) w
+abbrev pub toDigits : (List ℕ → ℕ) → Word → ℕ
+toDigits pg w = unitThen (obliqueThen pg) w
 
 abbrev pub numberThen : (List ℕ → ℕ) → Word → ℕ
-numberThen pg w = thenPlace letter unit (runPlace 4 letter) (obliquePlace pg) w
+numberThen pg w = toDigits (fixedPlace digit 3 pg) w
 
 abbrev pub numbersPlace : Word → ℕ
 numbersPlace w = numberThen (numberThen noMore) w
+
+-- whatever follows: its place is counted from `at`, or, where the bytes do not go on, is `at`
+abbrev pub Reaches : ((List ℕ → ℕ) → Word → ℕ) → Word → ℕ → Bool → Type 0
+Reaches f w at on = (pg : List ℕ → ℕ) → f pg w ≡ cond on (at + pg (drop at w)) at
 
 unfoldable pub place3 : List ℕ → ℕ
 place3 s = cond (elem (take 3 s) types) (3 + numbersPlace (drop 3 s)) (anyOf types s)
@@ -48,11 +52,8 @@ place8 s = firstPlace rulesFit (λ a. firstPlace flightFits (λ b. noMore)) s
 
 -- FIELD 9: digits, a type, `/` and a byte
 
-abbrev pub nonZero : ℕ → Bool
-nonZero b = leb 49 b && leb b 57
-
 abbrev pub countPlace : Word → ℕ
-countPlace w = firstPlace nonZero (λ a. firstPlace digit (λ b. noMore)) w
+countPlace w = twoDigits 49 57 w
 
 abbrev pub typePlace : Word → ℕ
 typePlace w = firstPlace letter (λ a. runPlace 3 sign) w
@@ -68,8 +69,9 @@ place9 s = thenPlace digit countFits countPlace aircraftPlace s
 
 -- EXAMPLES, computed
 
-placed-3 : (place3 (bytes "CNLX") ≡ 4) × (place3 (bytes "CNX") ≡ 2) × (place3 (bytes "XYZ") ≡ 0) × (place3 (bytes "CHGA/F01") ≡ 8) × (place3 (bytes "CHGA/F0160") ≡ 9)
-    × (place3 (bytes "CHGA/F016A/F014A") ≡ 15) × (place3 (bytes "CHGABCDE/F016") ≡ 7) × (place3 (bytes "CHG/F016") ≡ 3) × (place3 (bytes "CHG A/F016") ≡ 3) × (place3 (bytes "CN") ≡ 2)
+placed-3 : (place3 (bytes "CNLX") ≡ 4) × (place3 (bytes "CNX") ≡ 2) × (place3 (bytes "XYZ") ≡ 0) × (place3 (bytes "CHGA/F01") ≡ 8)
+    × (place3 (bytes "CHGA/F0160") ≡ 9) × (place3 (bytes "CHGA/F016A/F014A") ≡ 15) × (place3 (bytes "CHGABCDE/F016") ≡ 7) × (place3 (bytes "CHG/F016") ≡ 3)
+    × (place3 (bytes "CHG A/F016") ≡ 3) × (place3 (bytes "CN") ≡ 2)
 unfolding place3 types
 placed-3 = (refl, refl, refl, refl, refl, refl, refl, refl, refl, refl)
 

@@ -1,112 +1,90 @@
 // Where a content of field 3, 7, 8 or 9 that does not fit goes wrong.
 ghost use mathlib.Core.Path.{_≡_};
+ghost use Prim.Native.Nat.{_≤_};
+ghost use lib.ListN.{length};
 ghost use Rattle.places.specs.Parts.{noMore};
-ghost use Rattle.head_places.specs.Places.{digitsPlace, receiverPlace, obliquePlace, numberThen, place3};
-ghost use Rattle.head_places.specs.Places.{place7, place8, countPlace, typePlace, wakePlace, aircraftPlace, place9};
+ghost use Rattle.head_places.specs.Places.{Reaches, unitThen, toDigits, numberThen, numbersPlace, place3};
+ghost use Rattle.head_places.specs.Places.{place7, place8, typePlace, wakePlace, aircraftPlace, place9};
 use text::Kind;
 
-// The place of a last number: its digits.
-fn last_digits(w: &[u8]) -> usize
-    ensures { λ r. ⌜ r ≡ digitsPlace noMore (now (w .entry)) ⌝ }
-{
-    let n = places::front_of(Kind::Digit, w);
-    if n < 3 {
-        return n;
-    }
-    3
+// The standard types.
+pub const TYPES: [u8; 63] = *b"FPL CHG CNL DLA DEP ARR RQP RQS SPL ALR RCF CPL EST CDN ACP LAM";
+
+// How far some bytes go: to where what follows them begins, or, not on, to where they are stuck.
+struct Reach {
+    at: usize,
+    on: bool,
 }
 
-// Its second letters, and its digits.
-fn last_receiver(w: &[u8]) -> usize
-    ensures { λ r. ⌜ r ≡ receiverPlace noMore (now (w .entry)) ⌝ }
+// Of 1 to 4 letters.
+fn past_unit(w: &[u8]) -> Reach
+    ensures { λ r. ⌜ (r .at ≤ length (now (w .entry))) × Reaches unitThen (now (w .entry)) (r .at) (r .on) ⌝ }
 {
     let n = places::front_of(Kind::Letter, w);
+    let stuck = places::run_place(4, Kind::Letter, &w[..n]);
     if n == w.len() {
-        return places::run_place(4, Kind::Letter, &w[..n]);
+        return Reach {
+            at: stuck,
+            on: false,
+        };
     }
     if !head::is_unit(&w[..n]) {
-        return places::run_place(4, Kind::Letter, &w[..n]);
+        return Reach {
+            at: stuck,
+            on: false,
+        };
     }
-    n + last_digits(&w[n..])
+    Reach { at: n, on: true }
 }
 
-// The same behind an oblique.
-fn last_oblique(w: &[u8]) -> usize
-    ensures { λ r. ⌜ r ≡ obliquePlace noMore (now (w .entry)) ⌝ }
+// Of a number, to its digits.
+fn to_digits(w: &[u8]) -> Reach
+    ensures { λ r. ⌜ (r .at ≤ length (now (w .entry))) × Reaches toDigits (now (w .entry)) (r .at) (r .on) ⌝ }
 {
-    if w.len() == 0 {
-        return 0;
+    let first = past_unit(w);
+    let n = first.at;
+    if !first.on {
+        return Reach { at: n, on: false };
     }
-    if w[0] != b'/' {
-        return 0;
+    if n == w.len() {
+        return Reach { at: n, on: false };
     }
-    1 + last_receiver(&w[1..])
+    if w[n] != b'/' {
+        return Reach { at: n, on: false };
+    }
+    let second = past_unit(&w[n + 1..]);
+    Reach {
+        at: n + 1 + second.at,
+        on: second.on,
+    }
 }
 
-// The whole.
-fn last_number(w: &[u8]) -> usize
+// The place of a last number.
+fn place_number(w: &[u8]) -> usize
     ensures { λ r. ⌜ r ≡ numberThen noMore (now (w .entry)) ⌝ }
 {
-    let n = places::front_of(Kind::Letter, w);
-    if n == w.len() {
-        return places::run_place(4, Kind::Letter, &w[..n]);
-    }
-    if !head::is_unit(&w[..n]) {
-        return places::run_place(4, Kind::Letter, &w[..n]);
-    }
-    n + last_oblique(&w[n..])
-}
-
-// The place of a first number, which another may follow: its digits.
-fn first_digits(w: &[u8]) -> usize
-    ensures { λ r. ⌜ r ≡ digitsPlace (numberThen noMore) (now (w .entry)) ⌝ }
-{
-    let n = places::front_of(Kind::Digit, w);
-    if n < 3 {
+    let letters = to_digits(w);
+    let n = letters.at;
+    if !letters.on {
         return n;
     }
-    3 + last_number(&w[3..])
+    n + places::run_place(3, Kind::Digit, &w[n..])
 }
 
-// Its second letters, and its digits.
-fn first_receiver(w: &[u8]) -> usize
-    ensures { λ r. ⌜ r ≡ receiverPlace (numberThen noMore) (now (w .entry)) ⌝ }
+// The place of a number that another may follow.
+fn place_numbers(w: &[u8]) -> usize
+    ensures { λ r. ⌜ r ≡ numbersPlace (now (w .entry)) ⌝ }
 {
-    let n = places::front_of(Kind::Letter, w);
-    if n == w.len() {
-        return places::run_place(4, Kind::Letter, &w[..n]);
+    let letters = to_digits(w);
+    let n = letters.at;
+    if !letters.on {
+        return n;
     }
-    if !head::is_unit(&w[..n]) {
-        return places::run_place(4, Kind::Letter, &w[..n]);
+    let digits = places::front_of(Kind::Digit, &w[n..]);
+    if digits < 3 {
+        return n + digits;
     }
-    n + first_digits(&w[n..])
-}
-
-// The same behind an oblique.
-fn first_oblique(w: &[u8]) -> usize
-    ensures { λ r. ⌜ r ≡ obliquePlace (numberThen noMore) (now (w .entry)) ⌝ }
-{
-    if w.len() == 0 {
-        return 0;
-    }
-    if w[0] != b'/' {
-        return 0;
-    }
-    1 + first_receiver(&w[1..])
-}
-
-// The whole.
-fn first_number(w: &[u8]) -> usize
-    ensures { λ r. ⌜ r ≡ numberThen (numberThen noMore) (now (w .entry)) ⌝ }
-{
-    let n = places::front_of(Kind::Letter, w);
-    if n == w.len() {
-        return places::run_place(4, Kind::Letter, &w[..n]);
-    }
-    if !head::is_unit(&w[..n]) {
-        return places::run_place(4, Kind::Letter, &w[..n]);
-    }
-    n + first_oblique(&w[n..])
+    n + 3 + place_number(&w[n + 3..])
 }
 
 // The place of a content of field 3 that does not fit.
@@ -114,21 +92,12 @@ pub fn place_field3(s: &[u8]) -> usize
     ensures { λ r. ⌜ r ≡ place3 (now (s .entry)) ⌝ }
 {
     if s.len() < 3 {
-        return entries::any_of(
-            b"FPL CHG CNL DLA DEP ARR RQP RQS SPL ALR RCF CPL EST CDN ACP LAM",
-            s,
-        );
+        return entries::any_of(&TYPES, s);
     }
-    if !text::in_list(
-        &s[..3],
-        b"FPL CHG CNL DLA DEP ARR RQP RQS SPL ALR RCF CPL EST CDN ACP LAM",
-    ) {
-        return entries::any_of(
-            b"FPL CHG CNL DLA DEP ARR RQP RQS SPL ALR RCF CPL EST CDN ACP LAM",
-            s,
-        );
+    if !text::in_list(&s[..3], &TYPES) {
+        return entries::any_of(&TYPES, s);
     }
-    3 + first_number(&s[3..])
+    3 + place_numbers(&s[3..])
 }
 
 // The place of a content of field 7 that does not fit.
@@ -159,29 +128,6 @@ pub fn place_field8(s: &[u8]) -> usize
         return 1;
     }
     if !shape::one_of(s[1], b"SNGMX") {
-        return 1;
-    }
-    2
-}
-
-// Of digits that are no count: none at the front, one, or two.
-fn place_count(w: &[u8]) -> usize
-    ensures { λ r. ⌜ r ≡ countPlace (now (w .entry)) ⌝ }
-{
-    if w.len() == 0 {
-        return 0;
-    }
-    let a = w[0];
-    if a < b'1' {
-        return 0;
-    }
-    if a > b'9' {
-        return 0;
-    }
-    if w.len() == 1 {
-        return 1;
-    }
-    if !alphabet::is_digit(w[1]) {
         return 1;
     }
     2
@@ -230,10 +176,10 @@ pub fn place_field9(s: &[u8]) -> usize
 {
     let d = head::run(true, s);
     if d == s.len() {
-        return place_count(&s[..d]);
+        return places::two_digits(b'1', b'9', &s[..d]);
     }
     if !head::is_count(&s[..d]) {
-        return place_count(&s[..d]);
+        return places::two_digits(b'1', b'9', &s[..d]);
     }
     d + place_aircraft(&s[d..])
 }

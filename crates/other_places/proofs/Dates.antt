@@ -1,7 +1,7 @@
 -- The place of a date that is none: a date goes on from each of its prefixes. Assumes nothing.
 use Prim.Native.Nat.{ℕ, zero, suc, _+_, _*_, _-_, _%_, _<_, _≤_}
 use mathlib.Core.Path.{_≡_, refl, sym, ap, _∙_}
-use mathlib.Core.Bool.{Bool, true, false, _&&_, _||_, cond, false≢true}
+use mathlib.Core.Bool.{Bool, true, false, _&&_, _||_, cond, false≢true, or-true}
 use mathlib.Core.List.{List, [], _∷_, _++_}
 use native.Mathlib.Omega.{arith}
 use native.Mathlib.Nat.{not-suc-le-zero}
@@ -19,7 +19,6 @@ use Rattle.shape.proofs.Index.{fits-lengths}
 use Rattle.places.specs.Place.{IsPlace}
 use Rattle.places.specs.Parts.{passes}
 use Rattle.places.proofs.Leaves.{passes-place}
-use Rattle.places.proofs.Given.{or-true}
 use Rattle.other.specs.Rules.{yearMonthDay, date, daysIn, year, month, dayOf}
 use Rattle.other_places.specs.Places.{filled, dateGo}
 

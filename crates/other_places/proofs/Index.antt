@@ -17,10 +17,9 @@ use Rattle.text.proofs.Tests.{both}
 use Rattle.shape.specs.Time.{elapsedHours}
 use Rattle.places.specs.Parts.{larger, fixedPlace, timePlace}
 use Rattle.places.specs.Given.{given, orZero}
-use Rattle.places.proofs.Given.{given-some, given-zero}
-use Rattle.places.proofs.Fixed.{time-place}
+use Rattle.places.proofs.Given.{given-some, given-zero, or-some}
 use Rattle.entries.specs.Entries.{Entry, entryPlace, entriesPlace}
-use Rattle.entries.proofs.Index.{larger-assoc, larger-none}
+use Rattle.places.proofs.Larger.{larger-assoc, larger-none}
 use Rattle.other.specs.declared.Rule.{Rule}
 use Rattle.other.specs.Rules.{Edition, rankIn, ruleIn, wordFits, moreFits, date}
 use Rattle.other_places.specs.Places.{signsTime, rulePlace, keyed, laterKeys, laterPlace, itemAfter, items, rankedAfter, itemsWord, distinct, soundKeys}
@@ -49,9 +48,6 @@ timed-next n w =
     let a : n + 1 ≡ suc n = omega arith in
     let b : n + 2 ≡ suc (suc n) = omega arith in
     rw (a, b)
-
-pub time-within : (w : Word) → timePlace elapsedHours w ≤ length w
-time-within w = time-place elapsedHours w .within
 
 pub rule-within : (r : Rule) (w : Word) → rulePlace r w ≤ length w
 rule-within r w = rule-right r w .within
@@ -168,11 +164,7 @@ module _ (ed : Edition) (k : ℕ) (w : Word) where
   after-none h = positive (holds 47 w) (items ed .after k w) refl h
 
   pub after-some : (j : ℕ) → j ≡ rankedAfter ed k w → (j ≡ 0 → ⊥) → items ed .after k w ≡ some j
-  after-some j e n = go (items ed .after k w) e
-    where
-      go : (y : Option ℕ) → j ≡ orZero y → y ≡ some j
-      go none q = absurd (n q)
-      go (some i) q = ap some (sym q)
+  after-some j e n = or-some (items ed .after k w) j e n
 
 -- a word's place is in it
 pub item-within : (ed : Edition) → soundKeys ed ≡ true → (k : ℕ) (w : Word) → itemsWord ed k w ≤ length w

@@ -1,7 +1,7 @@
 -- The place of field 18 is right, in every edition whose keys are of signs, no two equal. Assumes nothing.
 use Prim.Native.Nat.{ℕ, zero, suc, _+_, _<_, _≤_}
 use mathlib.Core.Path.{_≡_, refl, sym, ap, _∙_}
-use mathlib.Core.Bool.{Bool, true, false, _&&_, _||_, not, cond, true≢false}
+use mathlib.Core.Bool.{Bool, true, false, _&&_, _||_, not, cond, true≢false, or-false, and-assoc}
 use mathlib.Core.List.{List, [], _∷_, _++_}
 use mathlib.Core.Option.{Option, none, some}
 use native.Mathlib.Omega.{arith}
@@ -20,8 +20,8 @@ use Rattle.places.specs.Place.{IsPlace}
 use Rattle.places.specs.Words.{ended, wordsFit, contentFits, wordsPlace}
 use Rattle.places.proofs.Place.{place-of-language, no-place, either-place}
 use Rattle.places.specs.Given.{given}
-use Rattle.places.proofs.Given.{or-false, or-cond, given-ended, given-some}
-use Rattle.places.proofs.Words.{words-place}
+use Rattle.places.proofs.Given.{or-cond, given-ended, given-some}
+use Rattle.places.proofs.Words.{none-fits, words-place}
 use Rattle.entries.specs.Entries.{anyEntry, matched, entriesPlace}
 use Rattle.entries.proofs.Entries.{AllRight, none-left, and-then, label-place, same-swap, entries-place}
 use Rattle.other.specs.declared.Rule.{Rule}
@@ -255,17 +255,9 @@ module _ (ed : Edition) where
 
     -- THE LANGUAGE
 
-    none-fits : (ws : List Word) → wordsFit (items ed) ws none ≡ false
-    none-fits [] = refl
-    none-fits (w ∷ ws) = refl
-
     choose : (b : Bool) (k : ℕ) (ws : List Word) → wordsFit (items ed) ws (given b k) ≡ (b && wordsFit (items ed) ws (some k))
     choose true k ws = refl
-    choose false k ws = none-fits ws
-
-    and3 : (a b c : Bool) → ((a && b) && c) ≡ (a && (b && c))
-    and3 true b c = refl
-    and3 false b c = refl
+    choose false k ws = none-fits (items ed) ws
 
     -- a word that is cut at an oblique, and the words behind it
     item-fit : (k : ℕ) (w : Word) (ws : List Word) → ((j : ℕ) → 0 < j → wordsFit (items ed) ws (some j) ≡ fitMore ed j ws)
@@ -273,7 +265,7 @@ module _ (ed : Edition) where
         ≡ (ltb k (ranked w) && (under w && fitMore ed (ranked w) ws))
     item-fit k w ws ih =
         choose (item k (ranked w) w) (ranked w) ws
-        ∙ and3 (ltb k (ranked w)) (under w) (wordsFit (items ed) ws (some (ranked w)))
+        ∙ and-assoc (ltb k (ranked w)) (under w) (wordsFit (items ed) ws (some (ranked w)))
         ∙ go (ltb k (ranked w)) refl
       where
         go : (x : Bool) → ltb k (ranked w) ≡ x
@@ -314,7 +306,7 @@ module _ (ed : Edition) where
             (fit-step ed 0 w ws
             ∙ ap (λ (b : Bool). b && (ltb 0 (ranked w) && (under w && fitMore ed (ranked w) ws))) h)
         first w ws false h =
-            none-fits ws
+            none-fits (items ed) ws
             ∙ sym
             (fit-step ed 0 w ws
             ∙ ap (λ (b : Bool). b && (ltb 0 (ranked w) && (under w && fitMore ed (ranked w) ws))) h)

@@ -1,7 +1,7 @@
 -- The places of words under a key are right, for each rule. Assumes nothing.
 use Prim.Native.Nat.{ℕ, zero, suc, _+_, _-_, _≤_}
 use mathlib.Core.Path.{_≡_, refl, sym, ap, _∙_}
-use mathlib.Core.Bool.{Bool, true, false, _&&_, _||_, false≢true}
+use mathlib.Core.Bool.{Bool, true, false, _&&_, _||_, false≢true, or-true}
 use mathlib.Core.List.{List, [], _∷_}
 use native.Mathlib.Omega.{arith}
 use native.Mathlib.Nat.{not-suc-le-zero}
@@ -24,7 +24,7 @@ use Rattle.places.proofs.Place.{place-of-language, no-place, either-place}
 use Rattle.places.proofs.Leaves.{nil-place}
 use Rattle.places.proofs.Fixed.{fixed-place, time-place}
 use Rattle.places.proofs.Texts.{text-place}
-use Rattle.places.proofs.Given.{iff, or-true}
+use Rattle.places.proofs.Given.{iff}
 use Rattle.entries.proofs.Entries.{any-label-place}
 use Rattle.code_places.specs.Codes.{someCodes, codesPlace}
 use Rattle.code_places.proofs.Codes.{codes-place}

@@ -1,19 +1,19 @@
 -- The place of a form that is cut at the first c. Assumes nothing.
-use Prim.Native.Nat.{ℕ, zero, suc, _+_, _<_, _≤_}
-use mathlib.Core.Path.{_≡_, refl, sym, ap, _∙_, subst}
-use mathlib.Core.Bool.{Bool, true, false, _&&_, _||_, not, cond, false≢true, true≢false}
-use mathlib.Core.List.{List, [], _∷_, _++_}
+use Prim.Native.Nat.{ℕ, suc, _+_, _<_, _≤_}
+use mathlib.Core.Path.{_≡_, refl, ap, subst}
+use mathlib.Core.Bool.{Bool, true, false, _&&_, _||_, not, cond, and-true, and-false, false≢true}
+use mathlib.Core.List.{List, [], _∷_}
 use native.Mathlib.Omega.{arith}
 use native.Mathlib.Nat.{add-suc, suc-add}
-use lib.Dec.{leb, ltb, eqb}
+use lib.Dec.{eqb}
 use lib.ListN.{length, take, drop, drop-of-length-le}
 use lib.Seq.{take-all}
-use borrow.Author.Tests.{eqb-true, eq-eqb, ltb-true, ltb-false, lt-ltb, le-ltb}
-use Rattle.text.specs.Words.{Word, all, null, free, upTo, holds, before, behind}
-use Rattle.text.proofs.Tests.{both, and-both, and-false}
+use borrow.Author.Tests.{eqb-true, eq-eqb, ltb-true, ltb-false, lt-ltb}
+use Rattle.text.specs.Words.{null, free, upTo, holds, before, behind}
+use Rattle.text.proofs.Tests.{both}
 use Rattle.text.proofs.Index.{upTo-le}
 use Rattle.places.specs.Place.{IsPlace}
-use Rattle.places.specs.Parts.{front, inFront, fromThere, thenFits, thenPlace, firstFits, firstPlace, noMore, cutPlace}
+use Rattle.places.specs.Parts.{front, thenFits, thenPlace, firstFits, firstPlace, cutPlace}
 use Rattle.places.proofs.Place.{place-of-language}
 use Rattle.places.proofs.Parts.{stops, then-place}
 use Rattle.places.proofs.Leaves.{first-place, maybe-place}
@@ -56,26 +56,18 @@ module _ (c : ℕ) (f g : List ℕ → Bool) where
   pub must-is : (s : List ℕ) → must s ≡ (holds c s && (f (before c s) && g (behind c s)))
   must-is s = rw (front-upTo c s) (go (holds c s) refl)
     where
-      no : (x : Bool) → (x && false) ≡ false
-      no true = refl
-      no false = refl
-
       go : (x : Bool) → holds c s ≡ x → (f (before c s) && firstFits (is c) (λ b. g) (drop (upTo c s) s)) ≡ (x && (f (before c s) && g (behind c s)))
       go true h = rw (drop-held c s h, eq-eqb c c refl)
-      go false h = rw (not-held c s h, drop-of-length-le s {i = length s} (omega arith)) (no (f (take (length s) s)))
+      go false h = rw (not-held c s h, drop-of-length-le s {i = length s} (omega arith)) (and-false (f (take (length s) s)))
 
   pub may-is : (s : List ℕ) → may s ≡ cond (holds c s) (f (before c s) && g (behind c s)) (f s)
   may-is s = rw (front-upTo c s) (go (holds c s) refl)
     where
-      yes : (x : Bool) → (x && true) ≡ x
-      yes true = refl
-      yes false = refl
-
       go : (x : Bool) → holds c s ≡ x
           → (f (before c s) && (null (drop (upTo c s) s) || firstFits (is c) (λ b. g) (drop (upTo c s) s))) ≡ cond x (f (before c s) && g (behind c s)) (f s)
       go true h = rw (drop-held c s h, eq-eqb c c refl)
       go false h =
-          rw (not-held c s h, drop-of-length-le s {i = length s} (omega arith), take-all (length s) s (omega arith)) (yes (f s))
+          rw (not-held c s h, drop-of-length-le s {i = length s} (omega arith), take-all (length s) s (omega arith)) (and-true (f s))
 
   module _ (pf pg : List ℕ → ℕ)
       (f-right : (s : List ℕ) → IsPlace f s (pf s)) (g-right : (s : List ℕ) → IsPlace g s (pg s))
@@ -90,7 +82,7 @@ module _ (c : ℕ) (f g : List ℕ → Bool) where
         go false h = refl
 
     inner : (s : List ℕ) → IsPlace (firstFits (is c) (λ b. g)) s (firstPlace (is c) (λ b. pg) s)
-    inner = first-place (is c) (λ b. g) (λ b. pg) (λ b. g-right) (λ b h. (e, ge))
+    inner = first-place (is c) (λ b. g) (λ b. pg) (λ b h. g-right) (λ b h. (e, ge))
 
     first-stops : (w : List ℕ) → firstFits (is c) (λ b. g) w ≡ true → stops (but c) w ≡ true
     first-stops [] h = refl
@@ -105,7 +97,8 @@ module _ (c : ℕ) (f g : List ℕ → Bool) where
     cut-place s =
         place-of-language must (λ t. holds c t && (f (before c t) && g (behind c t))) must-is s (cutPlace c f pf pg s)
         (subst (IsPlace must s) (place-is s)
-        (then-place (but c) f (firstFits (is c) (λ b. g)) pf (firstPlace (is c) (λ b. pg)) f-right inner f-free first-stops (c ∷ e) (rw (eq-eqb c c refl, ge)) s))
+        (then-place (but c) f (firstFits (is c) (λ b. g)) pf (firstPlace (is c) (λ b. pg)) f-right inner f-free first-stops (c ∷ e)
+        (rw (eq-eqb c c refl, ge)) s))
 
     -- where c and what stands behind it may be absent
     pub may-place : (s : List ℕ) → IsPlace (λ t. cond (holds c t) (f (before c t) && g (behind c t)) (f t)) s (cutPlace c f pf pg s)

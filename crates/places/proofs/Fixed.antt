@@ -1,22 +1,23 @@
 -- The places of so many bytes of a set, and of a time. Assumes nothing.
-use Prim.Native.Nat.{ℕ, zero, suc, _+_, _*_, _-_, _<_, _≤_}
+use Prim.Native.Nat.{ℕ, zero, suc, _+_, _*_, _-_, _≤_}
 use mathlib.Core.Path.{_≡_, refl, sym, ap, _∙_, subst}
-use mathlib.Core.Bool.{Bool, true, false, _&&_, _||_, not, cond, false≢true, true≢false}
+use mathlib.Core.Bool.{Bool, true, false, _&&_, cond, and-false}
 use mathlib.Core.List.{List, [], _∷_, _++_}
 use native.Mathlib.Omega.{arith}
-use native.Mathlib.Nat.{suc-add}
-use lib.Dec.{leb, ltb, eqb, leb·suc-suc, leb·zero}
-use lib.ListN.{length, take, drop}
-use borrow.Author.Tests.{leb-true, leb-false, le-leb, lt-leb}
+use native.Mathlib.Nat.{suc-add, zero-add}
+use lib.Dec.{leb, leb·suc-suc}
+use lib.ListN.{length, drop}
+use borrow.Author.Tests.{leb-true, le-leb, lt-leb}
 use Rattle.alphabet.specs.Alphabet.{digit}
 use Rattle.text.specs.Words.{Word, null}
-use Rattle.text.proofs.Tests.{both, and-both, and-false}
-use Rattle.shape.specs.Shape.{fits, wide}
+use Rattle.text.proofs.Tests.{both}
+use Rattle.shape.specs.Shape.{wide}
 use Rattle.shape.specs.Time.{hoursMinutes, hours, minutes, timeFits}
 use Rattle.shape.proofs.Numbers.{digit-range, range-digit}
 use Rattle.shape.proofs.Index.{fits-other}
 use Rattle.places.specs.Place.{IsPlace}
 use Rattle.places.specs.Parts.{front, firstFits, firstPlace, noMore, fixedFits, fixedPlace, tens, units, sixty, minutesPlace, timePlace}
+use Rattle.places.proofs.Given.{iff}
 use Rattle.places.proofs.Place.{place-of-language}
 use Rattle.places.proofs.Leaves.{nil-place, first-place, fill}
 
@@ -29,10 +30,7 @@ module _ (p : ℕ → Bool) (g : List ℕ → Bool) (pg : List ℕ → ℕ) wher
   stepped (suc n) s = firstPlace p (λ a. stepped n) s
 
   stepped-is : (n : ℕ) (s : List ℕ) → ((s : List ℕ) → IsPlace g s (pg s)) → stepped n s ≡ fixedPlace p n pg s
-  stepped-is zero s h = sym (rw (le-leb 0 (front p s) (omega arith)) (zero-plus (pg s)))
-    where
-      zero-plus : (n : ℕ) → 0 + n ≡ n
-      zero-plus n = omega arith
+  stepped-is zero s h = sym (rw (le-leb 0 (front p s) (omega arith)) (zero-add (pg s)))
   stepped-is (suc n) [] h = sym (rw (lt-leb (suc n) 0 (omega arith)))
   stepped-is (suc n) (b ∷ s) h = go (p b) (stepped-is n s h)
     where
@@ -52,7 +50,7 @@ module _ (p : ℕ → Bool) (g : List ℕ → Bool) (pg : List ℕ → ℕ) wher
 
     stepped-place : (n : ℕ) (s : List ℕ) → IsPlace (fixedFits p n g) s (stepped n s)
     stepped-place zero s = right s
-    stepped-place (suc n) s = first-place p (λ a. fixedFits p n g) (λ a. stepped n) (λ a. stepped-place n) (λ a h. (fill b n ++ e, some-fixed n)) s
+    stepped-place (suc n) s = first-place p (λ a. fixedFits p n g) (λ a. stepped n) (λ a h. stepped-place n) (λ a h. (fill b n ++ e, some-fixed n)) s
 
     pub fixed-place : (n : ℕ) (s : List ℕ) → IsPlace (fixedFits p n g) s (fixedPlace p n pg s)
     fixed-place n s = subst (IsPlace (fixedFits p n g) s) (stepped-is n s right) (stepped-place n s)
@@ -69,27 +67,18 @@ module _ (most : ℕ) where
   pub last-right : (s : List ℕ) → IsPlace lastFit s (minutesPlace s)
   last-right =
       first-place sixty (λ c. firstFits digit (λ d. null)) (λ c. firstPlace digit (λ d. noMore))
-      (λ c. first-place digit (λ d. null) (λ d. noMore) (λ d. nil-place) (λ d h. ([], refl))) (λ c h. (48 ∷ [], refl))
+      (λ c h. first-place digit (λ d. null) (λ d. noMore) (λ d h. nil-place) (λ d h. ([], refl))) (λ c h. (48 ∷ [], refl))
 
   bytes-right : (s : List ℕ) → IsPlace timeBytes s (timePlace most s)
   unfolding timePlace
   bytes-right =
       first-place (tens most) (λ a. firstFits (units most a) (λ b. lastFit)) (λ a. firstPlace (units most a) (λ b. minutesPlace))
-      (λ a. first-place (units most a) (λ b. lastFit) (λ b. minutesPlace) (λ b. last-right) (λ b h. (48 ∷ 48 ∷ [], refl)))
+      (λ a h. first-place (units most a) (λ b. lastFit) (λ b. minutesPlace) (λ b h. last-right) (λ b h. (48 ∷ 48 ∷ [], refl)))
       (λ a h. (
         48 ∷ 48 ∷ 48 ∷ [],
         let l : (a - 48) * 10 ≤ most = leb-true ((a - 48) * 10) most (both (digit a) (leb ((a - 48) * 10) most) h .1) in
             rw (le-leb ((a - 48) * 10 + 0) most (omega arith)),
       ))
-
-  no : (x : Bool) → (x && false) ≡ false
-  no true = refl
-  no false = refl
-
-  iff : (a b : Bool) → (a ≡ true → b ≡ true) → (b ≡ true → a ≡ true) → a ≡ b
-  iff true b f g = sym (f refl)
-  iff false true f g = g refl
-  iff false false f g = refl
 
   other : (w : Word) → (length w ≡ 4 → ⊥) → timeFits most w ≡ false
   unfolding timeFits
@@ -121,7 +110,7 @@ module _ (most : ℕ) where
 
       from : timeFits most (a ∷ b ∷ c ∷ d ∷ []) ≡ true → timeBytes (a ∷ b ∷ c ∷ d ∷ []) ≡ true
       from h =
-          let f = both (digit a && (digit b && (digit c && (digit d && true)))) (leb (hours (a ∷ b ∷ c ∷ d ∷ [])) most && leb (minutes (a ∷ b ∷ c ∷ d ∷ [])) 59) h in
+          let f = both (digit a && (digit b && (digit c && (digit d && true)))) _ h in
           let x = both (digit a) (digit b && (digit c && (digit d && true))) (f .0) in
           let y = both (digit b) (digit c && (digit d && true)) (x .1) in
           let z = both (digit c) (digit d && true) (y .1) in
@@ -143,16 +132,20 @@ module _ (most : ℕ) where
 
   time-is : (w : List ℕ) → timeBytes w ≡ timeFits most w
   time-is [] = sym (other [] (λ e. omega arith))
-  time-is (a ∷ []) = no (tens most a) ∙ sym (other (a ∷ []) (λ e. omega arith))
-  time-is (a ∷ b ∷ []) = ap (λ (x : Bool). tens most a && x) (no (units most a b)) ∙ no (tens most a) ∙ sym (other (a ∷ b ∷ []) (λ e. omega arith))
+  time-is (a ∷ []) = and-false (tens most a) ∙ sym (other (a ∷ []) (λ e. omega arith))
+  time-is (a ∷ b ∷ []) =
+      ap (λ (x : Bool). tens most a && x) (and-false (units most a b)) ∙ and-false (tens most a) ∙ sym (other (a ∷ b ∷ []) (λ e. omega arith))
   time-is (a ∷ b ∷ c ∷ []) =
-      ap (λ (x : Bool). tens most a && (units most a b && x)) (no (sixty c))
-      ∙ ap (λ (x : Bool). tens most a && x) (no (units most a b)) ∙ no (tens most a) ∙ sym (other (a ∷ b ∷ c ∷ []) (λ e. omega arith))
+      ap (λ (x : Bool). tens most a && (units most a b && x)) (and-false (sixty c))
+      ∙ ap (λ (x : Bool). tens most a && x) (and-false (units most a b)) ∙ and-false (tens most a) ∙ sym (other (a ∷ b ∷ c ∷ []) (λ e. omega arith))
   time-is (a ∷ b ∷ c ∷ d ∷ []) = four a b c d
   time-is (a ∷ b ∷ c ∷ d ∷ x ∷ w) =
-      ap (λ (x : Bool). tens most a && (units most a b && (sixty c && x))) (no (digit d))
-      ∙ ap (λ (x : Bool). tens most a && (units most a b && x)) (no (sixty c))
-      ∙ ap (λ (x : Bool). tens most a && x) (no (units most a b)) ∙ no (tens most a) ∙ sym (other (a ∷ b ∷ c ∷ d ∷ x ∷ w) (λ e. omega arith))
+      ap (λ (x : Bool). tens most a && (units most a b && (sixty c && x))) (and-false (digit d))
+      ∙ ap (λ (x : Bool). tens most a && (units most a b && x)) (and-false (sixty c))
+      ∙ ap (λ (x : Bool). tens most a && x) (and-false (units most a b)) ∙ and-false (tens most a) ∙ sym (other (a ∷ b ∷ c ∷ d ∷ x ∷ w) (λ e. omega arith))
 
   pub time-place : (s : List ℕ) → IsPlace (timeFits most) s (timePlace most s)
   time-place s = place-of-language timeBytes (timeFits most) time-is s (timePlace most s) (bytes-right s)
+
+pub time-within : (most : ℕ) (w : Word) → timePlace most w ≤ length w
+time-within most w = time-place most w .within

@@ -1,23 +1,18 @@
--- Tests joined with or, tests that agree, and what is known on a condition. Assumes nothing.
+-- Tests that agree, tests joined with or, and what is known on a condition. Assumes nothing.
 use Prim.Native.Nat.{ℕ}
 use mathlib.Core.Path.{_≡_, refl, sym, ap}
 use mathlib.Core.Bool.{Bool, true, false, _||_, cond, false≢true}
-use mathlib.Core.Option.{some}
+use mathlib.Core.Option.{Option, none, some}
+use mathlib.Core.List.{List}
+use Rattle.places.specs.Place.{IsPlace}
 use Rattle.places.specs.Words.{ended}
 use Rattle.places.specs.Given.{given, orZero}
+use Rattle.places.proofs.Place.{place-of-language}
 
 pub iff : (a b : Bool) → (a ≡ true → b ≡ true) → (b ≡ true → a ≡ true) → a ≡ b
 iff true b f g = sym (f refl)
 iff false true f g = g refl
 iff false false f g = refl
-
-pub or-true : (a : Bool) → (a || true) ≡ true
-or-true true = refl
-or-true false = refl
-
-pub or-false : (a : Bool) → (a || false) ≡ a
-or-false true = refl
-or-false false = refl
 
 pub or-cond : (a b : Bool) → (a || b) ≡ cond a true b
 or-cond true b = refl
@@ -34,3 +29,10 @@ given-some false k j e = absurd (false≢true (ap ended e))
 pub given-zero : (b : Bool) (k : ℕ) → orZero (given b k) ≡ cond b k 0
 given-zero true k = refl
 given-zero false k = refl
+
+pub given-place : {A : Type 0} (f : List ℕ → Bool) (k : List ℕ → A) (s : List ℕ) (p : ℕ) → IsPlace f s p → IsPlace (λ w. ended (given (f w) (k w))) s p
+given-place f k s p a = place-of-language f (λ w. ended (given (f w) (k w))) (λ w. sym (given-ended (f w) (k w))) s p a
+
+pub or-some : (o : Option ℕ) (j : ℕ) → j ≡ orZero o → (j ≡ 0 → ⊥) → o ≡ some j
+or-some none j e n = absurd (n e)
+or-some (some i) j e n = ap some (sym e)

@@ -1,21 +1,20 @@
 -- The places of parts, one byte at an index. Assumes nothing.
 use Prim.Native.Nat.{ℕ, zero, suc, _+_, _-_, _<_, _≤_}
 use mathlib.Core.Path.{_≡_, refl, sym, ap, _∙_}
-use mathlib.Core.Bool.{Bool, true, false, _&&_, not, cond, true≢false}
-use mathlib.Core.Option.{Option, none, some}
-use mathlib.Core.List.{List, [], _∷_}
+use mathlib.Core.Bool.{Bool, true, false, and-true, and-false, true≢false}
+use mathlib.Core.Option.{none, some}
+use mathlib.Core.List.{List, [], _∷_, _++_}
 use lib.Dec.{ltb}
 use lib.ListN.{length, take, drop, getD, length-drop}
+use lib.Seq.{drop-drop}
 use native.Mathlib.Omega.{arith}
-use Rattle.text.specs.Words.{Word, null, split, upTo, holds, before, behind}
-use Rattle.text.proofs.Tests.{and-false}
-use native.Mathlib.Numerals.{add-one}
-use native.Mathlib.Nat.{suc-add}
+use Rattle.text.specs.Words.{Word, null, split, upTo, holds, behind}
+use native.Mathlib.Nat.{not-suc-le-zero}
 use borrow.Author.Tests.{lt-ltb, le-ltb, lt-leb, le-leb}
 use Rattle.text.proofs.Index.{drop-here, drop-end, rest, split-at, after-here, after-end, null-split, found, found-none, found-before, found-behind}
 use Rattle.shape.specs.Shape.{inClass, fits}
 use Rattle.places.specs.Words.{Words, onward, wordsPlace}
-use Rattle.places.specs.Parts.{front, along, firstPlace, noMore, fixedPlace, tens, units, minutesPlace, timePlace, cutPlace, thenPlace, inFront, fromThere}
+use Rattle.places.specs.Parts.{front, along, firstPlace, noMore, fixedPlace, tens, units, minutesPlace, timePlace, cutPlace, thenPlace, passes}
 
 module _ (p : ℕ → Bool) (s : List ℕ) (i : ℕ) where
   pub front-stop : i < length s → p (getD s i 0) ≡ false → front p (drop i s) ≡ 0
@@ -31,7 +30,8 @@ module _ (t w : Word) (i : ℕ) where
   pub along-stop : i < length t → i < length w → inClass (getD t i 0) (getD w i 0) ≡ false → along (drop i t) (drop i w) ≡ 0
   along-stop h k e = rw (drop-here t i h, drop-here w i k, e)
 
-  pub along-next : i < length t → i < length w → inClass (getD t i 0) (getD w i 0) ≡ true → along (drop i t) (drop i w) ≡ suc (along (drop (i + 1) t) (drop (i + 1) w))
+  pub along-next : i < length t → i < length w → inClass (getD t i 0) (getD w i 0) ≡ true
+      → along (drop i t) (drop i w) ≡ suc (along (drop (i + 1) t) (drop (i + 1) w))
   along-next h k e = rw (drop-here t i h, drop-here w i k, e)
 
   pub along-over : length t ≤ i → along (drop i t) (drop i w) ≡ 0
@@ -42,16 +42,13 @@ module _ (t w : Word) (i : ℕ) where
 
 -- a shape of one byte
 one-class : (t b : ℕ) → fits (t ∷ []) (b ∷ []) ≡ inClass t b
-one-class t b = go (inClass t b)
-  where
-    go : (x : Bool) → (x && true) ≡ x
-    go true = refl
-    go false = refl
+one-class t b = and-true (inClass t b)
 
 one-byte : (s : List ℕ) (i : ℕ) → i < length s → take (i + 1 - i) (drop i s) ≡ getD s i 0 ∷ []
 one-byte s i h = let e : i + 1 - i ≡ 1 = omega arith in rw (e, drop-here s i h)
 
-pub class-here : (t w : Word) (i : ℕ) → i < length t → i < length w → fits (take (i + 1 - i) (drop i t)) (take (i + 1 - i) (drop i w)) ≡ inClass (getD t i 0) (getD w i 0)
+pub class-here : (t w : Word) (i : ℕ) → i < length t → i < length w
+    → fits (take (i + 1 - i) (drop i t)) (take (i + 1 - i) (drop i w)) ≡ inClass (getD t i 0) (getD w i 0)
 class-here t w i h k = rw (one-byte t i h, one-byte w i k) (one-class (getD t i 0) (getD w i 0))
 
 -- A FIRST BYTE
@@ -83,7 +80,8 @@ some-left (b ∷ (c ∷ w)) n m h = omega arith
 
 -- WHAT STANDS BEHIND i, and a place in it
 
-pub behind-within : (pg : List ℕ → ℕ) → ((w : List ℕ) → pg w ≤ length w) → (s : List ℕ) (i r : ℕ) → i ≤ length s → r ≡ pg (take (length s - i) (drop i s)) → i + r ≤ length s
+pub behind-within : (pg : List ℕ → ℕ) → ((w : List ℕ) → pg w ≤ length w) → (s : List ℕ) (i r : ℕ) → i ≤ length s → r ≡ pg (take (length s - i) (drop i s))
+    → i + r ≤ length s
 behind-within pg b s i r h e =
     let x : r ≡ pg (drop i s) = e ∙ ap pg (rest s i) in
     let y : pg (drop i s) ≤ length (drop i s) = b (drop i s) in
@@ -97,9 +95,10 @@ module _ (c : ℕ) (f : List ℕ → Bool) (pf pg : List ℕ → ℕ) (s : List 
   cut-none r h e = rw (found-none c s o end h, ← found-before c s o end) e
 
   pub cut-off : (r : ℕ) → f (take o s) ≡ false → r ≡ pf (take o s) → r ≡ cutPlace c f pf pg s
-  cut-off r h e = rw (← found-before c s o end, h, and-false (holds c s) false refl) e
+  cut-off r h e = rw (← found-before c s o end, h, and-false (holds c s)) e
 
-  pub cut-on : (r : ℕ) → (o ≡ length s → ⊥) → o ≤ length s → f (take o s) ≡ true → r ≡ pg (take (length s - (o + 1)) (drop (o + 1) s)) → o + 1 + r ≡ cutPlace c f pf pg s
+  pub cut-on : (r : ℕ) → (o ≡ length s → ⊥) → o ≤ length s → f (take o s) ≡ true → r ≡ pg (take (length s - (o + 1)) (drop (o + 1) s))
+      → o + 1 + r ≡ cutPlace c f pf pg s
   cut-on r n l h e =
       let x : r ≡ pg (behind c s) = e ∙ ap pg (rest s (o + 1) ∙ found-behind c s o end) in
       let y : upTo c s ≡ o = omega arith in
@@ -112,7 +111,7 @@ module _ (p : ℕ → Bool) (f : List ℕ → Bool) (pf pg : List ℕ → ℕ) (
   then-none r h e = rw (← end, le-ltb n (length s) (omega arith)) e
 
   pub then-off : (r : ℕ) → f (take n s) ≡ false → r ≡ pf (take n s) → r ≡ thenPlace p f pf pg s
-  then-off r h e = rw (← end, h, and-false (ltb n (length s)) false refl) e
+  then-off r h e = rw (← end, h, and-false (ltb n (length s))) e
 
   pub then-on : (r : ℕ) → n < length s → f (take n s) ≡ true → r ≡ pg (take (length s - n) (drop n s)) → n + r ≡ thenPlace p f pf pg s
   then-on r l h e = rw (← end, lt-ltb n (length s) l, h) (ap (λ (k : ℕ). n + k) (e ∙ ap pg (rest s n)))
@@ -150,7 +149,8 @@ module _ (W : Words) (pw : W .K → Word → ℕ) (k : W .K) (s : List ℕ) (at 
   abbrev place : ℕ
   place = wordsPlace W pw k (split 32 (drop at s))
 
-  two-words : (w : Word) (ws : List Word) → null ws ≡ false → wordsPlace W pw k (w ∷ ws) ≡ onward W (W .after k w) (pw k w) (length w) (λ j. wordsPlace W pw j ws)
+  two-words : (w : Word) (ws : List Word) → null ws ≡ false
+      → wordsPlace W pw k (w ∷ ws) ≡ onward W (W .after k w) (pw k w) (length w) (λ j. wordsPlace W pw j ws)
   two-words w [] h = absurd (true≢false h)
   two-words w (v ∷ ws) h = refl
 
@@ -166,7 +166,8 @@ module _ (W : Words) (pw : W .K → Word → ℕ) (k : W .K) (s : List ℕ) (at 
   pub words-end : (j : W .K) → e < length s → W .after k word ≡ some j → W .goes j ≡ false → place ≡ length word
   words-end j l h g = cut-here l ∙ rw (h, g)
 
-  pub words-next : (j : W .K) → e < length s → W .after k word ≡ some j → W .goes j ≡ true → place ≡ suc (length word) + wordsPlace W pw j (split 32 (drop (e + 1) s))
+  pub words-next : (j : W .K) → e < length s → W .after k word ≡ some j → W .goes j ≡ true
+      → place ≡ suc (length word) + wordsPlace W pw j (split 32 (drop (e + 1) s))
   words-next j l h g = cut-here l ∙ rw (h, g)
 
 -- SO MANY BYTES OF A SET
@@ -200,16 +201,30 @@ module _ (most : ℕ) (w : List ℕ) where
   time-second n e f =
       sym (on-tens n e ∙ ap suc (first-stop (units most (getD w 0 0)) (λ b. minutesPlace) (drop 1 w) (ap (units most (getD w 0 0)) (second-byte w) ∙ f)))
 
-  drop-two : drop 1 (drop 1 w) ≡ drop 2 w
-  drop-two = go w
-    where
-      go : (w : List ℕ) → drop 1 (drop 1 w) ≡ drop 2 w
-      go [] = refl
-      go (b ∷ w) = refl
-
   pub time-both : (length w ≡ 0 → ⊥) → (length w ≡ 1 → ⊥) → tens most (getD w 0 0) ≡ true → units most (getD w 0 0) (getD w 1 0) ≡ true
       → (r : ℕ) → r ≡ minutesPlace (take (length w - 2) (drop 2 w)) → 2 + r ≡ timePlace most w
   time-both n m e f r h =
-      let x : r ≡ minutesPlace (drop 1 (drop 1 w)) = h ∙ ap minutesPlace (rest w 2 ∙ sym drop-two) in
-      let y = on-tens n e ∙ ap suc (first-goes (units most (getD w 0 0)) (λ b. minutesPlace) (drop 1 w) (some-left w n m) (ap (units most (getD w 0 0)) (second-byte w) ∙ f)) in
+      let x : r ≡ minutesPlace (drop 1 (drop 1 w)) = h ∙ ap minutesPlace (rest w 2 ∙ sym (drop-drop 1 1 w)) in
+      let u = units most (getD w 0 0) in
+      let y = on-tens n e ∙ ap suc (first-goes u (λ b. minutesPlace) (drop 1 w) (some-left w n m) (ap u (second-byte w) ∙ f)) in
       omega arith
+
+-- PREFIXES
+
+take-one : (s : List ℕ) (i : ℕ) → i < length s → take (i + 1) s ≡ take i s ++ (getD s i 0 ∷ [])
+take-one s i h = let z : i + 1 ≡ suc i = omega arith in rw z (go s i h)
+  where
+    go : (s : List ℕ) (i : ℕ) → i < length s → take (suc i) s ≡ take i s ++ (getD s i 0 ∷ [])
+    go [] i h = absurd (not-suc-le-zero h)
+    go (b ∷ s) zero h = refl
+    go (b ∷ s) (suc i) h = ap (λ (t : List ℕ). b ∷ t) (go s i (omega arith))
+
+module _ (v : List ℕ → Bool) (s : List ℕ) (i : ℕ) where
+  pub passes-stop : i < length s → v (take (i + 1) s) ≡ false → passes v (take i s) (drop i s) ≡ 0
+  passes-stop h e = rw (drop-here s i h, ap v (sym (take-one s i h)) ∙ e)
+
+  pub passes-next : i < length s → v (take (i + 1) s) ≡ true → passes v (take i s) (drop i s) ≡ suc (passes v (take (i + 1) s) (drop (i + 1) s))
+  passes-next h e = rw (drop-here s i h, ← take-one s i h, e)
+
+  pub passes-end : length s ≤ i → passes v (take i s) (drop i s) ≡ 0
+  passes-end h = rw (drop-end s i h)

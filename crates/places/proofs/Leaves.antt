@@ -1,18 +1,21 @@
 -- The places of a first byte, a run, a shape, a list of shapes, and of prefixes that a test lets pass. Assumes nothing.
 use Prim.Native.Nat.{ℕ, zero, suc, _+_, _-_, _<_, _≤_}
 use mathlib.Core.Path.{_≡_, refl, sym, ap, _∙_, subst}
-use mathlib.Core.Bool.{Bool, true, false, _&&_, _||_, not, cond, false≢true, true≢false}
-use mathlib.Core.List.{List, [], _∷_, _++_, append-assoc, append-nil}
+use mathlib.Core.Bool.{Bool, true, false, _&&_, _||_, cond, false≢true}
+use mathlib.Core.List.{List, [], _∷_, _++_, append-assoc}
 use native.Mathlib.Omega.{arith}
-use native.Mathlib.Nat.{not-suc-le-zero, le-of-suc-le-suc, add-zero}
-use lib.Dec.{leb, ltb}
-use lib.ListN.{length, take, drop, length-append}
-use borrow.Author.Tests.{leb-true, leb-false, le-leb, lt-leb, ltb-true, ltb-false, lt-ltb, le-ltb}
+use native.Mathlib.Nat.{not-suc-le-zero, le-of-suc-le-suc}
+use lib.Dec.{leb}
+use lib.ListN.{length, take, length-append}
+use lib.Seq.{length-take-le}
+use borrow.Author.Tests.{leb-true, leb-false, le-leb, lt-leb}
 use Rattle.text.specs.Words.{Word, all, null}
 use Rattle.text.proofs.Tests.{both, and-both, and-false, all-append}
 use Rattle.shape.specs.Shape.{inClass, fits, any}
 use Rattle.places.specs.Place.{IsPlace, Hopeful, Hopeless}
-use Rattle.places.specs.Parts.{larger, smaller, front, firstFits, firstPlace, noMore, runFits, runPlace, along, farthest, sample, sampled, passes}
+use Rattle.places.specs.Parts.{larger, front, firstFits, firstPlace, noMore, runFits, runPlace, along, farthest, sample, sampled, passes}
+use Rattle.places.proofs.Given.{or-cond}
+use Rattle.places.proofs.Larger.{larger-first, larger-under}
 use Rattle.places.proofs.Place.{place-of-language, no-place, either-place}
 
 -- NOTHING MORE
@@ -23,20 +26,17 @@ nil-place (b ∷ s) = record { within = omega arith; before = λ k h. absurd (no
 
 -- or something: the place is that of the something
 pub maybe-place : (f : List ℕ → Bool) (s : List ℕ) (p : ℕ) → IsPlace f s p → IsPlace (λ w. null w || f w) s p
-maybe-place f s p a = subst (IsPlace (λ w. null w || f w) s) small (either-place null f s 0 p (nil-place s) a)
-  where
-    small : larger 0 p ≡ p
-    small = rw (le-leb 0 p (omega arith))
+maybe-place f s p a = subst (IsPlace (λ w. null w || f w) s) (larger-first p) (either-place null f s 0 p (nil-place s) a)
 
 -- nothing more, on a condition
 pub nil-if-place : (c : Bool) (s : List ℕ) → IsPlace (λ w. c && null w) s (noMore s)
 nil-if-place true s = nil-place s
 nil-if-place false s = no-place s
 
--- A FIRST BYTE
+-- A FIRST BYTE: what follows it need have a place only behind the bytes that may stand there
 
 pub first-place : (q : ℕ → Bool) (f : ℕ → List ℕ → Bool) (pf : ℕ → List ℕ → ℕ)
-    → ((b : ℕ) (s : List ℕ) → IsPlace (f b) s (pf b s))
+    → ((b : ℕ) → q b ≡ true → (s : List ℕ) → IsPlace (f b) s (pf b s))
     → ((b : ℕ) → q b ≡ true → (t : List ℕ) × (f b t ≡ true))
     → (s : List ℕ) → IsPlace (firstFits q f) s (firstPlace q pf s)
 first-place q f pf right some [] = record { within = omega arith; before = λ k h. absurd (not-suc-le-zero h); there = λ h. absurd (not-suc-le-zero h) }
@@ -44,14 +44,14 @@ first-place q f pf right some (b ∷ s) = go (q b) refl
   where
     here : q b ≡ true → (k : ℕ) → k < suc (pf b s) → Hopeful (firstFits q f) (b ∷ s) k
     here e zero h = let t = some b e in (t .0, and-both (q b) (f b (t .0)) e (t .1))
-    here e (suc k) h = let t = right b s .before k (le-of-suc-le-suc h) in (t .0, and-both (q b) (f b (take (suc k) s ++ t .0)) e (t .1))
+    here e (suc k) h = let t = right b e s .before k (le-of-suc-le-suc h) in (t .0, and-both (q b) (f b (take (suc k) s ++ t .0)) e (t .1))
 
     go : (c : Bool) → q b ≡ c → IsPlace (firstFits q f) (b ∷ s) (cond c (suc (pf b s)) 0)
     go true e =
         record {
-          within = let w = right b s .within in omega arith;
+          within = let w = right b e s .within in omega arith;
           before = here e;
-          there = λ h t. and-false (q b) (f b (take (suc (pf b s)) s ++ t)) (right b s .there (le-of-suc-le-suc h) t);
+          there = λ h t. and-false (q b) (f b (take (suc (pf b s)) s ++ t)) (right b e s .there (le-of-suc-le-suc h) t);
         }
     go false e = record { within = omega arith; before = λ k h. absurd (not-suc-le-zero h); there = λ h t. rw e }
 
@@ -86,18 +86,26 @@ front-all p (b ∷ s) (suc n) h = go (front-all p s n) (p b) refl h
     go ih true e l = rw (e, ih (le-of-suc-le-suc l))
     go ih false e l = absurd (not-suc-le-zero l)
 
+-- bytes that are all of a set are in front
+pub all-front : (p : ℕ → Bool) (n : ℕ) (s : List ℕ) → n ≤ length s → all p (take n s) ≡ true → n ≤ front p s
+all-front p zero s l e = omega arith
+all-front p (suc n) [] l e = absurd (not-suc-le-zero l)
+all-front p (suc n) (b ∷ s) l e =
+    let h = both (p b) (all p (take n s)) e in
+    let i = all-front p n s (le-of-suc-le-suc l) (h .1) in
+    rw (h .0) (suc-le i)
+  where
+    suc-le : n ≤ front p s → suc n ≤ suc (front p s)
+    suc-le i = omega arith
+
 front-off : (p : ℕ → Bool) (s : List ℕ) → front p s < length s → (t : List ℕ) → all p (take (suc (front p s)) s ++ t) ≡ false
 front-off p [] h t = absurd (not-suc-le-zero h)
 front-off p (b ∷ s) h t = go (λ l. front-off p s l t) (p b) refl h
   where
-    go : (front p s < length s → all p (take (suc (front p s)) s ++ t) ≡ false) → (c : Bool) → p b ≡ c → cond c (suc (front p s)) 0 < suc (length s) → all p (take (suc (cond c (suc (front p s)) 0)) (b ∷ s) ++ t) ≡ false
+    go : (front p s < length s → all p (take (suc (front p s)) s ++ t) ≡ false) → (c : Bool) → p b ≡ c → cond c (suc (front p s)) 0 < suc (length s)
+        → all p (take (suc (cond c (suc (front p s)) 0)) (b ∷ s) ++ t) ≡ false
     go ih true e l = and-false (p b) (all p (take (suc (front p s)) s ++ t)) (ih (le-of-suc-le-suc l))
     go ih false e l = rw e
-
-take-length : (n : ℕ) (s : List ℕ) → n ≤ length s → length (take n s) ≡ n
-take-length zero s h = refl
-take-length (suc n) [] h = absurd (not-suc-le-zero h)
-take-length (suc n) (b ∷ s) h = ap suc (take-length n s (le-of-suc-le-suc h))
 
 module _ (least most : ℕ) (p : ℕ → Bool) (l : least ≤ most) (b : ℕ) (e : p b ≡ true) where
   run-on : (s : List ℕ) (k : ℕ) → suc k ≤ most → suc k ≤ front p s → Hopeful (runFits least most p) s k
@@ -105,7 +113,8 @@ module _ (least most : ℕ) (p : ℕ → Bool) (l : least ≤ most) (b : ℕ) (e
       let t = fill b (least - suc k) in
       let w = take (suc k) s ++ t in
       let n : length w ≡ suc k + (least - suc k) =
-      length-append (take (suc k) s) t ∙ (let a = take-length (suc k) s (let x = front-le p s in omega arith) in let c = fill-length b (least - suc k) in omega arith) in (
+      length-append (take (suc k) s) t ∙ (let a =
+      length-take-le (suc k) s (let x = front-le p s in omega arith) in let c = fill-length b (least - suc k) in omega arith) in (
         t,
         and-both (leb least (length w)) (leb (length w) most && all p w) (le-leb least (length w) (omega arith))
             (and-both (leb (length w) most) (all p w) (le-leb (length w) most (omega arith))
@@ -120,7 +129,7 @@ module _ (least most : ℕ) (p : ℕ → Bool) (l : least ≤ most) (b : ℕ) (e
   run-over : (s : List ℕ) → most < length s → Hopeless (runFits least most p) s most
   run-over s h t =
       let w = take (suc most) s ++ t in
-      let n : most < length w = (let a = length-append (take (suc most) s) t in let c = take-length (suc most) s h in omega arith) in
+      let n : most < length w = (let a = length-append (take (suc most) s) t in let c = length-take-le (suc most) s h in omega arith) in
       and-false (leb least (length w)) (leb (length w) most && all p w) (rw (lt-leb (length w) most n))
 
   pub run-place : (s : List ℕ) → IsPlace (runFits least most p) s (runPlace most p s)
@@ -133,6 +142,22 @@ module _ (least most : ℕ) (p : ℕ → Bool) (l : least ≤ most) (b : ℕ) (e
       go false q =
           let m : front p s < most = leb-false most (front p s) q in
           record { within = front-le p s; before = λ k h. run-on s k (omega arith) h; there = run-off s }
+
+-- a place before that of a run is before the greatest length and before the first byte that is not of the set
+module _ (p : ℕ → Bool) (s : List ℕ) (most k : ℕ) where
+  pub run-below : k < runPlace most p s → (k < most) × (k < front p s)
+  run-below = go (leb most (front p s)) refl
+    where
+      go : (c : Bool) → leb most (front p s) ≡ c → k < cond c most (front p s) → (k < most) × (k < front p s)
+      go true e h = let l = leb-true most (front p s) e in (h, omega arith)
+      go false e h = let l = leb-false most (front p s) e in (omega arith, h)
+
+  pub run-above : k < most → k < front p s → k < runPlace most p s
+  run-above h i = go (leb most (front p s))
+    where
+      go : (c : Bool) → k < cond c most (front p s)
+      go true = h
+      go false = i
 
 -- A SHAPE, AND A LIST OF SHAPES
 
@@ -163,12 +188,21 @@ pub any-place : (ts : List Word) → sampled ts ≡ true → (s : List ℕ) → 
 any-place [] h s = no-place s
 any-place (t ∷ ts) h s =
     let g = both (fits t (sample t)) (sampled ts) h in
-    place-of-language (λ w. fits t w || any ts w) (any (t ∷ ts)) (λ w. same (fits t w) (any ts w)) s (larger (along t s) (farthest ts s))
+    place-of-language (λ w. fits t w || any ts w) (any (t ∷ ts)) (λ w. or-cond (fits t w) (any ts w)) s (larger (along t s) (farthest ts s))
     (either-place (fits t) (any ts) s (along t s) (farthest ts s) (along-place t (sample t) (g .0) s) (any-place ts (g .1) s))
+
+pub along-le : (t w : Word) → along t w ≤ length w
+along-le [] w = omega arith
+along-le (t ∷ ts) [] = omega arith
+along-le (t ∷ ts) (b ∷ w) = go (inClass t b) (along-le ts w)
   where
-    same : (a b : Bool) → (a || b) ≡ cond a true b
-    same true b = refl
-    same false b = refl
+    go : (x : Bool) → along ts w ≤ length w → cond x (suc (along ts w)) 0 ≤ suc (length w)
+    go true h = omega arith
+    go false h = omega arith
+
+pub farthest-le : (ts : List Word) (w : Word) → farthest ts w ≤ length w
+farthest-le [] w = omega arith
+farthest-le (t ∷ ts) w = larger-under (along t w) (farthest ts w) (length w) (along-le t w) (farthest-le ts w)
 
 -- PREFIXES: a test that says which of them can be completed
 
@@ -194,7 +228,8 @@ passes-place fit viable v (b ∷ s) p = go (viable q) refl (passes-place fit via
     off e t true f = absurd (false≢true (sym e ∙ v .kept q t (ap fit (shift t) ∙ f)))
     off e t false f = refl
 
-    go : (c : Bool) → viable q ≡ c → IsPlace (λ t. fit (q ++ t)) s (passes viable q s) → IsPlace (λ t. fit (p ++ t)) (b ∷ s) (cond c (suc (passes viable q s)) 0)
+    go : (c : Bool) → viable q ≡ c → IsPlace (λ t. fit (q ++ t)) s (passes viable q s)
+        → IsPlace (λ t. fit (p ++ t)) (b ∷ s) (cond c (suc (passes viable q s)) 0)
     go true e ih =
         record {
           within = let w = ih .within in omega arith;

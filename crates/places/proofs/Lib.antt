@@ -1,4 +1,6 @@
 pub mod Place
+pub mod Given
+pub mod Larger
 pub mod Parts
 pub mod Leaves
 pub mod Cuts
@@ -6,4 +8,3 @@ pub mod Fixed
 pub mod Words
 pub mod Index
 pub mod Texts
-pub mod Given

@@ -1,20 +1,18 @@
 -- The place of a form from the places of its parts, shown right. Assumes nothing.
 use Prim.Native.Nat.{ℕ, zero, suc, _+_, _-_, _<_, _≤_}
 use mathlib.Core.Path.{_≡_, refl, sym, ap, _∙_, subst}
-use mathlib.Core.Bool.{Bool, true, false, _&&_, _||_, not, cond, false≢true, true≢false}
-use mathlib.Core.List.{List, [], _∷_, _++_, append-assoc, append-nil}
+use mathlib.Core.Bool.{Bool, true, false, _&&_, not, cond, and-false}
+use mathlib.Core.List.{List, [], _∷_, _++_, append-assoc}
 use native.Mathlib.Omega.{arith}
-use native.Mathlib.Nat.{not-suc-le-zero, le-of-suc-le-suc, add-zero}
-use lib.Dec.{leb, ltb}
+use native.Mathlib.Nat.{zero-add}
+use lib.Dec.{ltb}
 use lib.ListN.{length, take, drop, length-append}
-use lib.Seq.{take-append-le, take-append-seam}
-use borrow.Author.Tests.{leb-true, leb-false, ltb-true, ltb-false, lt-ltb, le-ltb, not-true, not-false}
-use Rattle.text.specs.Words.{Word, all}
+use lib.Seq.{take-append-seam, drop-append-seam}
+use borrow.Author.Tests.{ltb-true, ltb-false, not-true}
+use Rattle.text.specs.Words.{all}
 use Rattle.text.proofs.Tests.{both, and-both, all-append}
-use Rattle.shape.specs.Shape.{inClass, fits, any}
 use Rattle.places.specs.Place.{IsPlace, Hopeful, Hopeless}
-use Rattle.places.specs.Parts.{larger, front, inFront, fromThere, thenFits, thenPlace, along, farthest, passes}
-use Rattle.places.proofs.Place.{place-of-language, no-place, either-place}
+use Rattle.places.specs.Parts.{front, thenFits, thenPlace}
 
 -- CUTTING at the first byte that is not of the set
 
@@ -27,14 +25,6 @@ module _ (p : ℕ → Bool) where
   front-cut [] [] e h = refl
   front-cut [] (b ∷ r) e h = rw (not-true (p b) h)
   front-cut (x ∷ a) r e h = let q = both (p x) (all p a) e in rw (q .0, front-cut a r (q .1) h)
-
-  take-cut : (a r : List ℕ) → take (length a) (a ++ r) ≡ a
-  take-cut [] r = refl
-  take-cut (x ∷ a) r = ap (λ (l : List ℕ). x ∷ l) (take-cut a r)
-
-  drop-cut : (a r : List ℕ) → drop (length a) (a ++ r) ≡ r
-  drop-cut [] r = refl
-  drop-cut (x ∷ a) r = drop-cut a r
 
   pub record Cut (s : List ℕ) : Type 0 where
     pub a : List ℕ
@@ -52,9 +42,9 @@ module _ (p : ℕ → Bool) where
       go false e h = record { a = []; r = b ∷ s; whole = refl; inside = refl; stop = rw e }
 
   pub then-at : (f g : List ℕ → Bool) (a r : List ℕ) → all p a ≡ true → stops p r ≡ true → thenFits p f g (a ++ r) ≡ (f a && g r)
-  then-at f g a r e h = rw (front-cut a r e h, take-cut a r, drop-cut a r)
+  then-at f g a r e h = rw (front-cut a r e h, take-append-seam a r, drop-append-seam a r)
 
-  all-take : (n : ℕ) (a : List ℕ) → all p a ≡ true → all p (take n a) ≡ true
+  pub all-take : (n : ℕ) (a : List ℕ) → all p a ≡ true → all p (take n a) ≡ true
   all-take zero a e = refl
   all-take (suc n) [] e = refl
   all-take (suc n) (x ∷ a) e = let q = both (p x) (all p a) e in rw (q .0, all-take n a (q .1))
@@ -65,10 +55,7 @@ take-in zero (x ∷ a) r h = refl
 take-in (suc k) (x ∷ a) r h = ap (λ (l : List ℕ). x ∷ l) (take-in k a r (omega arith))
 
 pub take-beyond : (j : ℕ) (a r : List ℕ) → take (suc (length a + j)) (a ++ r) ≡ a ++ take (suc j) r
-take-beyond j [] r = rw (zero-plus j)
-  where
-    zero-plus : (j : ℕ) → 0 + j ≡ j
-    zero-plus j = omega arith
+take-beyond j [] r = rw (zero-add j)
 take-beyond j (x ∷ a) r =
     let e : suc (length a) + j ≡ suc (length a + j) = omega arith in
     rw e (ap (λ (l : List ℕ). x ∷ l) (take-beyond j a r))
@@ -142,11 +129,7 @@ module _ (p : ℕ → Bool) (f g : List ℕ → Bool) (pf pg : List ℕ → ℕ)
       ∙ ap (thenFits p f g) (append-assoc a (take (suc (pg (b ∷ r))) (b ∷ r)) t)
       ∙ then-at p f g a (take (suc (pg (b ∷ r))) (b ∷ r) ++ t) i st
       ∙ ap (λ (x : Bool). f a && x) (g-right (b ∷ r) .there l t)
-      ∙ no (f a)
-    where
-      no : (x : Bool) → (x && false) ≡ false
-      no true = refl
-      no false = refl
+      ∙ and-false (f a)
 
   -- a part of f that does not fit, and the byte behind it
   off-cut : (a : List ℕ) (b : ℕ) (r : List ℕ) → all p a ≡ true → stops p (b ∷ r) ≡ true → f a ≡ false → Hopeless (thenFits p f g) (a ++ (b ∷ r)) (length a)
@@ -203,7 +186,7 @@ module _ (p : ℕ → Bool) (f g : List ℕ → Bool) (pf pg : List ℕ → ℕ)
     where
       here : IsPlace (thenFits p f g) (c .a ++ c .r) (thenPlace p f pf pg (c .a ++ c .r))
       here =
-          rw (front-cut p (c .a) (c .r) (c .inside) (c .stop), take-cut p (c .a) (c .r), drop-cut p (c .a) (c .r))
+          rw (front-cut p (c .a) (c .r) (c .inside) (c .stop), take-append-seam (c .a) (c .r), drop-append-seam (c .a) (c .r))
           (at-cut (c .a) (c .r) (c .inside) (c .stop) _ _ refl refl)
 
   pub then-place : (s : List ℕ) → IsPlace (thenFits p f g) s (thenPlace p f pf pg s)

@@ -1,8 +1,8 @@
 -- The place is unique and depends on the language alone. Assumes nothing.
 use Prim.Native.Nat.{ℕ, zero, suc, _<_, _≤_}
 use mathlib.Core.Path.{_≡_, refl, sym, ap, _∙_, subst, fun-ext}
-use mathlib.Core.Bool.{Bool, true, false, _||_, cond, false≢true}
-use mathlib.Core.List.{List, [], _∷_, _++_}
+use mathlib.Core.Bool.{Bool, true, false, _||_, cond, or-true, or-false, false≢true, true≢false}
+use mathlib.Core.List.{List, [], _∷_, _++_, append-assoc}
 use native.Mathlib.Omega.{arith}
 use native.Mathlib.Nat.{not-suc-le-zero}
 use lib.Dec.{leb}
@@ -47,10 +47,6 @@ later f s p k h n t = ap f (cut s p k h t) ∙ n (drop (suc p) (take (suc k) s) 
     cut (x ∷ s) (suc p) zero h t = absurd (omega arith)
     cut (x ∷ s) (suc p) (suc k) h t = ap (λ (l : List ℕ). x ∷ l) (cut s p k (omega arith) t)
 
-or-true : (a : Bool) → (a || true) ≡ true
-or-true true = refl
-or-true false = refl
-
 pub either-place : (f g : List ℕ → Bool) (s : List ℕ) (p q : ℕ) → IsPlace f s p → IsPlace g s q → IsPlace (λ t. f t || g t) s (larger p q)
 either-place f g s p q a b = go (leb p q) refl
   where
@@ -69,4 +65,39 @@ either-place f g s p q a b = go (leb p q) refl
         record { within = b .within; before = λ k h. right k (b .before k h); there = λ h. neither q (later f s p q l (a .there (omega arith))) (b .there h) }
     go false e =
         let l : q < p = leb-false p q e in
-        record { within = a .within; before = λ k h. left k (a .before k h); there = λ h. neither p (a .there h) (later g s q p (omega arith) (b .there (omega arith))) }
+        record {
+          within =
+              a .within;
+          before = λ k h. left k (a .before k h);
+          there = λ h. neither p (a .there h) (later g s q p (omega arith) (b .there (omega arith)));
+        }
+
+-- A FORM BETWEEN TWO that have the same place, and one whose contents all go on to another's
+
+pub sandwich : (h f g : List ℕ → Bool) → ((w : List ℕ) → h w ≡ true → f w ≡ true) → ((w : List ℕ) → f w ≡ true → g w ≡ true)
+    → (s : List ℕ) (p : ℕ) → IsPlace h s p → IsPlace g s p → IsPlace f s p
+sandwich h f g i j s p a b =
+    record {
+      within = a .within;
+      before = λ k l. let t = a .before k l in (t .0, i (take (suc k) s ++ t .0) (t .1));
+      there = λ l t. off l t (f (take (suc p) s ++ t)) refl;
+    }
+  where
+    off : p < length s → (t : List ℕ) (x : Bool) → f (take (suc p) s ++ t) ≡ x → x ≡ false
+    off l t true e = absurd (true≢false (sym (j (take (suc p) s ++ t) e) ∙ b .there l t))
+    off l t false e = refl
+
+pub absorbed : (f g : List ℕ → Bool) → ((w : List ℕ) → f w ≡ true → (t : List ℕ) × (g (w ++ t) ≡ true))
+    → (s : List ℕ) (p : ℕ) → IsPlace g s p → IsPlace (λ w. f w || g w) s p
+absorbed f g i s p a =
+    record {
+      within = a .within;
+      before = λ k l. let t = a .before k l in (t .0, rw (t .1) (or-true (f (take (suc k) s ++ t .0))));
+      there = λ l t. rw (a .there l t) (or-false (f (take (suc p) s ++ t)) ∙ off l t (f (take (suc p) s ++ t)) refl);
+    }
+  where
+    off : p < length s → (t : List ℕ) (x : Bool) → f (take (suc p) s ++ t) ≡ x → x ≡ false
+    off l t true e =
+        let m = i (take (suc p) s ++ t) e in
+        absurd (true≢false (sym (m .1) ∙ ap g (append-assoc (take (suc p) s) t (m .0)) ∙ a .there l (t ++ m .0)))
+    off l t false e = refl

@@ -1,65 +1,78 @@
--- The place of one or more bytes of a set, and so of a text word; how long a word at an index is. Assumes nothing.
-use Prim.Native.Nat.{ℕ, suc, _-_, _≤_}
-use mathlib.Core.Path.{_≡_, refl, ap, _∙_, subst}
+-- The place of so many bytes of a set at least, and so of a text word; how long a word at an index is. Assumes nothing.
+use Prim.Native.Nat.{ℕ, suc, _+_, _-_, _≤_}
+use mathlib.Core.Path.{_≡_, refl, sym, _∙_, subst}
 use mathlib.Core.Bool.{Bool, true, false, _&&_, not, cond}
-use mathlib.Core.List.{List, [], _∷_, _++_, append-nil}
+use mathlib.Core.List.{List, [], _∷_, _++_}
 use native.Mathlib.Omega.{arith}
+use lib.Dec.{leb}
 use lib.ListN.{length, take, drop, length-drop}
 use lib.Seq.{length-take-le}
+use borrow.Author.Tests.{leb-true, le-leb}
 use Rattle.alphabet.specs.Alphabet.{text, inAlphabet, white}
-use Rattle.text.specs.Words.{all, null, textWord}
-use Rattle.text.proofs.Tests.{both}
+use Rattle.text.specs.Words.{all, null, free, textWord}
+use Rattle.text.proofs.Tests.{both, and-both}
+use Rattle.text.proofs.Tidy.{text-word-tidy, word-free}
 use Rattle.places.specs.Place.{IsPlace}
-use Rattle.places.specs.Parts.{front, passes}
-use Rattle.places.proofs.Leaves.{passes-place}
+use Rattle.places.specs.Parts.{front, runFits, runPlace}
+use Rattle.places.proofs.Place.{place-of-language}
+use Rattle.places.proofs.Leaves.{front-le, run-place}
 
--- ONE OR MORE BYTES OF A SET
+-- SO MANY BYTES OF A SET AT LEAST: the place is the first byte that is not of it
 
-module _ (p : ℕ → Bool) where
-  abbrev someOf : List ℕ → Bool
-  someOf w = not (null w) && all p w
+module _ (least : ℕ) (p : ℕ → Bool) (b : ℕ) (e : p b ≡ true) where
+  abbrev atLeast : List ℕ → Bool
+  atLeast w = leb least (length w) && all p w
 
-  front-part : (v w : List ℕ) → all p (v ++ w) ≡ true → all p v ≡ true
-  front-part [] w e = refl
-  front-part (x ∷ v) w e = let q = both (p x) (all p (v ++ w)) e in rw (q .0, front-part v w (q .1))
+  -- one of at most so many, where there are no more
+  as-run : (most : ℕ) (w : List ℕ) → length w ≤ most → runFits least most p w ≡ atLeast w
+  as-run most w h = rw (le-leb (length w) most h)
 
-  one-more : (v : List ℕ) (b : ℕ) → all p v ≡ true → all p (v ++ (b ∷ [])) ≡ p b
-  one-more [] b e = yes (p b)
+  run-long : (most : ℕ) (w : List ℕ) → runFits least most p w ≡ true → atLeast w ≡ true
+  run-long most w h =
+      let g = both (leb least (length w)) (leb (length w) most && all p w) h in
+      and-both (leb least (length w)) (all p w) (g .0) (both (leb (length w) most) (all p w) (g .1) .1)
+
+  front-run : (most : ℕ) (s : List ℕ) → length s ≤ most → runPlace most p s ≡ front p s
+  front-run most s h = go (leb most (front p s)) refl
     where
-      yes : (x : Bool) → (x && true) ≡ x
-      yes true = refl
-      yes false = refl
-  one-more (x ∷ v) b e = let q = both (p x) (all p v) e in rw (q .0) (one-more v b (q .1))
+      go : (x : Bool) → leb most (front p s) ≡ x → cond x most (front p s) ≡ front p s
+      go true q = let m = leb-true most (front p s) q in let l = front-le p s in omega arith
+      go false q = refl
 
-  passes-front : (s v : List ℕ) → all p v ≡ true → passes (all p) v s ≡ front p s
-  passes-front [] v e = refl
-  passes-front (b ∷ s) v e = rw (one-more v b e) (go (p b) refl (passes-front s (v ++ (b ∷ []))))
+  bounded : (most : ℕ) (s : List ℕ) → least + length s ≤ most → IsPlace (runFits least most p) s (front p s)
+  bounded most s h = subst (IsPlace (runFits least most p) s) (front-run most s (omega arith)) (run-place least most p (omega arith) b e s)
+
+  pub many-place : (s : List ℕ) → IsPlace atLeast s (front p s)
+  many-place s =
+      record {
+        within = front-le p s;
+        before = λ k h. let r = bounded (least + length s) s (omega arith) .before k h in (r .0, run-long (least + length s) (take (suc k) s ++ r .0) (r .1));
+        there = λ h t. off (take (suc (front p s)) s ++ t) (λ most l. bounded most s l .there h t);
+      }
     where
-      go : (x : Bool) → p b ≡ x → (all p (v ++ (b ∷ [])) ≡ true → passes (all p) (v ++ (b ∷ [])) s ≡ front p s)
-          → cond x (suc (passes (all p) (v ++ (b ∷ [])) s)) 0 ≡ cond x (suc (front p s)) 0
-      go true q ih = ap suc (ih (one-more v b e ∙ q))
-      go false q ih = refl
+      off : (w : List ℕ) → ((most : ℕ) → least + length s ≤ most → runFits least most p w ≡ false) → atLeast w ≡ false
+      off w f = sym (as-run (least + length s + length w) w (omega arith)) ∙ f (least + length s + length w) (omega arith)
 
-  -- where the set has a byte, the place is the first byte that is not of it
-  pub some-place : (b : ℕ) → p b ≡ true → (s : List ℕ) → IsPlace (λ w. not (null w) && all p w) s (front p s)
-  some-place b e s =
-      subst (IsPlace someOf s) (passes-front s [] refl) (passes-place someOf (all p) (record { kept = kept; completed = completed }) s [])
-    where
-      kept : (v t : List ℕ) → someOf (v ++ t) ≡ true → all p v ≡ true
-      kept v t h = front-part v t (both (not (null (v ++ t))) (all p (v ++ t)) h .1)
-
-      completed : (v : List ℕ) → all p v ≡ true → (t : List ℕ) × (someOf (v ++ t) ≡ true)
-      completed [] h = (b ∷ [], rw e)
-      completed (x ∷ v) h = ([], ap someOf (append-nil (x ∷ v)) ∙ h)
+-- one or more
+pub some-place : (p : ℕ → Bool) (b : ℕ) → p b ≡ true → (s : List ℕ) → IsPlace (λ w. not (null w) && all p w) s (front p s)
+some-place p b e s =
+    place-of-language (λ w. leb 1 (length w) && all p w) (λ w. not (null w) && all p w) same s (front p s) (many-place 1 p b e s)
+  where
+    same : (w : List ℕ) → (leb 1 (length w) && all p w) ≡ (not (null w) && all p w)
+    same [] = refl
+    same (x ∷ w) = rw (le-leb 1 (length (x ∷ w)) (omega arith))
 
 -- A TEXT WORD
 
-letter-a : text 65 ≡ true
+pub letter-a : text 65 ≡ true
 unfolding text inAlphabet white
 letter-a = refl
 
 pub text-place : (s : List ℕ) → IsPlace textWord s (front text s)
 text-place = some-place text 65 letter-a
+
+pub text-free : (w : List ℕ) → textWord w ≡ true → free 32 w ≡ true
+text-free w e = word-free w (text-word-tidy w e)
 
 -- A WORD AT AN INDEX
 

@@ -1,22 +1,20 @@
 -- The place of a form of words is right. Assumes nothing.
-use Prim.Native.Nat.{ℕ, zero, suc, _+_, _-_, _<_, _≤_}
+use Prim.Native.Nat.{ℕ, suc, _+_, _-_, _<_, _≤_}
 use mathlib.Core.Path.{_≡_, refl, sym, ap, _∙_, subst}
-use mathlib.Core.Bool.{Bool, true, false, _&&_, _||_, not, cond, false≢true, true≢false}
+use mathlib.Core.Bool.{Bool, true, false, _||_, not, cond, false≢true, true≢false}
 use mathlib.Core.List.{List, [], _∷_, _++_, append-assoc, append-nil}
 use mathlib.Core.Option.{Option, none, some}
 use native.Mathlib.Omega.{arith}
-use native.Mathlib.Nat.{not-suc-le-zero}
-use lib.Dec.{leb, ltb, eqb}
+use lib.Dec.{ltb, eqb}
 use lib.ListN.{length, take, drop, length-append}
-use borrow.Author.Tests.{ltb-true, ltb-false, eqb-true, eq-eqb, not-true}
+use borrow.Author.Tests.{ltb-true, ltb-false, eqb-true, eqb-false}
 use Rattle.text.specs.Words.{Word, all, null, free, onto, split, join}
 use Rattle.text.proofs.Index.{null-split}
-use Rattle.text.proofs.Tests.{both, and-both, all-append}
+use Rattle.text.proofs.Tests.{both, all-append}
 use Rattle.text.proofs.Joined.{join-split, split-one, split-first}
 use Rattle.places.specs.Place.{IsPlace, Hopeful, Hopeless}
 use Rattle.places.specs.Words.{Words, ended, wordsFit, contentFits, onward, wordsPlace}
-use Rattle.places.proofs.Place.{place-of-language}
-use Rattle.places.proofs.Parts.{stops, Cut, cut, take-in, take-beyond, take-rest}
+use Rattle.places.proofs.Parts.{stops, cut, all-take, take-in, take-beyond, take-rest}
 use Rattle.places.proofs.Cuts.{but}
 
 -- words that hold no space, as those of a cut content do
@@ -30,21 +28,17 @@ free-split (b ∷ s) = go (eqb b 32) refl (split 32 s) (free-split s)
     go false e [] h = rw e
     go false e (w ∷ ws) h = let q = both (free 32 w) (all (free 32) ws) h in rw (e, q .0, q .1)
 
-apart : (m n : ℕ) → eqb m n ≡ false → m ≡ n → ⊥
-apart m n e q = true≢false (sym (eq-eqb m n q) ∙ e)
-
-all-take : (p : ℕ → Bool) (n : ℕ) (a : List ℕ) → all p a ≡ true → all p (take n a) ≡ true
-all-take p zero a e = refl
-all-take p (suc n) [] e = refl
-all-take p (suc n) (x ∷ a) e = let q = both (p x) (all p a) e in rw (q .0, all-take p n a (q .1))
-
-some-of : {A : Type 0} (o : Option A) → ended o ≡ true → (k : A) × (o ≡ some k)
+pub some-of : {A : Type 0} (o : Option A) → ended o ≡ true → (k : A) × (o ≡ some k)
 some-of none e = absurd (false≢true e)
 some-of (some k) e = (k, refl)
 
-none-of : {A : Type 0} (o : Option A) → ended o ≡ false → o ≡ none
+pub none-of : {A : Type 0} (o : Option A) → ended o ≡ false → o ≡ none
 none-of none e = refl
 none-of (some k) e = absurd (true≢false e)
+
+pub none-fits : (W : Words) (ws : List Word) → wordsFit W ws none ≡ false
+none-fits W [] = refl
+none-fits W (w ∷ ws) = refl
 
 module _ (W : Words) (pw : W .K → Word → ℕ)
     (right : (k : W .K) (w : Word) → IsPlace (λ v. ended (W .after k v)) w (pw k w))
@@ -52,10 +46,6 @@ module _ (W : Words) (pw : W .K → Word → ℕ)
     (alive : (k j : W .K) (w : Word) → W .after k w ≡ some j → (W .final j || W .goes j) ≡ true)
     (more : (k : W .K) → W .goes k ≡ true → (w : Word) × (j : W .K) × (W .after k w ≡ some j) × (W .final j ≡ true))
     (closed : (k : W .K) → W .goes k ≡ false → (w : Word) → W .after k w ≡ none) where
-  none-fits : (ws : List Word) → wordsFit W ws none ≡ false
-  none-fits [] = refl
-  none-fits (w ∷ ws) = refl
-
   -- one word, and a word with others behind it
   one : (k : W .K) (w : Word) → free 32 w ≡ true → contentFits W k w ≡ wordsFit W [] (W .after k w)
   one k w f = rw (split-one 32 w f)
@@ -94,13 +84,14 @@ module _ (W : Words) (pw : W .K → Word → ℕ)
   dead : (k : W .K) (w : Word) (r : List ℕ) → free 32 w ≡ true → stops (but 32) r ≡ true → W .after k w ≡ none → contentFits W k (w ++ r) ≡ false
   dead k w [] f st e = ap (contentFits W k) (append-nil w) ∙ one k w f ∙ rw e
   dead k w (b ∷ r) f st e =
-      ap (λ (c : ℕ). contentFits W k (w ++ (c ∷ r))) (is-space (eqb b 32) refl st) ∙ first k w r f ∙ rw e (none-fits (split 32 r))
+      ap (λ (c : ℕ). contentFits W k (w ++ (c ∷ r))) (is-space (eqb b 32) refl st) ∙ first k w r f ∙ rw e (none-fits W (split 32 r))
     where
       is-space : (x : Bool) → eqb b 32 ≡ x → not (not x) ≡ true → b ≡ 32
       is-space true q h = eqb-true b 32 q
       is-space false q h = absurd (false≢true h)
 
-  off-word : (k : W .K) (w : Word) (y : List ℕ) (i : ℕ) → free 32 w ≡ true → i < length w → Hopeless (λ v. ended (W .after k v)) w i → Hopeless (contentFits W k) (w ++ y) i
+  off-word : (k : W .K) (w : Word) (y : List ℕ) (i : ℕ) → free 32 w ≡ true → i < length w → Hopeless (λ v. ended (W .after k v)) w i
+      → Hopeless (contentFits W k) (w ++ y) i
   off-word k w y i f l n t =
       let c = cut (but 32) t in
       ap (λ (v : List ℕ). contentFits W k (v ++ t)) (take-in i w y l)
@@ -151,7 +142,7 @@ module _ (W : Words) (pw : W .K → Word → ℕ)
             let p = right k w .within in
             let same : pw k w ≡ length w = omega arith in
             subst (Hopeless (contentFits W k) (w ++ (32 ∷ y))) (sym same)
-            (λ t. ap (contentFits W k) (at-space t) ∙ first k w t f ∙ rw e (none-fits (split 32 t)))
+            (λ t. ap (contentFits W k) (at-space t) ∙ first k w t f ∙ rw e (none-fits W (split 32 t)))
 
     module _ (j : W .K) (e : W .after k w ≡ some j) where
       inside : (i : ℕ) → i < length w → Hopeful (contentFits W k) (w ++ (32 ∷ y)) i
@@ -166,14 +157,19 @@ module _ (W : Words) (pw : W .K → Word → ℕ)
       ends : W .goes j ≡ false → IsPlace (contentFits W k) (w ++ (32 ∷ y)) (length w)
       ends o =
           let m = long in
-          record { within = omega arith; before = inside; there = λ h t. ap (contentFits W k) (at-space t) ∙ first k w t f ∙ rw e (none-more (split 32 t) (some-word t)) }
+          record {
+            within =
+                omega arith;
+            before = inside;
+            there = λ h t. ap (contentFits W k) (at-space t) ∙ first k w t f ∙ rw e (none-more (split 32 t) (some-word t));
+          }
         where
           some-word : (t : List ℕ) → (split 32 t ≡ [] → ⊥)
           some-word t q = let z : _≡_ {A = Bool} true false = sym (ap null q) ∙ null-split 32 t in true≢false z
 
           none-more : (ws : List Word) → (ws ≡ [] → ⊥) → wordsFit W ws (some j) ≡ false
           none-more [] n = absurd (n refl)
-          none-more (v ∷ ws) n = rw (closed j o v) (none-fits ws)
+          none-more (v ∷ ws) n = rw (closed j o v) (none-fits W ws)
 
       goes : W .goes j ≡ true → (q : ℕ) → IsPlace (contentFits W j) y q → IsPlace (contentFits W k) (w ++ (32 ∷ y)) (suc (length w) + q)
       goes o q ih =
@@ -217,7 +213,7 @@ module _ (W : Words) (pw : W .K → Word → ℕ)
               pick : (x : Bool) → eqb i (length w) ≡ x → Hopeful (contentFits W k) (w ++ (32 ∷ y)) i
               pick true g = at i (eqb-true i (length w) g)
               pick false g =
-                  let d : i ≡ length w → ⊥ = apart i (length w) g in
+                  let d : i ≡ length w → ⊥ = eqb-false i (length w) g in
                   let m : length w ≤ i = ltb-false i (length w) z in
                   beyond (i - suc (length w)) i (omega arith) (omega arith)
 
@@ -242,4 +238,5 @@ module _ (W : Words) (pw : W .K → Word → ℕ)
     where
       go : (ws : List Word) → split 32 s ≡ ws → all (free 32) ws ≡ true → IsPlace (contentFits W k) s (wordsPlace W pw k ws)
       go [] e f = let z : _≡_ {A = Bool} true false = sym (ap null e) ∙ null-split 32 s in absurd (true≢false z)
-      go (w ∷ ws) e f = subst (λ (t : List ℕ). IsPlace (contentFits W k) t (wordsPlace W pw k (w ∷ ws))) (ap (join 32) (sym e) ∙ join-split 32 s) (joined w ws f k)
+      go (w ∷ ws) e f =
+          subst (λ (t : List ℕ). IsPlace (contentFits W k) t (wordsPlace W pw k (w ∷ ws))) (ap (join 32) (sym e) ∙ join-split 32 s) (joined w ws f k)

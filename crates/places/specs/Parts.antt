@@ -1,7 +1,6 @@
 -- The place of a form from the places of its parts. Assumes nothing.
 use Prim.Native.Nat.{ℕ, zero, suc, _+_, _*_, _-_}
-use mathlib.Core.Path.{_≡_, refl}
-use mathlib.Core.Bool.{Bool, true, false, _&&_, cond}
+use mathlib.Core.Bool.{Bool, false, _&&_, cond}
 use mathlib.Core.List.{List, [], _∷_, _++_}
 use lib.Dec.{leb, ltb}
 use lib.ListN.{length, take, drop, getD}
@@ -57,6 +56,14 @@ firstPlace q pf (b ∷ s) = cond (q b) (suc (pf b s)) 0
 abbrev pub noMore : List ℕ → ℕ
 noMore s = 0
 
+-- TWO DIGITS, the first from lo to hi
+
+abbrev pub between : ℕ → ℕ → ℕ → Bool
+between lo hi b = leb lo b && leb b hi
+
+abbrev pub twoDigits : ℕ → ℕ → Word → ℕ
+twoDigits lo hi w = firstPlace (between lo hi) (λ a. firstPlace digit (λ b. noMore)) w
+
 -- SO MANY BYTES of a set, and what may follow them
 
 abbrev pub fixedFits : (ℕ → Bool) → ℕ → (List ℕ → Bool) → List ℕ → Bool
@@ -75,10 +82,10 @@ abbrev pub units : ℕ → ℕ → ℕ → Bool
 units most a b = digit b && leb ((a - 48) * 10 + (b - 48)) most
 
 abbrev pub sixty : ℕ → Bool
-sixty c = leb 48 c && leb c 53
+sixty c = between 48 53 c
 
 abbrev pub minutesPlace : Word → ℕ
-minutesPlace w = firstPlace sixty (λ c. firstPlace digit (λ d. noMore)) w
+minutesPlace w = twoDigits 48 53 w
 
 unfoldable pub timePlace : ℕ → Word → ℕ
 timePlace most w = firstPlace (tens most) (λ a. firstPlace (units most a) (λ b. minutesPlace)) w

@@ -3,7 +3,7 @@ ghost use mathlib.Core.Path.{_≡_};
 ghost use Prim.Native.Nat.{_≤_};
 ghost use lib.ListN.{length};
 ghost use Rattle.text.specs.Kinds.{ofKind};
-ghost use Rattle.places.specs.Parts.{larger, smaller, front, runPlace, along, minutesPlace, timePlace};
+ghost use Rattle.places.specs.Parts.{larger, smaller, front, runPlace, along, twoDigits, timePlace};
 use text::Kind;
 
 pub fn larger_of(p: usize, q: usize) -> usize
@@ -63,18 +63,18 @@ pub fn along_shape(t: &[u8], w: &[u8]) -> usize
     i
 }
 
-// The place of the minutes of a time.
-fn minutes_place(w: &[u8]) -> usize
-    ensures { λ r. ⌜ r ≡ minutesPlace (now (w .entry)) ⌝ }
+// The place of two digits, the first from lo to hi.
+pub fn two_digits(lo: u8, hi: u8, w: &[u8]) -> usize
+    ensures { λ r. ⌜ r ≡ twoDigits lo hi (now (w .entry)) ⌝ }
 {
     if w.len() == 0 {
         return 0;
     }
     let a = w[0];
-    if a < b'0' {
+    if a < lo {
         return 0;
     }
-    if a > b'5' {
+    if a > hi {
         return 0;
     }
     if w.len() == 1 {
@@ -109,5 +109,5 @@ pub fn time_place(most: usize, w: &[u8]) -> usize
     if most < tens + shape::one(w[1]) {
         return 1;
     }
-    2 + minutes_place(&w[2..])
+    2 + two_digits(b'0', b'5', &w[2..])
 }

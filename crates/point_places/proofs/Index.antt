@@ -1,20 +1,19 @@
 -- The places of points where the code stands: a row byte by byte, the rows of a list one by one. Assumes nothing.
-use Prim.Native.Nat.{ℕ, suc, _+_, _-_, _<_, _≤_}
-use mathlib.Core.Path.{_≡_, refl, sym, ap, _∙_}
+use Prim.Native.Nat.{ℕ, suc, _+_, _<_, _≤_}
+use mathlib.Core.Path.{_≡_, refl, ap, _∙_}
 use mathlib.Core.Bool.{Bool, true, false, _&&_, cond}
-use mathlib.Core.List.{List, [], _∷_, _++_}
+use mathlib.Core.List.{List, _++_}
 use native.Mathlib.Omega.{arith}
 use lib.Dec.{leb}
 use lib.ListN.{length, take, drop, getD}
 use lib.Seq.{take-all}
-use borrow.Author.Tests.{leb-true, leb-false, le-leb, lt-leb, eq-eqb, ne-eqb}
+use borrow.Author.Tests.{eq-eqb, ne-eqb}
 use Rattle.alphabet.specs.Text.{bytes}
 use Rattle.alphabet.specs.Alphabet.{digit, sign}
-use Rattle.text.specs.Words.{Word, split, upTo}
-use Rattle.text.proofs.Index.{drop-here, drop-end, split-at, after-here, after-end}
+use Rattle.text.specs.Words.{Word, split}
+use Rattle.text.proofs.Index.{drop-here, drop-end}
 use Rattle.shape.specs.Shape.{inClass, wide}
 use Rattle.shape.proofs.Index.{fits-other}
-use Rattle.places.specs.Parts.{larger}
 use Rattle.route.specs.Points.{short, outOfRange}
 use Rattle.point_places.specs.Rows.{meets, rowPlace, rowsPlace}
 use Rattle.point_places.specs.Points.{shortRows, longRows, bearingRows, beyondRows}
@@ -49,43 +48,6 @@ module _ (t w : Word) (i : ℕ) where
 
   pub row-short : i < length t → length w ≤ i → rowPlace (drop i t) (drop i w) ≡ 0
   row-short h k = rw (drop-here t i h, drop-end w i k)
-
--- THE WORDS OF A LIST, one by one: the largest of the places that f gives to them
-
-larger-assoc : (a b c : ℕ) → larger (larger a b) c ≡ larger a (larger b c)
-larger-assoc a b c = first (leb a b) refl (leb b c) refl
-  where
-    first : (x : Bool) → leb a b ≡ x → (y : Bool) → leb b c ≡ y → larger (cond x b a) c ≡ larger a (cond y c b)
-    first true e true f = let i = leb-true a b e in let j = leb-true b c f in rw (f, le-leb a c (omega arith))
-    first true e false f = rw (f, e)
-    first false e true f = refl
-    first false e false f = let i = leb-false a b e in let j = leb-false b c f in rw (e, lt-leb a c (omega arith))
-
-larger-zero : (a : ℕ) → larger a 0 ≡ a
-larger-zero a = go (leb a 0) refl
-  where
-    go : (x : Bool) → leb a 0 ≡ x → cond x 0 a ≡ a
-    go true e = let i = leb-true a 0 e in omega arith
-    go false e = refl
-
-pub zero-larger : (a : ℕ) → larger 0 a ≡ a
-zero-larger a = rw (le-leb 0 a (omega arith))
-
-module _ (f : Word → ℕ) (g : List Word → ℕ) (nil : g [] ≡ 0) (more : (t : Word) (ts : List Word) → g (t ∷ ts) ≡ larger (f t) (g ts)) where
-  module _ (list : Word) (at e best n m : ℕ) (end : e ≡ at + upTo 32 (drop at list)) (this : n ≡ f (take (e - at) (drop at list)))
-      (next : m ≡ larger best n) where
-    pub largest-last : length list ≤ e → larger best (g (split 32 (drop at list))) ≡ m
-    largest-last l =
-        rw (split-at 32 list at e end, after-end 32 list e l, more (take (e - at) (drop at list)) [], nil, ← this)
-        (ap (larger best) (larger-zero n) ∙ sym next)
-
-    pub largest-next : e < length list → larger best (g (split 32 (drop at list))) ≡ larger m (g (split 32 (drop (e + 1) list)))
-    largest-next l =
-        rw (split-at 32 list at e end, after-here 32 list e l, more (take (e - at) (drop at list)) (split 32 (drop (e + 1) list)), ← this)
-        (sym (larger-assoc best n (g (split 32 (drop (e + 1) list)))) ∙ ap (λ (k : ℕ). larger k (g (split 32 (drop (e + 1) list)))) (sym next))
-
-pub larger-up : {p p′ q q′ r : ℕ} → r ≡ larger p q → p ≡ p′ → q ≡ q′ → r ≡ larger p′ q′
-larger-up {p} {p′} {q} {q′} e f g = e ∙ ap (λ (x : ℕ). larger x q) f ∙ ap (larger p′) g
 
 -- THE LISTS OF ROWS, byte for byte as the code has them
 

@@ -2,9 +2,8 @@
 use Prim.Native.Nat.{ℕ, zero, suc, _+_, _-_, _<_, _≤_}
 use mathlib.Core.Path.{_≡_, refl, sym, ap, ap₂, _∙_}
 use mathlib.Core.Bool.{Bool, true, false, _&&_, _||_, not, cond, false≢true, true≢false, or-true, or-false, or-assoc, Bool·not-not}
-use mathlib.Core.List.{List, [], _∷_, _++_, append-assoc, append-nil}
+use mathlib.Core.List.{List, [], _∷_, _++_, append-nil}
 use native.Mathlib.Omega.{arith}
-use native.Mathlib.Nat.{not-suc-le-zero, le-of-suc-le-suc}
 use lib.Dec.{leb, ltb, eqb, leb·suc-suc}
 use lib.ListN.{length, take, drop, length-append, length-drop, take-append-drop}
 use lib.Seq.{length-take-le, take-all}
@@ -18,8 +17,9 @@ use Rattle.shape.specs.Shape.{letters, fits, wide}
 use Rattle.shape.proofs.Index.{fits-lengths, fits-other}
 use Rattle.places.specs.Place.{IsPlace, Hopeful}
 use Rattle.places.specs.Parts.{larger, front, runFits, runPlace}
-use Rattle.places.proofs.Place.{place-of-language, either-place}
-use Rattle.places.proofs.Leaves.{run-place, front-le, front-all}
+use Rattle.places.proofs.Given.{iff}
+use Rattle.places.proofs.Place.{place-of-language, either-place, sandwich, absorbed}
+use Rattle.places.proofs.Leaves.{run-place, run-below, run-above, front-le, front-all, all-front}
 use Rattle.route.specs.Points.{short, long, polar, degreesInRange, degreesOf, within, minutesInRange, minutesOf, signsOf, polarOf, radialFits, indicators}
 use Rattle.route.specs.Points.{nameFits, pointFits}
 use Rattle.route.specs.Levels.{numberAt}
@@ -28,44 +28,6 @@ use Rattle.point_places.specs.Rows.{rowFits, anyRow, rowsPlace, rowsSamp
 use Rattle.point_places.specs.Points.{shortRows, longRows, polarRows, bearingRows, beyondRows, pointPlace, namePlace, plainPlace}
 use Rattle.point_places.proofs.Rows.{rows-place, rows-append, each-or, polar-is, short-is, long-is}
 use Rattle.route.proofs.Points.{bearing-parts, no-long, short-signs, three-letters, no-indicator}
-
--- TESTS
-
-iff : (a b : Bool) → (a ≡ true → b ≡ true) → (b ≡ true → a ≡ true) → a ≡ b
-iff true b f g = sym (f refl)
-iff false true f g = g refl
-iff false false f g = refl
-
--- A FORM BETWEEN TWO that have the same place, and one whose contents all go on to another's
-
-sandwich : (h f g : List ℕ → Bool) → ((w : List ℕ) → h w ≡ true → f w ≡ true) → ((w : List ℕ) → f w ≡ true → g w ≡ true)
-    → (s : List ℕ) (p : ℕ) → IsPlace h s p → IsPlace g s p → IsPlace f s p
-sandwich h f g i j s p a b =
-    record {
-      within = a .within;
-      before = λ k l. let t = a .before k l in (t .0, i (take (suc k) s ++ t .0) (t .1));
-      there = λ l t. off l t
-          (f (take (suc p) s ++ t)) refl;
-    }
-  where
-    off : p < length s → (t : List ℕ) (x : Bool) → f (take (suc p) s ++ t) ≡ x → x ≡ false
-    off l t true e = absurd (true≢false (sym (j (take (suc p) s ++ t) e) ∙ b .there l t))
-    off l t false e = refl
-
-pub absorbed : (f g : List ℕ → Bool) → ((w : List ℕ) → f w ≡ true → (t : List ℕ) × (g (w ++ t) ≡ true))
-    → (s : List ℕ) (p : ℕ) → IsPlace g s p → IsPlace (λ w. f w || g w) s p
-absorbed f g i s p a =
-    record {
-      within = a .within;
-      before = λ k l. let t = a .before k l in (t .0, rw (t .1) (or-true (f (take (suc k) s ++ t .0))));
-      there = λ l t. rw (a .there l t) (or-false (f (take (suc p) s ++ t)) ∙ off l t (f (take (suc p) s ++ t)) refl);
-    }
-  where
-    off : p < length s → (t : List ℕ) (x : Bool) → f (take (suc p) s ++ t) ≡ x → x ≡ false
-    off l t true e =
-        let m = i (take (suc p) s ++ t) e in
-        absurd (true≢false (sym (m .1) ∙ ap g (append-assoc (take (suc p) s) t (m .0)) ∙ a .there l (t ++ m .0)))
-    off l t false e = refl
 
 -- COORDINATES AND POINTS WITH BEARING, by their rows
 
@@ -277,33 +239,6 @@ point-right s =
 
 abbrev signs7 : Word → Bool
 signs7 w = runFits 2 7 sign w && not (outOfRange w)
-
-module _ (p : ℕ → Bool) (s : List ℕ) (most k : ℕ) where
-  run-below : k < runPlace most p s → (k < most) × (k < front p s)
-  run-below = go (leb most (front p s)) refl
-    where
-      go : (c : Bool) → leb most (front p s) ≡ c → k < cond c most (front p s) → (k < most) × (k < front p s)
-      go true e h = let l = leb-true most (front p s) e in (h, omega arith)
-      go false e h = let l = leb-false most (front p s) e in (omega arith, h)
-
-  run-above : k < most → k < front p s → k < runPlace most p s
-  run-above h i = go (leb most (front p s))
-    where
-      go : (c : Bool) → k < cond c most (front p s)
-      go true = h
-      go false = i
-
--- bytes that are all of a set are in front
-all-front : (p : ℕ → Bool) (n : ℕ) (s : List ℕ) → n ≤ length s → all p (take n s) ≡ true → n ≤ front p s
-all-front p zero s l e = omega arith
-all-front p (suc n) [] l e = absurd (not-suc-le-zero l)
-all-front p (suc n) (b ∷ s) l e =
-    let h = both (p b) (all p (take n s)) e in
-    let i = all-front p n s (le-of-suc-le-suc l) (h .1) in
-    rw (h .0) (suc-le i)
-  where
-    suc-le : n ≤ front p s → suc n ≤ suc (front p s)
-    suc-le i = omega arith
 
 few-signs : (w : List ℕ) → runFits 2 6 sign w ≡ true → signs7 w ≡ true
 unfolding outOfRange

@@ -30,7 +30,7 @@ row-place [] e h = nil-place
 row-place (x ∷ t) [] h = absurd (false≢true h)
 row-place (x ∷ t) (y ∷ e) h =
     let g = both (meets x y) (rowFits t e) h in
-    first-place (meets x) (λ b. rowFits t) (λ b. rowPlace t) (λ b. row-place t e (g .1)) (λ b q. (e, g .1))
+    first-place (meets x) (λ b. rowFits t) (λ b. rowPlace t) (λ b q. row-place t e (g .1)) (λ b q. (e, g .1))
 
 pub rows-place : (ts : List Word) → rowsSampled ts ≡ true → (s : List ℕ) → IsPlace (anyRow ts) s (rowsPlace ts s)
 rows-place [] h s = no-place s

@@ -21,7 +21,7 @@ use Rattle.places.specs.Words.{ended, wordsFit as fitWords, contentFits}
 use Rattle.places.proofs.Place.{place-of-language, no-place, either-place}
 use Rattle.places.proofs.Leaves.{along-place, any-place}
 use Rattle.places.proofs.Cuts.{cut-place}
-use Rattle.places.proofs.Words.{words-place}
+use Rattle.places.proofs.Words.{none-fits, words-place}
 use Rattle.route.specs.Levels.{speeds, levels, starts, changes, climbs}
 use Rattle.route.specs.Points.{indicators, nameFits, pointFits}
 use Rattle.route.specs.Field15.{pairFits, wordFits, elementFits, routeFits, wordsFit, fits15}
@@ -203,13 +203,9 @@ words-right = words-place route wordPlace word-right route-free (λ k j w e. ref
 
 -- as field 15 has them
 
-none-fits : (ws : List Word) → fitWords route ws none ≡ false
-none-fits [] = refl
-none-fits (w ∷ ws) = refl
-
 closed-fits : (ws : List Word) → fitWords route ws (some true) ≡ (null ws && routeFits ws)
 closed-fits [] = refl
-closed-fits (w ∷ ws) = none-fits ws
+closed-fits (w ∷ ws) = none-fits route ws
 
 words-is : (ws : List Word) → fitWords route ws (some false) ≡ routeFits ws
 words-is [] = refl
@@ -217,7 +213,7 @@ words-is (w ∷ ws) = first (same w (bytes "T")) refl (words-is ws)
   where
     second : (x : Bool) → fitWords route ws (some false) ≡ routeFits ws → fitWords route ws (cond x (some false) none) ≡ (x && routeFits ws)
     second true ih = ih
-    second false ih = none-fits ws
+    second false ih = none-fits route ws
 
     first : (x : Bool) → same w (bytes "T") ≡ x → fitWords route ws (some false) ≡ routeFits ws
         → fitWords route ws (cond x (some true) (cond (elementFits false w) (some false) none)) ≡ (elementFits (null ws) w && routeFits ws)

@@ -1,12 +1,12 @@
 -- The places of field 19 at an index, for the code. Assumes nothing.
 use Prim.Native.Nat.{ℕ, suc, _+_, _-_, _<_, _≤_}
-use mathlib.Core.Path.{_≡_, refl, sym, ap, _∙_}
+use mathlib.Core.Path.{_≡_, sym, ap, _∙_}
 use mathlib.Core.Bool.{true, false}
-use mathlib.Core.List.{List, [], _∷_}
+use mathlib.Core.List.{List}
 use mathlib.Core.Logic.{⊎-elim}
 use native.Mathlib.Omega.{arith}
-use lib.ListN.{length, take, drop, getD, length-drop}
-use lib.Seq.{length-take-le}
+use lib.ListN.{length, take, drop, getD}
+use lib.Seq.{length-take-le, drop-drop}
 use borrow.Author.Tests.{le-leb, lt-ltb, le-ltb, eq-eqb, ne-eqb}
 use types.Run.{OneOf}
 use Rattle.alphabet.specs.Text.{bytes}
@@ -15,8 +15,9 @@ use Rattle.text.specs.Words.{Word, split, upTo}
 use Rattle.text.proofs.Index.{rest}
 use Rattle.places.specs.Parts.{front, firstPlace, passes}
 use Rattle.places.specs.Words.{wordsPlace}
-use Rattle.places.proofs.Index.{first-none, first-stop, first-goes, second-byte, one-left, some-left, words-stuck, words-next}
-use Rattle.entries.proofs.Index.{passes-stop, passes-next}
+use Rattle.places.proofs.Texts.{word-length}
+use Rattle.places.proofs.Index.{passes-stop, passes-next, words-stuck, words-next}
+use Rattle.places.proofs.Index.{first-none, first-stop, first-goes, second-byte, one-left, some-left}
 use Rattle.supplement.specs.Field19.{keyed, byLetter, place, lettersFit, someOf}
 use Rattle.supplement.specs.declared.Stage.{Stage}
 use Rattle.supplement.specs.Walk.{past, step}
@@ -76,21 +77,14 @@ module _ (stage : Stage) (w : Word) where
 
     pub item-first : (r : ℕ) → (length w ≡ 1 → ⊥) → getD w 1 0 ≡ 47 → r ≡ firstWord 47 (take (length w - 2) (drop 2 w)) → 2 + r ≡ itemPlace stage w
     item-first r m e h =
-        let x : r ≡ firstWord 47 (drop 1 (drop 1 w)) = h ∙ ap (firstWord 47) (rest w 2 ∙ sym (drop-two w)) in
+        let x : r ≡ firstWord 47 (drop 1 (drop 1 w)) = h ∙ ap (firstWord 47) (rest w 2 ∙ sym (drop-drop 1 1 w)) in
         let y = behind-letter ∙ ap suc (first-goes oblique firstWord (drop 1 w) (some-left w some m) (ap oblique (second-byte w) ∙ eq-eqb (getD w 1 0) 47 e)) in
         omega arith
-      where
-        drop-two : (v : List ℕ) → drop 1 (drop 1 v) ≡ drop 2 v
-        drop-two [] = refl
-        drop-two (b ∷ v) = refl
 
 -- WORD BY WORD, where the next word ends at e
 
 pub word-within : (stage : Stage) (w : Word) → wordPlace stage w ≤ length w
 word-within stage w = word-right stage w .within
-
-pub word-length : (s : List ℕ) (at e : ℕ) → at ≤ e → e ≤ length s → length (take (e - at) (drop at s)) ≡ e - at
-word-length s at e h l = let n : length (drop at s) ≡ length s - at = length-drop at s in length-take-le (e - at) (drop at s) (omega arith)
 
 module _ (s : List ℕ) (stage : Stage) (at e : ℕ) (end : e ≡ at + upTo 32 (drop at s)) where
   abbrev word : Word

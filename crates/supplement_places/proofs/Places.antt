@@ -1,7 +1,7 @@
 -- The place of field 19 is right. Assumes nothing.
 use Prim.Native.Nat.{ℕ, suc, _≤_}
 use mathlib.Core.Path.{_≡_, refl, sym, ap, _∙_, subst}
-use mathlib.Core.Bool.{Bool, true, false, _&&_, _||_, cond, false≢true, true≢false}
+use mathlib.Core.Bool.{Bool, true, false, _&&_, _||_, cond, false≢true, true≢false, and-false}
 use mathlib.Core.List.{List, [], _∷_}
 use mathlib.Core.Option.{none, some}
 use native.Mathlib.Omega.{arith}
@@ -11,15 +11,16 @@ use borrow.Author.Tests.{ltb-false, le-ltb, eqb-true}
 use Rattle.alphabet.specs.Text.{bytes}
 use Rattle.alphabet.specs.Alphabet.{digit, text, inAlphabet, white}
 use Rattle.text.specs.Words.{Word, split, holds, before, behind, upTo, same, free, textWord}
-use Rattle.text.proofs.Tests.{both, and-false, other, all-free, same-eq}
+use Rattle.text.proofs.Tests.{both, other, all-free, same-eq}
 use Rattle.text.proofs.Joined.{holds-free}
-use Rattle.text.proofs.Tidy.{text-word-free, text-word-tidy, word-free}
+use Rattle.text.proofs.Tidy.{text-word-free}
 use Rattle.shape.specs.Time.{elapsedFits, elapsedHours}
 use Rattle.shape.proofs.Times.{time-digits}
 use Rattle.places.specs.Place.{IsPlace}
 use Rattle.places.specs.Words.{ended, wordsFit, contentFits}
 use Rattle.places.proofs.Place.{place-of-language, either-place}
 use Rattle.places.proofs.Words.{words-place}
+use Rattle.places.proofs.Texts.{text-free}
 use Rattle.supplement.specs.Field19.{Key, E, P, R, S, J, D, A, N, C, Other, keyed, byLetter, place, count, someOf, colour, cover, fits19}
 use Rattle.supplement.specs.Field19.{radioLetters, survivalLetters, lightLetters, jacketRadioLetters}
 use Rattle.supplement.specs.declared.Stage.{Stage}
@@ -31,9 +32,6 @@ use Rattle.supplement.proofs.Steps.{no-key}
 use Rattle.supplement.proofs.Walk.{last, walk-fits}
 use Rattle.supplement_places.specs.Places.{furtherPlace, comes, oblique, itemPlace, wordPlace, stands, reached, walk, place19}
 use Rattle.supplement_places.proofs.WordPlaces.{shaded-is, stands-taken, further-right, begins, begins-right}
-
-no : (x : Bool) → (x && false) ≡ false
-no x = and-false x false refl
 
 -- WHAT A WORD IS: neither a further word nor the first of an item holds a space, and a further word holds no oblique
 
@@ -68,9 +66,6 @@ further-text Remarks w e = taken-text Remarks refl textWord (λ v h. h) w e
 further-text Pilot w e = taken-text Pilot refl textWord (λ v h. h) w e
 further-text Refused w e = absurd (false≢true e)
 
-text-free : (w : Word) → textWord w ≡ true → free 32 w ≡ true
-text-free w e = word-free w (text-word-tidy w e)
-
 dinghies-text : (w : Word) → stands (first D w) ≡ true → textWord w ≡ true
 dinghies-text w e = go (count 2 w) refl e
   where
@@ -102,7 +97,7 @@ no-oblique-key stage = le-ltb (past stage) 0 (omega arith)
 
 begins-free : (stage : Stage) (w : Word) → begins stage w ≡ true → free 32 w ≡ true
 begins-free stage [] e = absurd (false≢true e)
-begins-free stage (b ∷ []) e = absurd (true≢false (sym e ∙ no (comes stage b)))
+begins-free stage (b ∷ []) e = absurd (true≢false (sym e ∙ and-false (comes stage b)))
 begins-free stage (b ∷ (c ∷ v)) e =
     let g = both (comes stage b) (oblique c && stands (first (byLetter b) v)) e in
     let h = both (oblique c) (stands (first (byLetter b) v)) (g .1) in
@@ -116,7 +111,7 @@ not-opened stage v w n = let l = no-key v n in rw (le-ltb (past stage) (place (k
 
 begins-opens : (stage : Stage) (w : Word) → holds 47 w ≡ true → begins stage w ≡ stands (opens stage (keyed (before 47 w)) (behind 47 w))
 begins-opens stage [] h = absurd (false≢true h)
-begins-opens stage (b ∷ []) h = no (comes stage b) ∙ sym (go (eqb b 47) h)
+begins-opens stage (b ∷ []) h = and-false (comes stage b) ∙ sym (go (eqb b 47) h)
   where
     go : (x : Bool) → ltb (cond x 0 1) 1 ≡ true → stands (opens stage (keyed (take (cond x 0 1) (b ∷ []))) (drop (suc (cond x 0 1)) (b ∷ []))) ≡ false
     go true q = not-opened stage [] [] (λ e. omega arith)
@@ -138,11 +133,11 @@ begins-opens stage (b ∷ (c ∷ v)) h = go (eqb b 47) refl (eqb c 47)
         ∙ sym (not-opened stage [] (c ∷ v) (λ e. omega arith))
     go false q true = opened (comes stage b)
     go false q false =
-        no (comes stage b) ∙ sym (not-opened stage (b ∷ (c ∷ take (upTo 47 v) v)) (drop (suc (upTo 47 v)) v) (λ e. omega arith))
+        and-false (comes stage b) ∙ sym (not-opened stage (b ∷ (c ∷ take (upTo 47 v) v)) (drop (suc (upTo 47 v)) v) (λ e. omega arith))
 
 begins-held : (stage : Stage) (w : Word) → holds 47 w ≡ false → begins stage w ≡ false
 begins-held stage [] h = refl
-begins-held stage (b ∷ []) h = no (comes stage b)
+begins-held stage (b ∷ []) h = and-false (comes stage b)
 begins-held stage (b ∷ (c ∷ v)) h = go (eqb c 47) refl
   where
     clash : (x : Bool) → suc (suc (length v)) ≤ cond x 0 1 → ⊥
@@ -154,7 +149,7 @@ begins-held stage (b ∷ (c ∷ v)) h = go (eqb c 47) refl
         absurd (clash (eqb b 47)
         (subst (λ (y : Bool). suc (suc (length v)) ≤ cond (eqb b 47) 0 (suc (cond y 0 (suc (upTo 47 v))))) q
         (ltb-false (upTo 47 (b ∷ (c ∷ v))) (length (b ∷ (c ∷ v))) h)))
-    go false q = no (comes stage b)
+    go false q = and-false (comes stage b)
 
 word-is : (stage : Stage) (w : Word) → (stands (further stage w) || begins stage w) ≡ stands (step stage w)
 unfolding step

@@ -1,25 +1,26 @@
 -- The place in a word of field 19 is right, by what was read before it. Assumes nothing.
-use Prim.Native.Nat.{ℕ, suc, _+_, _≤_}
+use Prim.Native.Nat.{ℕ, suc, _≤_}
 use mathlib.Core.Path.{_≡_, refl, sym, ap, _∙_, subst}
 use mathlib.Core.Bool.{Bool, true, false, _&&_, _||_, not, cond, true≢false}
 use mathlib.Core.List.{List, [], _∷_, _++_, append-nil}
 use native.Mathlib.Omega.{arith}
 use lib.Dec.{leb, ltb, eqb}
-use lib.ListN.{length, take}
-use borrow.Author.Tests.{leb-true, le-leb, le-ltb, eqb-true, not-true}
+use lib.ListN.{length}
+use borrow.Author.Tests.{le-leb, le-ltb, eqb-true, not-true}
 use Rattle.alphabet.specs.Text.{bytes}
 use Rattle.alphabet.specs.Alphabet.{letter, digit, text, inAlphabet, white, oneOf}
-use Rattle.text.specs.Words.{Word, all, same, textWord}
+use Rattle.text.specs.Words.{Word, same, textWord}
 use Rattle.text.proofs.Tests.{both, and-both}
 use Rattle.shape.specs.Time.{timeFits, elapsedFits, elapsedHours}
 use Rattle.places.specs.Place.{IsPlace}
-use Rattle.places.specs.Parts.{larger, front, firstFits, firstPlace, runFits, runPlace}
+use Rattle.places.specs.Parts.{larger, front, firstFits, firstPlace, runPlace}
 use Rattle.places.proofs.Place.{place-of-language, no-place, either-place}
-use Rattle.places.proofs.Leaves.{first-place, front-le, run-place, passes-place}
+use Rattle.places.proofs.Leaves.{first-place, run-place, passes-place}
 use Rattle.places.proofs.Fixed.{time-place}
+use Rattle.places.proofs.Larger.{larger-first}
+use Rattle.places.proofs.Texts.{many-place, text-place}
 use Rattle.entries.specs.Entries.{matched}
 use Rattle.entries.proofs.Entries.{label-place, same-swap}
-use Rattle.entries.proofs.Index.{larger-first}
 use Rattle.supplement.specs.Field19.{Key, E, P, R, S, J, D, A, N, C, Other, byLetter, place, count, lettersFit, someOf, colour, cover}
 use Rattle.supplement.specs.Field19.{radioLetters, survivalLetters, lightLetters, jacketRadioLetters}
 use Rattle.supplement.specs.declared.Stage.{Stage}
@@ -28,52 +29,7 @@ use Rattle.supplement.specs.declared.Stage.the-variants.{Aircraft, Remarks, Pil
 use Rattle.supplement.specs.Walk.{past, shaded, first, further}
 use Rattle.supplement_places.specs.Places.{lettersPlace, firstWordPlace, furtherPlace, comes, oblique, itemPlace, stands}
 
--- A RUN of so many bytes of a set at least
-
-module _ (least : ℕ) (p : ℕ → Bool) (b : ℕ) (e : p b ≡ true) where
-  abbrev atLeast : List ℕ → Bool
-  atLeast w = leb least (length w) && all p w
-
-  -- one of at most so many, where there are no more
-  as-run : (most : ℕ) (w : List ℕ) → length w ≤ most → runFits least most p w ≡ atLeast w
-  as-run most w h = rw (le-leb (length w) most h)
-
-  run-long : (most : ℕ) (w : List ℕ) → runFits least most p w ≡ true → atLeast w ≡ true
-  run-long most w h =
-      let g = both (leb least (length w)) (leb (length w) most && all p w) h in
-      and-both (leb least (length w)) (all p w) (g .0) (both (leb (length w) most) (all p w) (g .1) .1)
-
-  front-run : (most : ℕ) (s : List ℕ) → length s ≤ most → runPlace most p s ≡ front p s
-  front-run most s h = let l = front-le p s in go (leb most (front p s)) refl
-    where
-      go : (x : Bool) → leb most (front p s) ≡ x → cond x most (front p s) ≡ front p s
-      go true q = let m = leb-true most (front p s) q in let l = front-le p s in omega arith
-      go false q = refl
-
-  bounded : (most : ℕ) (s : List ℕ) → least + length s ≤ most → IsPlace (runFits least most p) s (front p s)
-  bounded most s h = subst (IsPlace (runFits least most p) s) (front-run most s (omega arith)) (run-place least most p (omega arith) b e s)
-
-  many-place : (s : List ℕ) → IsPlace atLeast s (front p s)
-  many-place s =
-      record {
-        within = front-le p s;
-        before = λ k h. let r = bounded (least + length s) s (omega arith) .before k h in (r .0, run-long (least + length s) (take (suc k) s ++ r .0) (r .1));
-        there = λ h t. off (take (suc (front p s)) s ++ t) (λ most l. bounded most s l .there h t);
-      }
-    where
-      off : (w : List ℕ) → ((most : ℕ) → least + length s ≤ most → runFits least most p w ≡ false) → atLeast w ≡ false
-      off w f = sym (as-run (least + length s + length w) w (omega arith)) ∙ f (least + length s + length w) (omega arith)
-
-letter-a : text 65 ≡ true
-unfolding text inAlphabet white
-letter-a = refl
-
-text-right : (s : List ℕ) → IsPlace textWord s (front text s)
-text-right s = place-of-language (λ w. leb 1 (length w) && all text w) textWord some-byte s (front text s) (many-place 1 text 65 letter-a s)
-  where
-    some-byte : (w : List ℕ) → (leb 1 (length w) && all text w) ≡ textWord w
-    some-byte [] = refl
-    some-byte (b ∷ w) = rw (le-leb 1 (length (b ∷ w)) (omega arith))
+-- A COLOUR
 
 colour-right : (s : List ℕ) → IsPlace colour s (front letter s)
 colour-right = many-place 2 letter 65 refl
@@ -163,9 +119,9 @@ key-right R s = taken-right Radio refl (someOf radioLetters) s (firstWordPlace R
 key-right S s = taken-right Survival refl (someOf survivalLetters) s (firstWordPlace S s) (letters-right survivalLetters 80 refl s)
 key-right J s = taken-right Lights refl (someOf lightLetters) s (firstWordPlace J s) (letters-right lightLetters 76 refl s)
 key-right D s = dinghies-right s
-key-right A s = taken-right Aircraft refl textWord s (front text s) (text-right s)
-key-right N s = taken-right Remarks refl textWord s (front text s) (text-right s)
-key-right C s = taken-right Pilot refl textWord s (front text s) (text-right s)
+key-right A s = taken-right Aircraft refl textWord s (front text s) (text-place s)
+key-right N s = taken-right Remarks refl textWord s (front text s) (text-place s)
+key-right C s = taken-right Pilot refl textWord s (front text s) (text-place s)
 key-right Other s = no-place s
 
 -- and a word of each
@@ -195,55 +151,19 @@ further-right JacketRadio s = no-place s
 further-right Number s = taken-right Capacity refl (count 3) s (furtherPlace Number s) (count-right 3 (omega arith) s)
 further-right Capacity s = shade-right s
 further-right Colours s = taken-right Colours refl colour s (front letter s) (colour-right s)
-further-right Aircraft s = taken-right Aircraft refl textWord s (front text s) (text-right s)
-further-right Remarks s = taken-right Remarks refl textWord s (front text s) (text-right s)
-further-right Pilot s = taken-right Pilot refl textWord s (front text s) (text-right s)
+further-right Aircraft s = taken-right Aircraft refl textWord s (front text s) (text-place s)
+further-right Remarks s = taken-right Remarks refl textWord s (front text s) (text-place s)
+further-right Pilot s = taken-right Pilot refl textWord s (front text s) (text-place s)
 further-right Refused s = no-place s
 
 -- A WORD THAT BEGINS AN ITEM
-
--- a first byte, where what follows it has a place at each that may stand there
-first-when : (q : ℕ → Bool) (f : ℕ → List ℕ → Bool) (pf : ℕ → List ℕ → ℕ)
-    → ((b : ℕ) → q b ≡ true → (s : List ℕ) → IsPlace (f b) s (pf b s))
-    → ((b : ℕ) → q b ≡ true → (t : List ℕ) × (f b t ≡ true))
-    → (s : List ℕ) → IsPlace (firstFits q f) s (firstPlace q pf s)
-first-when q f pf right some s =
-    subst (IsPlace (firstFits q f) s) (place-is s)
-    (place-of-language (firstFits q gated) (firstFits q f) fits-is s (firstPlace q gatedPlace s)
-    (first-place q gated gatedPlace (λ b t. at b t (q b) refl) (λ b h. let t = some b h in (t .0, and-both (q b) (f b (t .0)) h (t .1))) s))
-  where
-    gated : ℕ → List ℕ → Bool
-    gated b t = q b && f b t
-
-    gatedPlace : ℕ → List ℕ → ℕ
-    gatedPlace b t = cond (q b) (pf b t) 0
-
-    at : (b : ℕ) (t : List ℕ) (x : Bool) → q b ≡ x → IsPlace (λ w. x && f b w) t (cond x (pf b t) 0)
-    at b t true h = right b h t
-    at b t false h = no-place t
-
-    fits-is : (t : List ℕ) → firstFits q gated t ≡ firstFits q f t
-    fits-is [] = refl
-    fits-is (b ∷ t) = twice (q b)
-      where
-        twice : (x : Bool) → (x && (x && f b t)) ≡ (x && f b t)
-        twice true = refl
-        twice false = refl
-
-    place-is : (t : List ℕ) → firstPlace q gatedPlace t ≡ firstPlace q pf t
-    place-is [] = refl
-    place-is (b ∷ t) = twice (q b)
-      where
-        twice : (x : Bool) → cond x (suc (cond x (pf b t) 0)) 0 ≡ cond x (suc (pf b t)) 0
-        twice true = refl
-        twice false = refl
 
 abbrev pub begins : Stage → Word → Bool
 begins stage w = firstFits (comes stage) (λ b. firstFits oblique (λ o v. stands (first (byLetter b) v))) w
 
 pub begins-right : (stage : Stage) (s : List ℕ) → IsPlace (begins stage) s (itemPlace stage s)
 begins-right stage =
-    first-when (comes stage) (λ b. firstFits oblique (λ o v. stands (first (byLetter b) v))) (λ b. firstPlace oblique (λ o. firstWordPlace (byLetter b)))
-    (λ b h. first-place oblique (λ o v. stands (first (byLetter b) v)) (λ o. firstWordPlace (byLetter b)) (λ o. key-right (byLetter b))
+    first-place (comes stage) (λ b. firstFits oblique (λ o v. stands (first (byLetter b) v))) (λ b. firstPlace oblique (λ o. firstWordPlace (byLetter b)))
+    (λ b h. first-place oblique (λ o v. stands (first (byLetter b) v)) (λ o. firstWordPlace (byLetter b)) (λ o q. key-right (byLetter b))
     (λ o q. key-one (past stage) (byLetter b) h))
     (λ b h. let t = key-one (past stage) (byLetter b) h in (47 ∷ t .0, t .1))

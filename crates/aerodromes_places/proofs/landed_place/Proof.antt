@@ -1,14 +1,9 @@
--- `aerodromes::landed_place` meets its contract. Assumes nothing.
-use mathlib.Core.Path.{_≡_, refl, sym, ap, _∙_}
+-- `aerodromes_places::landed_place` meets its contract. Assumes nothing.
+use mathlib.Core.Path.{sym, _∙_}
 use Rattle.aerodromes_places.proofs.Landed.{place-first, place-one, place-text}
-use native.Mathlib.Omega.{arith}
 use borrow.Author.Needs.{needs}
 use Rattle.aerodromes_places.proofs.landed_place.Statement.{statement}
 use Rattle.aerodromes_places.proofs.landed_place.Tie as tie
-use Rattle.aerodromes_places.proofs.landed_place.Reads as reads
-use Rattle.aerodromes_places.proofs.landed_place.Lts as lts
-use Rattle.aerodromes_places.proofs.place_timed.Reads as place-timed-reads
-use Rattle.places.proofs.front_of.Reads as front-of-reads
 
 place-timed-requires : tie.Need-place-timed-requires
 place-timed-requires c κs = search needs
@@ -23,7 +18,9 @@ front-of-requires : tie.Need-front-of-requires
 front-of-requires c κs = search needs
 
 returns-3 : tie.Need-returns-3
-returns-3 c = let a = c .before .before .before .before .args in c .front-of .ensures .0 ∙ sym (place-text (a .n) (a .w .now) (c .before .before .if1 .left) (c .before .if2 .left))
+returns-3 c =
+    let a = c .before .before .before .before .args in
+    c .front-of .ensures .0 ∙ sym (place-text (a .n) (a .w .now) (c .before .before .if1 .left) (c .before .if2 .left))
 
 pub landed-place-spec : {M : Type 1} → statement M
 landed-place-spec =

@@ -1,22 +1,18 @@
--- `aerodromes::place_field16_plan` meets its contract. Assumes nothing.
-use mathlib.Core.Path.{_≡_, refl, sym, ap, _∙_}
+-- `aerodromes_places::place_field16_plan` meets its contract. Assumes nothing.
+use mathlib.Core.Path.{_≡_, sym, _∙_}
 use Prim.Native.Nat.{_+_, _-_, _≤_}
 use lib.ListN.{length, take, drop}
 use borrow.Author.Tests.{not-true, not-false, lt-leb, le-leb}
+use Rattle.places.proofs.Texts.{word-length}
 use Rattle.text.specs.Words.{split}
 use Rattle.places.specs.Words.{wordsPlace}
 use Rattle.places.proofs.Index.{words-last, words-stuck, words-end, words-next}
 use Rattle.aerodromes_places.specs.Places.{plan, planPlace, place16plan}
-use Rattle.aerodromes_places.proofs.Places.{plan-within, plan-next, plan-stuck, word-length}
+use Rattle.aerodromes_places.proofs.Places.{plan-within, plan-next, plan-stuck}
 use borrow.Author.Needs.{needs}
 use native.Mathlib.Omega.{arith}
 use Rattle.aerodromes_places.proofs.place_field16_plan.Statement.{statement}
 use Rattle.aerodromes_places.proofs.place_field16_plan.Tie as tie
-use Rattle.aerodromes_places.proofs.place_field16_plan.Reads as reads
-use Rattle.aerodromes_places.proofs.place_field16_plan.Lts as lts
-use Rattle.aerodromes_places.proofs.plan_fits.Reads as plan-fits-reads
-use Rattle.aerodromes_places.proofs.plan_place.Reads as plan-place-reads
-use Rattle.text.proofs.find.Reads as find-reads
 
 abbrev Inv-loop : tie.InvT-loop
 Inv-loop s at₀ n₀ at n = (at ≤ length s) × (n ≤ 2) × (wordsPlace plan planPlace 0 (split 32 s) ≡ at + wordsPlace plan planPlace n (split 32 (drop at s)))
@@ -43,11 +39,28 @@ plan-place-requires : tie.Need-plan-place-requires Inv-loop μ-loop
 plan-place-requires c κs = search needs
 
 add-result : tie.Need-add-result Inv-loop μ-loop
-add-result c = omega (arith, plan-within (c .before .before .before .before .loop .n) (take (c .before .before .before .find .result - c .before .before .before .before .loop .at) (drop (c .before .before .before .before .loop .at) (c .before .before .before .before .before .before .args .s .now))), c .plan-place .ensures, word-length (c .before .before .before .before .before .before .args .s .now) (c .before .before .before .before .loop .at) (c .before .before .before .find .result) (omega arith) (omega arith))
+add-result c =
+    let turn = c .before .before .before .before in
+    let start = turn .before .before in
+    let s = start .args .s .now in
+    omega (
+      arith,
+      plan-within (turn .loop .n) (take (c .before .before .before .find .result - turn .loop .at) (drop (turn .loop .at) s)),
+      c .plan-place .ensures,
+      word-length s (turn .loop .at) (c .before .before .before .find .result) (omega arith) (omega arith),
+    )
 
 returns : tie.Need-returns Inv-loop μ-loop
 unfolding place16plan
-returns c = omega (arith, c .plan-place .ensures, words-last plan planPlace (c .before .before .before .before .loop .n) (c .before .before .before .before .before .before .args .s .now) (c .before .before .before .before .loop .at) (c .before .before .before .find .result) (c .before .before .before .find .ensures .0) (omega arith))
+returns c =
+    let turn = c .before .before .before .before in
+    let start = turn .before .before in
+    omega (
+      arith,
+      c .plan-place .ensures,
+      words-last plan planPlace (turn .loop .n) (start .args .s .now) (turn .loop .at)
+          (c .before .before .before .find .result) (c .before .before .before .find .ensures .0) (omega arith),
+    )
 
 sub-plan-fits : tie.Need-sub-plan-fits Inv-loop μ-loop
 sub-plan-fits c = search needs
@@ -74,13 +87,34 @@ plan-place-requires-2 : tie.Need-plan-place-requires-2 Inv-loop μ-loop
 plan-place-requires-2 c κs = search needs
 
 add-result-2 : tie.Need-add-result-2 Inv-loop μ-loop
-add-result-2 c = omega (arith, plan-within (c .before .before .before .before .before .before .before .loop .n) (take (c .before .before .before .before .before .before .find .result - c .before .before .before .before .before .before .before .loop .at) (drop (c .before .before .before .before .before .before .before .loop .at) (c .before .before .before .before .before .before .before .before .before .args .s .now))), c .plan-place2 .ensures, word-length (c .before .before .before .before .before .before .before .before .before .args .s .now) (c .before .before .before .before .before .before .before .loop .at) (c .before .before .before .before .before .before .find .result) (omega arith) (omega arith))
+add-result-2 c =
+    let back = c .before .before .before .before in
+    let at-find = back .before .before in
+    let turn = at-find .before in
+    let start = turn .before .before in
+    let s = start .args .s .now in
+    omega (
+      arith,
+      plan-within (turn .loop .n) (take (at-find .find .result - turn .loop .at) (drop (turn .loop .at) s)),
+      c .plan-place2 .ensures,
+      word-length s (turn .loop .at) (at-find .find .result) (omega arith) (omega arith),
+    )
 
 returns-2 : tie.Need-returns-2 Inv-loop μ-loop
 unfolding place16plan
 returns-2 c =
-    let e = plan-stuck (c .before .before .before .before .before .before .before .loop .n) (take (c .before .before .before .before .before .before .find .result - c .before .before .before .before .before .before .before .loop .at) (drop (c .before .before .before .before .before .before .before .loop .at) (c .before .before .before .before .before .before .before .before .before .args .s .now))) (sym (c .before .before .before .plan-fits .ensures) ∙ not-true _ (c .before .before .if2 .taken)) in
-    omega (arith, c .plan-place2 .ensures, words-stuck plan planPlace (c .before .before .before .before .before .before .before .loop .n) (c .before .before .before .before .before .before .before .before .before .args .s .now) (c .before .before .before .before .before .before .before .loop .at) (c .before .before .before .before .before .before .find .result) (c .before .before .before .before .before .before .find .ensures .0) (omega arith) e)
+    let at-plan-fits = c .before .before .before in
+    let at-find = at-plan-fits .before .before .before in
+    let turn = at-find .before in
+    let start = turn .before .before in
+    let s = start .args .s .now in
+    let e = plan-stuck (turn .loop .n) (take (at-find .find .result - turn .loop .at) (drop (turn .loop .at) s))
+    (sym (at-plan-fits .plan-fits .ensures) ∙ not-true _ (c .before .before .if2 .taken)) in
+    omega (
+      arith,
+      c .plan-place2 .ensures,
+      words-stuck plan planPlace (turn .loop .n) s (turn .loop .at) (at-find .find .result) (at-find .find .ensures .0) (omega arith) e,
+    )
 
 add-n : tie.Need-add-n Inv-loop μ-loop
 add-n c = search needs
@@ -88,8 +122,19 @@ add-n c = search needs
 returns-3 : tie.Need-returns-3 Inv-loop μ-loop
 unfolding place16plan
 returns-3 c =
-    let e = plan-next (c .before .before .before .before .before .before .loop .n) (take (c .before .before .before .before .before .find .result - c .before .before .before .before .before .before .loop .at) (drop (c .before .before .before .before .before .before .loop .at) (c .before .before .before .before .before .before .before .before .args .s .now))) (sym (c .before .before .plan-fits .ensures) ∙ not-false _ (c .before .if2 .left)) in
-    omega (arith, word-length (c .before .before .before .before .before .before .before .before .args .s .now) (c .before .before .before .before .before .before .loop .at) (c .before .before .before .before .before .find .result) (omega arith) (omega arith), words-end plan planPlace (c .before .before .before .before .before .before .loop .n) (c .before .before .before .before .before .before .before .before .args .s .now) (c .before .before .before .before .before .before .loop .at) (c .before .before .before .before .before .find .result) (c .before .before .before .before .before .find .ensures .0) (c .before .before .before .before .before .before .loop .n + 1) (omega arith) e (lt-leb (c .before .before .before .before .before .before .loop .n + 1) 2 (omega arith)))
+    let at-plan-fits = c .before .before in
+    let at-find = at-plan-fits .before .before .before in
+    let turn = at-find .before in
+    let start = turn .before .before in
+    let s = start .args .s .now in
+    let e = plan-next (turn .loop .n) (take (at-find .find .result - turn .loop .at) (drop (turn .loop .at) s))
+    (sym (at-plan-fits .plan-fits .ensures) ∙ not-false _ (c .before .if2 .left)) in
+    omega (
+      arith,
+      word-length s (turn .loop .at) (at-find .find .result) (omega arith) (omega arith),
+      words-end plan planPlace (turn .loop .n) s (turn .loop .at)
+          (at-find .find .result) (at-find .find .ensures .0) (turn .loop .n + 1) (omega arith) e (lt-leb (turn .loop .n + 1) 2 (omega arith)),
+    )
 
 add-at : tie.Need-add-at Inv-loop μ-loop
 add-at c = search needs
@@ -99,8 +144,19 @@ loop-less c = search needs
 
 loop-again : tie.Need-loop-again Inv-loop μ-loop
 loop-again c =
-    let e = plan-next (c .before .before .before .before .before .before .loop .n) (take (c .before .before .before .before .before .find .result - c .before .before .before .before .before .before .loop .at) (drop (c .before .before .before .before .before .before .loop .at) (c .before .before .before .before .before .before .before .before .args .s .now))) (sym (c .before .before .plan-fits .ensures) ∙ not-false _ (c .before .if2 .left)) in
-    omega (arith, word-length (c .before .before .before .before .before .before .before .before .args .s .now) (c .before .before .before .before .before .before .loop .at) (c .before .before .before .before .before .find .result) (omega arith) (omega arith), words-next plan planPlace (c .before .before .before .before .before .before .loop .n) (c .before .before .before .before .before .before .before .before .args .s .now) (c .before .before .before .before .before .before .loop .at) (c .before .before .before .before .before .find .result) (c .before .before .before .before .before .find .ensures .0) (c .before .before .before .before .before .before .loop .n + 1) (omega arith) e (le-leb (c .before .before .before .before .before .before .loop .n + 1) 2 (omega arith)))
+    let at-plan-fits = c .before .before in
+    let at-find = at-plan-fits .before .before .before in
+    let turn = at-find .before in
+    let start = turn .before .before in
+    let s = start .args .s .now in
+    let e = plan-next (turn .loop .n) (take (at-find .find .result - turn .loop .at) (drop (turn .loop .at) s))
+    (sym (at-plan-fits .plan-fits .ensures) ∙ not-false _ (c .before .if2 .left)) in
+    omega (
+      arith,
+      word-length s (turn .loop .at) (at-find .find .result) (omega arith) (omega arith),
+      words-next plan planPlace (turn .loop .n) s (turn .loop .at)
+          (at-find .find .result) (at-find .find .ensures .0) (turn .loop .n + 1) (omega arith) e (le-leb (turn .loop .n + 1) 2 (omega arith)),
+    )
 
 pub place-field16-plan-spec : {M : Type 1} → statement M
 place-field16-plan-spec =

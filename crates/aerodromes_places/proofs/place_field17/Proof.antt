@@ -1,22 +1,17 @@
--- `aerodromes::place_field17` meets its contract. Assumes nothing.
+-- `aerodromes_places::place_field17` meets its contract. Assumes nothing.
 use Prim.Native.Nat.{_+_, _-_, _≤_}
-use mathlib.Core.Path.{_≡_, refl, sym, ap, _∙_}
+use mathlib.Core.Path.{_≡_, sym, ap, _∙_}
 use lib.ListN.{length, take, drop}
 use Rattle.text.specs.Words.{split}
 use Rattle.places.specs.Words.{wordsPlace}
 use Rattle.places.proofs.Index.{words-last, words-stuck, words-end, words-next}
 use Rattle.aerodromes_places.specs.Places.{landed, landedPlace, place17}
-use Rattle.aerodromes_places.proofs.Places.{word-length}
+use Rattle.places.proofs.Texts.{word-length}
 use Rattle.aerodromes_places.proofs.Landed.{landed-within, after-none, after-some, goes-more}
 use borrow.Author.Needs.{needs}
 use native.Mathlib.Omega.{arith}
 use Rattle.aerodromes_places.proofs.place_field17.Statement.{statement}
 use Rattle.aerodromes_places.proofs.place_field17.Tie as tie
-use Rattle.aerodromes_places.proofs.place_field17.Reads as reads
-use Rattle.aerodromes_places.proofs.place_field17.Lts as lts
-use Rattle.aerodromes_places.proofs.landed_next.Reads as landed-next-reads
-use Rattle.aerodromes_places.proofs.landed_place.Reads as landed-place-reads
-use Rattle.text.proofs.find.Reads as find-reads
 
 abbrev Inv-loop : tie.InvT-loop
 Inv-loop s at₀ n₀ at n = (at ≤ length s) × (wordsPlace landed landedPlace 0 (split 32 s) ≡ at + wordsPlace landed landedPlace n (split 32 (drop at s)))
@@ -44,17 +39,31 @@ landed-place-requires c κs = search needs
 
 add-result : tie.Need-add-result Inv-loop μ-loop
 add-result c =
-    let a = c .before .before .before .before .before .before .args in
-    let l = c .before .before .before .before .loop in
+    let turn = c .before .before .before .before in
+    let start = turn .before .before in
+    let a = start .args in
+    let l = turn .loop in
     let e = c .before .before .before .find .result in
-    omega (arith, landed-within (l .n) (take (e - l .at) (drop (l .at) (a .s .now))), c .landed-place .ensures, word-length (a .s .now) (l .at) e (omega arith) (omega arith))
+    omega (
+      arith,
+      landed-within (l .n) (take (e - l .at) (drop (l .at) (a .s .now))),
+      c .landed-place .ensures,
+      word-length (a .s .now) (l .at) e (omega arith) (omega arith),
+    )
 
 returns : tie.Need-returns Inv-loop μ-loop
 unfolding place17
 returns c =
-    let a = c .before .before .before .before .before .before .args in
-    let l = c .before .before .before .before .loop in
-    omega (arith, c .landed-place .ensures, words-last landed landedPlace (l .n) (a .s .now) (l .at) (c .before .before .before .find .result) (c .before .before .before .find .ensures .0) (omega arith))
+    let turn = c .before .before .before .before in
+    let start = turn .before .before in
+    let a = start .args in
+    let l = turn .loop in
+    omega (
+      arith,
+      c .landed-place .ensures,
+      words-last landed landedPlace (l .n) (a .s .now) (l .at) (c .before .before .before .find .result)
+          (c .before .before .before .find .ensures .0) (omega arith),
+    )
 
 sub-landed-next : tie.Need-sub-landed-next Inv-loop μ-loop
 sub-landed-next c = search needs
@@ -82,29 +91,50 @@ landed-place-requires-2 c κs = search needs
 
 add-result-2 : tie.Need-add-result-2 Inv-loop μ-loop
 add-result-2 c =
-    let a = c .before .before .before .before .before .before .before .before .before .args in
-    let l = c .before .before .before .before .before .before .before .loop in
-    let e = c .before .before .before .before .before .before .find .result in
-    omega (arith, landed-within (l .n) (take (e - l .at) (drop (l .at) (a .s .now))), c .landed-place2 .ensures, word-length (a .s .now) (l .at) e (omega arith) (omega arith))
+    let back = c .before .before .before .before in
+    let at-find = back .before .before in
+    let turn = at-find .before in
+    let start = turn .before .before in
+    let a = start .args in
+    let l = turn .loop in
+    let e = at-find .find .result in
+    omega (
+      arith,
+      landed-within (l .n) (take (e - l .at) (drop (l .at) (a .s .now))),
+      c .landed-place2 .ensures,
+      word-length (a .s .now) (l .at) e (omega arith) (omega arith),
+    )
 
 returns-2 : tie.Need-returns-2 Inv-loop μ-loop
 unfolding place17
 returns-2 c =
-    let a = c .before .before .before .before .before .before .before .before .before .args in
-    let l = c .before .before .before .before .before .before .before .loop in
-    let e = c .before .before .before .before .before .before .find .result in
-    let q = after-none (l .n) (take (e - l .at) (drop (l .at) (a .s .now))) (sym (c .before .before .before .landed-next .ensures) ∙ c .before .before .if2 .taken) in
-    omega (arith, c .landed-place2 .ensures, words-stuck landed landedPlace (l .n) (a .s .now) (l .at) e (c .before .before .before .before .before .before .find .ensures .0) (omega arith) q)
+    let at-landed-next = c .before .before .before in
+    let at-find = at-landed-next .before .before .before in
+    let turn = at-find .before in
+    let start = turn .before .before in
+    let a = start .args in
+    let l = turn .loop in
+    let e = at-find .find .result in
+    let q = after-none (l .n) (take (e - l .at) (drop (l .at) (a .s .now))) (sym (at-landed-next .landed-next .ensures) ∙ c .before .before .if2 .taken) in
+    omega (arith, c .landed-place2 .ensures, words-stuck landed landedPlace (l .n) (a .s .now) (l .at) e (at-find .find .ensures .0) (omega arith) q)
 
 returns-3 : tie.Need-returns-3 Inv-loop μ-loop
 unfolding place17
 returns-3 c =
-    let a = c .before .before .before .before .before .before .before .before .args in
-    let l = c .before .before .before .before .before .before .loop in
-    let e = c .before .before .before .before .before .find .result in
-    let j = c .before .before .landed-next .result in
-    let q = after-some (l .n) (take (e - l .at) (drop (l .at) (a .s .now))) j (c .before .before .landed-next .ensures) (c .before .if2 .left) in
-    omega (arith, word-length (a .s .now) (l .at) e (omega arith) (omega arith), words-end landed landedPlace (l .n) (a .s .now) (l .at) e (c .before .before .before .before .before .find .ensures .0) j (omega arith) q (ap (landed .goes) (c .if3 .taken)))
+    let at-landed-next = c .before .before in
+    let at-find = at-landed-next .before .before .before in
+    let turn = at-find .before in
+    let start = turn .before .before in
+    let a = start .args in
+    let l = turn .loop in
+    let e = at-find .find .result in
+    let j = at-landed-next .landed-next .result in
+    let q = after-some (l .n) (take (e - l .at) (drop (l .at) (a .s .now))) j (at-landed-next .landed-next .ensures) (c .before .if2 .left) in
+    omega (
+      arith,
+      word-length (a .s .now) (l .at) e (omega arith) (omega arith),
+      words-end landed landedPlace (l .n) (a .s .now) (l .at) e (at-find .find .ensures .0) j (omega arith) q (ap (landed .goes) (c .if3 .taken)),
+    )
 
 add-at : tie.Need-add-at Inv-loop μ-loop
 add-at c = search needs
@@ -114,13 +144,22 @@ loop-less c = search needs
 
 loop-again : tie.Need-loop-again Inv-loop μ-loop
 loop-again c =
-    let a = c .before .before .before .before .before .before .before .before .args in
-    let l = c .before .before .before .before .before .before .loop in
-    let e = c .before .before .before .before .before .find .result in
-    let j = c .before .before .landed-next .result in
+    let at-landed-next = c .before .before in
+    let at-find = at-landed-next .before .before .before in
+    let turn = at-find .before in
+    let start = turn .before .before in
+    let a = start .args in
+    let l = turn .loop in
+    let e = at-find .find .result in
+    let j = at-landed-next .landed-next .result in
     let w = take (e - l .at) (drop (l .at) (a .s .now)) in
-    let q = after-some (l .n) w j (c .before .before .landed-next .ensures) (c .before .if2 .left) in
-    omega (arith, word-length (a .s .now) (l .at) e (omega arith) (omega arith), words-next landed landedPlace (l .n) (a .s .now) (l .at) e (c .before .before .before .before .before .find .ensures .0) j (omega arith) q (goes-more j w (c .before .if2 .left) (c .if3 .left)))
+    let q = after-some (l .n) w j (at-landed-next .landed-next .ensures) (c .before .if2 .left) in
+    omega (
+      arith,
+      word-length (a .s .now) (l .at) e (omega arith) (omega arith),
+      words-next landed landedPlace (l .n) (a .s .now) (l .at) e
+          (at-find .find .ensures .0) j (omega arith) q (goes-more j w (c .before .if2 .left) (c .if3 .left)),
+    )
 
 pub place-field17-spec : {M : Type 1} → statement M
 place-field17-spec =

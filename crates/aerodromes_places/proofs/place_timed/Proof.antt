@@ -1,23 +1,20 @@
--- `aerodromes::place_timed` meets its contract. Assumes nothing.
-use mathlib.Core.Path.{_≡_, refl, sym, ap, _∙_}
+-- `aerodromes_places::place_timed` meets its contract. Assumes nothing.
 use Rattle.places.proofs.Index.{fixed-short, fixed-whole, behind-within}
 use Rattle.alphabet.specs.Alphabet.{letter}
 use Rattle.places.specs.Parts.{timePlace}
-use Rattle.aerodromes_places.proofs.Places.{time-within}
+use Rattle.places.proofs.Fixed.{time-within}
 use native.Mathlib.Omega.{arith}
 use borrow.Author.Needs.{needs}
 use Rattle.aerodromes_places.proofs.place_timed.Statement.{statement}
 use Rattle.aerodromes_places.proofs.place_timed.Tie as tie
-use Rattle.aerodromes_places.proofs.place_timed.Reads as reads
-use Rattle.aerodromes_places.proofs.place_timed.Lts as lts
-use Rattle.places.proofs.front_of.Reads as front-of-reads
-use Rattle.places.proofs.time_place.Reads as time-place-reads
 
 front-of-requires : tie.Need-front-of-requires
 front-of-requires c κs = search needs
 
 returns : tie.Need-returns
-returns c = fixed-short letter 4 (timePlace (c .before .before .before .args .most)) (c .before .before .before .args .s .now) (c .before .front-of .result) (c .before .front-of .ensures .0) (c .if1 .taken)
+returns c =
+    fixed-short letter 4 (timePlace (c .before .before .before .args .most)) (c .before .before .before .args .s .now) (c .before .front-of .result)
+    (c .before .front-of .ensures .0) (c .if1 .taken)
 
 sub-time-place : tie.Need-sub-time-place
 sub-time-place c = search needs
@@ -32,10 +29,18 @@ time-place-requires : tie.Need-time-place-requires
 time-place-requires c κs = search needs
 
 add-result : tie.Need-add-result
-add-result c = omega (arith, behind-within (timePlace (c .before .before .before .before .before .args .most)) (time-within (c .before .before .before .before .before .args .most)) (c .before .before .before .before .before .args .s .now) 4 (c .time-place .result) (omega arith) (c .time-place .ensures))
+add-result c =
+    let back = c .before .before .before .before in
+    let start = back .before in
+    let most = start .args .most in
+    omega (arith, behind-within (timePlace most) (time-within most) (start .args .s .now) 4 (c .time-place .result) (omega arith) (c .time-place .ensures))
 
 returns-2 : tie.Need-returns-2
-returns-2 c = fixed-whole letter 4 (timePlace (c .before .before .before .before .before .args .most)) (c .before .before .before .before .before .args .s .now) (c .before .before .before .front-of .result) (c .before .before .before .front-of .ensures .0) (c .time-place .result) (c .before .before .if1 .left) (c .time-place .ensures)
+returns-2 c =
+    let at-front-of = c .before .before .before in
+    let start = at-front-of .before .before in
+    fixed-whole letter 4 (timePlace (start .args .most)) (start .args .s .now) (at-front-of .front-of .result) (at-front-of .front-of .ensures .0)
+    (c .time-place .result) (c .before .before .if1 .left) (c .time-place .ensures)
 
 pub place-timed-spec : {M : Type 1} → statement M
 place-timed-spec =

@@ -1,15 +1,10 @@
--- `aerodromes::plan_fits` meets its contract. Assumes nothing.
-use mathlib.Core.Path.{_≡_, refl, sym, ap, _∙_}
+-- `aerodromes_places::plan_fits` meets its contract. Assumes nothing.
+use mathlib.Core.Path.{sym, _∙_}
 use borrow.Author.Tests.{eq-eqb, ne-eqb, lt-leb, le-leb}
-use Rattle.aerodromes_places.proofs.Places.{given-ended}
-use native.Mathlib.Omega.{arith}
+use Rattle.places.proofs.Given.{given-ended}
 use borrow.Author.Needs.{needs}
 use Rattle.aerodromes_places.proofs.plan_fits.Statement.{statement}
 use Rattle.aerodromes_places.proofs.plan_fits.Tie as tie
-use Rattle.aerodromes_places.proofs.plan_fits.Reads as reads
-use Rattle.aerodromes_places.proofs.plan_fits.Lts as lts
-use Rattle.aerodromes.proofs.at_elapsed.Reads as at-elapsed-reads
-use Rattle.aerodromes.proofs.four_letters.Reads as four-letters-reads
 
 at-elapsed-requires : tie.Need-at-elapsed-requires
 at-elapsed-requires c κs = search needs
@@ -24,7 +19,11 @@ four-letters-requires : tie.Need-four-letters-requires
 four-letters-requires c κs = search needs
 
 returns-3 : tie.Need-returns-3
-returns-3 c = rw (ne-eqb (c .before .before .before .before .args .n) 0 (c .before .before .if1 .left), le-leb (c .before .before .before .before .args .n) 2 (c .before .if2 .left)) (c .four-letters .ensures ∙ sym (given-ended _ _))
+returns-3 c =
+    rw (
+      ne-eqb (c .before .before .before .before .args .n) 0 (c .before .before .if1 .left),
+      le-leb (c .before .before .before .before .args .n) 2 (c .before .if2 .left),
+    ) (c .four-letters .ensures ∙ sym (given-ended _ _))
 
 pub plan-fits-spec : {M : Type 1} → statement M
 plan-fits-spec =

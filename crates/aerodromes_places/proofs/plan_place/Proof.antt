@@ -1,14 +1,8 @@
--- `aerodromes::plan_place` meets its contract. Assumes nothing.
-use mathlib.Core.Path.{_≡_, refl, sym, ap, _∙_}
+-- `aerodromes_places::plan_place` meets its contract. Assumes nothing.
 use borrow.Author.Tests.{eq-eqb, ne-eqb, lt-leb, le-leb}
-use native.Mathlib.Omega.{arith}
 use borrow.Author.Needs.{needs}
 use Rattle.aerodromes_places.proofs.plan_place.Statement.{statement}
 use Rattle.aerodromes_places.proofs.plan_place.Tie as tie
-use Rattle.aerodromes_places.proofs.plan_place.Reads as reads
-use Rattle.aerodromes_places.proofs.plan_place.Lts as lts
-use Rattle.aerodromes_places.proofs.place_field16.Reads as place-field16-reads
-use Rattle.aerodromes_places.proofs.place_timed.Reads as place-timed-reads
 
 place-timed-requires : tie.Need-place-timed-requires
 place-timed-requires c κs = search needs
@@ -23,7 +17,11 @@ place-field16-requires : tie.Need-place-field16-requires
 place-field16-requires c κs = search needs
 
 returns-3 : tie.Need-returns-3
-returns-3 c = rw (ne-eqb (c .before .before .before .before .args .n) 0 (c .before .before .if1 .left), le-leb (c .before .before .before .before .args .n) 2 (c .before .if2 .left)) (c .place-field16 .ensures)
+returns-3 c =
+    rw (
+      ne-eqb (c .before .before .before .before .args .n) 0 (c .before .before .if1 .left),
+      le-leb (c .before .before .before .before .args .n) 2 (c .before .if2 .left),
+    ) (c .place-field16 .ensures)
 
 pub plan-place-spec : {M : Type 1} → statement M
 plan-place-spec =

@@ -7,7 +7,7 @@ use lib.Seq.{length-take-le}
 use borrow.Author.Tests.{not-true, not-false}
 use Rattle.text.specs.Words.{cells}
 use Rattle.places.specs.Parts.{passes}
-use Rattle.entries.proofs.Index.{passes-stop, passes-next, passes-end}
+use Rattle.places.proofs.Index.{passes-stop, passes-next, passes-end}
 use Rattle.code_places.specs.Codes.{goesOn, codesPlace}
 use borrow.Author.Needs.{needs}
 use native.Mathlib.Omega.{arith}

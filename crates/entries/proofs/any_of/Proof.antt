@@ -1,20 +1,15 @@
 -- `entries::any_of` meets its contract. Assumes nothing.
-use Prim.Native.Nat.{_+_, _-_, _≤_}
-use mathlib.Core.Path.{_≡_, refl, sym, ap, _∙_}
-use lib.ListN.{length, take, drop}
+use Prim.Native.Nat.{_-_, _≤_}
+use mathlib.Core.Path.{_≡_, refl, sym, _∙_}
+use lib.ListN.{length, drop}
 use Rattle.text.specs.Words.{split}
 use Rattle.places.specs.Parts.{larger}
 use Rattle.entries.specs.Entries.{matched, anyOf}
-use Rattle.entries.proofs.Index.{any-last, any-next, larger-first}
+use Rattle.places.proofs.Larger.{larger-first, largest-last, largest-next}
 use borrow.Author.Needs.{needs}
 use native.Mathlib.Omega.{arith}
 use Rattle.entries.proofs.any_of.Statement.{statement}
 use Rattle.entries.proofs.any_of.Tie as tie
-use Rattle.entries.proofs.any_of.Reads as reads
-use Rattle.entries.proofs.any_of.Lts as lts
-use Rattle.entries.proofs.matched_of.Reads as matched-of-reads
-use Rattle.places.proofs.larger_of.Reads as larger-of-reads
-use Rattle.text.proofs.find.Reads as find-reads
 
 abbrev Inv-loop : tie.InvT-loop
 Inv-loop list s at₀ best₀ at best = (at ≤ length list) × (anyOf (split 32 list) s ≡ larger best (anyOf (split 32 (drop at list)) s))
@@ -45,10 +40,14 @@ larger-of-requires c κs = search needs
 
 returns : tie.Need-returns Inv-loop μ-loop
 returns c =
-    let a = c .before .before .before .before .before .before .before .before .args in
-    let l = c .before .before .before .before .before .loop in
-    c .before .larger-of .ensures ∙ ap (larger (l .best)) (c .before .before .matched-of .ensures)
-    ∙ sym (l .inv .1 ∙ any-last (a .s .now) (a .list .now) (l .at) (c .before .before .before .before .find .result) (c .before .before .before .before .find .ensures .0) (l .best) (omega arith))
+    let matching = c .before .before in
+    let looked = matching .before .before in
+    let round = looked .before in
+    let a = round .before .before .before .args in
+    let f = looked .find in
+    let l = round .loop in
+    sym (l .inv .1 ∙ largest-last (λ v. matched v (a .s .now)) (λ vs. anyOf vs (a .s .now)) refl (λ v vs. refl) (a .list .now) (l .at) (f .result) (l .best)
+    (matching .matched-of .result) (c .before .larger-of .result) (f .ensures .0) (matching .matched-of .ensures) (c .before .larger-of .ensures) (omega arith))
 
 add-at : tie.Need-add-at Inv-loop μ-loop
 add-at c = search needs
@@ -58,11 +57,16 @@ loop-less c = search needs
 
 loop-again : tie.Need-loop-again Inv-loop μ-loop
 loop-again c =
-    let a = c .before .before .before .before .before .before .before .before .args in
-    let l = c .before .before .before .before .before .loop in (
+    let matching = c .before .before in
+    let looked = matching .before .before in
+    let round = looked .before in
+    let a = round .before .before .before .args in
+    let f = looked .find in
+    let l = round .loop in (
       search needs,
-      l .inv .1 ∙ any-next (a .s .now) (a .list .now) (l .at) (c .before .before .before .before .find .result) (c .before .before .before .before .find .ensures .0) (l .best) (omega arith)
-          ∙ ap (λ x. larger x (anyOf (split 32 (drop (c .before .before .before .before .find .result + 1) (a .list .now))) (a .s .now))) (sym (c .before .larger-of .ensures ∙ ap (larger (l .best)) (c .before .before .matched-of .ensures))),
+      l .inv .1 ∙ largest-next (λ v. matched v (a .s .now)) (λ vs. anyOf vs (a .s .now)) refl (λ v vs. refl) (a .list .now) (l .at) (f .result) (l .best)
+          (matching .matched-of .result) (c .before .larger-of .result) (f .ensures .0) (matching .matched-of .ensures) (c .before .larger-of .ensures)
+          (omega arith),
     )
 
 pub any-of-spec : {M : Type 1} → statement M

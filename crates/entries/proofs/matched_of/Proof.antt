@@ -1,6 +1,6 @@
 -- `entries::matched_of` meets its contract. Assumes nothing.
 use Prim.Native.Nat.{_+_, _-_, _≤_}
-use mathlib.Core.Path.{_≡_, refl, sym, ap, _∙_}
+use mathlib.Core.Path.{_≡_}
 use lib.ListN.{length, drop}
 use Rattle.entries.specs.Entries.{matched}
 use Rattle.entries.proofs.Index.{matched-stop, matched-next, matched-over, matched-short}
@@ -8,8 +8,6 @@ use borrow.Author.Needs.{needs}
 use native.Mathlib.Omega.{arith}
 use Rattle.entries.proofs.matched_of.Statement.{statement}
 use Rattle.entries.proofs.matched_of.Tie as tie
-use Rattle.entries.proofs.matched_of.Reads as reads
-use Rattle.entries.proofs.matched_of.Lts as lts
 
 abbrev Inv-loop : tie.InvT-loop
 Inv-loop l s i₀ i = (i ≤ length l) × (i ≤ length s) × (matched l s ≡ i + matched (drop i l) (drop i s))
@@ -33,8 +31,11 @@ shared-slice-read-if2-2 c = search needs
 
 returns-2 : tie.Need-returns-2 Inv-loop μ-loop
 returns-2 c =
-    let a = c .before .before .before .before .before .before .args in
-    omega (arith, matched-stop (a .l .now) (a .s .now) (c .before .before .before .before .before .loop .i) (omega arith) (omega arith) (c .if2 .taken))
+    let back = c .before .before .before .before in
+    let turn = back .before in
+    let start = turn .before in
+    let a = start .args in
+    omega (arith, matched-stop (a .l .now) (a .s .now) (turn .loop .i) (omega arith) (omega arith) (c .if2 .taken))
 
 add-i : tie.Need-add-i Inv-loop μ-loop
 add-i c = search needs
@@ -44,8 +45,11 @@ loop-less c = search needs
 
 loop-again : tie.Need-loop-again Inv-loop μ-loop
 loop-again c =
-    let a = c .before .before .before .before .before .before .args in
-    omega (arith, matched-next (a .l .now) (a .s .now) (c .before .before .before .before .before .loop .i) (omega arith) (omega arith) (c .if2 .left))
+    let back = c .before .before .before .before in
+    let turn = back .before in
+    let start = turn .before in
+    let a = start .args in
+    omega (arith, matched-next (a .l .now) (a .s .now) (turn .loop .i) (omega arith) (omega arith) (c .if2 .left))
 
 returns-3 : tie.Need-returns-3 Inv-loop μ-loop
 returns-3 c =

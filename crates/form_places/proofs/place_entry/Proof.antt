@@ -1,7 +1,7 @@
+-- `form_places::place_entry` meets its contract. Assumes nothing.
 use Rattle.text.proofs.Index.{found-before}
 use Prim.Native.Nat.{ℕ, _+_, _-_}
-use mathlib.Core.Path.{_≡_, refl, sym, ap, _∙_}
-use lib.Dec.{ltb}
+use mathlib.Core.Path.{sym, ap, _∙_}
 use lib.ListN.{length, take, drop}
 use lib.Seq.{length-take-le}
 use borrow.Author.Tests.{le-ltb, lt-ltb}
@@ -14,12 +14,6 @@ use native.Mathlib.Omega.{arith}
 use borrow.Author.Needs.{needs}
 use Rattle.form_places.proofs.place_entry.Statement.{statement}
 use Rattle.form_places.proofs.place_entry.Tie as tie
-use Rattle.form_places.proofs.place_entry.Reads as reads
-use Rattle.form_places.proofs.place_entry.Lts as lts
-use Rattle.entries.proofs.any_of.Reads as any-of-reads
-use Rattle.form_places.proofs.place_named.Reads as place-named-reads
-use Rattle.forms.proofs.rank_in.Reads as rank-in-reads
-use Rattle.text.proofs.find.Reads as find-reads
 
 -- src/lib.rt:28:9
 find-requires : tie.Need-find-requires
@@ -45,9 +39,12 @@ any-of-requires c κs = search needs
 returns : tie.Need-returns
 unfolding place22 labels
 returns c =
-    let s = c .before .before .before .before .before .before .before .args .s .now in
-    let f = c .before .before .before .before .before .find in
-    cut-none 47 isNumber (anyOf labels) (placeNamed (whichOf s)) s (f .result) (f .ensures .0) (c .any-of .result) (c .before .before .before .if1 .taken) (c .any-of .ensures)
+    let at-if1 = c .before .before .before in
+    let at-find = at-if1 .before .before in
+    let start = at-find .before .before in
+    let s = start .args .s .now in
+    let f = at-find .find in
+    cut-none 47 isNumber (anyOf labels) (placeNamed (whichOf s)) s (f .result) (f .ensures .0) (c .any-of .result) (at-if1 .if1 .taken) (c .any-of .ensures)
 
 -- src/lib.rt:34:32
 slice-aggregate-any-of-3 : tie.Need-slice-aggregate-any-of-3
@@ -55,7 +52,10 @@ slice-aggregate-any-of-3 c = search needs
 
 -- src/lib.rt:34:57
 slice-aggregate-any-of-4 : tie.Need-slice-aggregate-any-of-4
-slice-aggregate-any-of-4 c = sym (length-take-le _ _ (c .before .before .before .before .before .find .ensures .1 .1))
+slice-aggregate-any-of-4 c =
+    let back = c .before .before .before .before in
+    let at-find = back .before in
+    sym (length-take-le _ _ (at-find .find .ensures .1 .1))
 
 -- src/lib.rt:34:9
 any-of-requires-2 : tie.Need-any-of-requires-2
@@ -65,11 +65,16 @@ any-of-requires-2 c κs = search needs
 returns-2 : tie.Need-returns-2
 unfolding place22 labels
 returns-2 c =
-    let s = c .before .before .before .before .before .before .before .before .args .s .now in
-    let f = c .before .before .before .before .before .before .find in
-    let k = c .before .before .before .before .before .rank-in in
+    let at-if2 = c .before .before .before in
+    let at-rank-in = at-if2 .before .before in
+    let at-find = at-rank-in .before in
+    let start = at-find .before .before in
+    let s = start .args .s .now in
+    let f = at-find .find in
+    let k = at-rank-in .rank-in in
     cut-off 47 isNumber (anyOf labels) (placeNamed (whichOf s)) s (f .result) (f .ensures .0) (c .any-of2 .result)
-    (ap isNumber (found-before 47 s (f .result) (f .ensures .0)) ∙ le-ltb 0 (whichOf s) (omega (arith, k .ensures .0, c .before .before .before .if2 .taken))) (c .any-of2 .ensures)
+    (ap isNumber (found-before 47 s (f .result) (f .ensures .0)) ∙ le-ltb 0 (whichOf s) (omega (arith, k .ensures .0, at-if2 .if2 .taken)))
+    (c .any-of2 .ensures)
 
 -- src/lib.rt:36:5
 add-result : tie.Need-add-result
@@ -98,19 +103,26 @@ place-named-requires c κs = search needs
 -- src/lib.rt:36:5
 add-result-2 : tie.Need-add-result-2
 add-result-2 c =
-    let s = c .before .before .before .before .before .before .before .args .s .now in
-    let k = c .before .before .before .before .rank-in .result in
-    let o = c .before .before .before .before .before .find .result in
+    let at-rank-in = c .before .before .before .before in
+    let at-find = at-rank-in .before in
+    let start = at-find .before .before in
+    let s = start .args .s .now in
+    let k = at-rank-in .rank-in .result in
+    let o = at-find .find .result in
     omega (arith, behind-within (placeNamed k) (named-within k) s (o + 1) (c .place-named .result) (omega arith) (c .place-named .ensures))
 
 -- src/lib.rt:25:1
 returns-3 : tie.Need-returns-3
 unfolding place22 labels
 returns-3 c =
-    let s = c .before .before .before .before .before .before .before .args .s .now in
-    let f = c .before .before .before .before .before .find in
-    let k = c .before .before .before .before .rank-in in
-    cut-on 47 isNumber (anyOf labels) (placeNamed (whichOf s)) s (f .result) (f .ensures .0) (c .place-named .result) (c .before .before .before .if1 .left) (f .ensures .1 .1)
+    let at-rank-in = c .before .before .before .before in
+    let at-find = at-rank-in .before in
+    let start = at-find .before .before in
+    let s = start .args .s .now in
+    let f = at-find .find in
+    let k = at-rank-in .rank-in in
+    cut-on 47 isNumber (anyOf labels) (placeNamed (whichOf s)) s (f .result) (f .ensures .0) (c .place-named .result) (c .before .before .before .if1 .left)
+    (f .ensures .1 .1)
     (ap isNumber (found-before 47 s (f .result) (f .ensures .0)) ∙ lt-ltb 0 (whichOf s) (omega (arith, k .ensures .0, c .before .before .if2 .left)))
     (c .place-named .ensures ∙ ap (λ (n : ℕ). placeNamed n (take (length s - (f .result + 1)) (drop (f .result + 1) s))) (k .ensures .0))
 

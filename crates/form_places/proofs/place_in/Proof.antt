@@ -1,25 +1,10 @@
-use mathlib.Core.Path.{_≡_, sym, ap, _∙_}
+-- `form_places::place_in` meets its contract. Assumes nothing.
+use mathlib.Core.Path.{sym, ap, _∙_}
 use Rattle.kinds.specs.declared.Form.{Form}
 use Rattle.form_places.specs.Places.{placeIn}
-use native.Mathlib.Omega.{arith}
 use borrow.Author.Needs.{needs}
 use Rattle.form_places.proofs.place_in.Statement.{statement}
 use Rattle.form_places.proofs.place_in.Tie as tie
-use Rattle.form_places.proofs.place_in.Reads as reads
-use Rattle.form_places.proofs.place_in.Lts as lts
-use Rattle.aerodromes_places.proofs.place_field13.Reads as place-field13-reads
-use Rattle.aerodromes_places.proofs.place_field16.Reads as place-field16-reads
-use Rattle.aerodromes_places.proofs.place_field16_plan.Reads as place-field16-plan-reads
-use Rattle.aerodromes_places.proofs.place_field17.Reads as place-field17-reads
-use Rattle.equipment_places.proofs.place_field10.Reads as place-field10-reads
-use Rattle.form_places.proofs.place_entry.Reads as place-entry-reads
-use Rattle.head_places.proofs.place_field3.Reads as place-field3-reads
-use Rattle.head_places.proofs.place_field7.Reads as place-field7-reads
-use Rattle.head_places.proofs.place_field8.Reads as place-field8-reads
-use Rattle.head_places.proofs.place_field9.Reads as place-field9-reads
-use Rattle.other_places.proofs.place_field18.Reads as place-field18-reads
-use Rattle.route_places.proofs.place_field15.Reads as place-field15-reads
-use Rattle.supplement_places.proofs.place_field19.Reads as place-field19-reads
 
 -- src/lib.rt:44:25
 enum-told : tie.Need-enum-told
@@ -135,59 +120,87 @@ place-entry-requires c κs = search needs
 
 -- src/lib.rt:40:1
 returns : tie.Need-returns
-returns c = let s = c .before .before .before .before .args .s .now in c .place-field3 .ensures ∙ sym (ap (λ (f : Form). placeIn f s) (c .before .enum-told .given .1))
+returns c =
+    let s = c .before .before .before .before .args .s .now in
+    c .place-field3 .ensures ∙ sym (ap (λ (f : Form). placeIn f s) (c .before .enum-told .given .1))
 
 -- src/lib.rt:40:1
 returns-2 : tie.Need-returns-2
-returns-2 c = let s = c .before .before .before .before .args .s .now in c .place-field7 .ensures ∙ sym (ap (λ (f : Form). placeIn f s) (c .before .enum-told2 .given .1))
+returns-2 c =
+    let s = c .before .before .before .before .args .s .now in
+    c .place-field7 .ensures ∙ sym (ap (λ (f : Form). placeIn f s) (c .before .enum-told2 .given .1))
 
 -- src/lib.rt:40:1
 returns-3 : tie.Need-returns-3
-returns-3 c = let s = c .before .before .before .before .args .s .now in c .place-field8 .ensures ∙ sym (ap (λ (f : Form). placeIn f s) (c .before .enum-told3 .given .1))
+returns-3 c =
+    let s = c .before .before .before .before .args .s .now in
+    c .place-field8 .ensures ∙ sym (ap (λ (f : Form). placeIn f s) (c .before .enum-told3 .given .1))
 
 -- src/lib.rt:40:1
 returns-4 : tie.Need-returns-4
-returns-4 c = let s = c .before .before .before .before .args .s .now in c .place-field9 .ensures ∙ sym (ap (λ (f : Form). placeIn f s) (c .before .enum-told4 .given .1))
+returns-4 c =
+    let s = c .before .before .before .before .args .s .now in
+    c .place-field9 .ensures ∙ sym (ap (λ (f : Form). placeIn f s) (c .before .enum-told4 .given .1))
 
 -- src/lib.rt:40:1
 returns-5 : tie.Need-returns-5
-returns-5 c = let s = c .before .before .before .before .args .s .now in c .place-field10 .ensures ∙ sym (ap (λ (f : Form). placeIn f s) (c .before .enum-told5 .given .1))
+returns-5 c =
+    let s = c .before .before .before .before .args .s .now in
+    c .place-field10 .ensures ∙ sym (ap (λ (f : Form). placeIn f s) (c .before .enum-told5 .given .1))
 
 -- src/lib.rt:40:1
 returns-6 : tie.Need-returns-6
-returns-6 c = let s = c .before .before .before .before .args .s .now in c .place-field13 .ensures ∙ sym (ap (λ (f : Form). placeIn f s) (c .before .enum-told6 .given .1))
+returns-6 c =
+    let s = c .before .before .before .before .args .s .now in
+    c .place-field13 .ensures ∙ sym (ap (λ (f : Form). placeIn f s) (c .before .enum-told6 .given .1))
 
 -- src/lib.rt:40:1
 returns-7 : tie.Need-returns-7
-returns-7 c = let s = c .before .before .before .before .args .s .now in c .place-field132 .ensures ∙ sym (ap (λ (f : Form). placeIn f s) (c .before .enum-told7 .given .1))
+returns-7 c =
+    let s = c .before .before .before .before .args .s .now in
+    c .place-field132 .ensures ∙ sym (ap (λ (f : Form). placeIn f s) (c .before .enum-told7 .given .1))
 
 -- src/lib.rt:40:1
 returns-8 : tie.Need-returns-8
-returns-8 c = let s = c .before .before .before .before .args .s .now in c .place-field15 .ensures ∙ sym (ap (λ (f : Form). placeIn f s) (c .before .enum-told8 .given .1))
+returns-8 c =
+    let s = c .before .before .before .before .args .s .now in
+    c .place-field15 .ensures ∙ sym (ap (λ (f : Form). placeIn f s) (c .before .enum-told8 .given .1))
 
 -- src/lib.rt:40:1
 returns-9 : tie.Need-returns-9
-returns-9 c = let s = c .before .before .before .before .args .s .now in c .place-field16 .ensures ∙ sym (ap (λ (f : Form). placeIn f s) (c .before .enum-told9 .given .1))
+returns-9 c =
+    let s = c .before .before .before .before .args .s .now in
+    c .place-field16 .ensures ∙ sym (ap (λ (f : Form). placeIn f s) (c .before .enum-told9 .given .1))
 
 -- src/lib.rt:40:1
 returns-10 : tie.Need-returns-10
-returns-10 c = let s = c .before .before .before .before .args .s .now in c .place-field16-plan .ensures ∙ sym (ap (λ (f : Form). placeIn f s) (c .before .enum-told10 .given .1))
+returns-10 c =
+    let s = c .before .before .before .before .args .s .now in
+    c .place-field16-plan .ensures ∙ sym (ap (λ (f : Form). placeIn f s) (c .before .enum-told10 .given .1))
 
 -- src/lib.rt:40:1
 returns-11 : tie.Need-returns-11
-returns-11 c = let s = c .before .before .before .before .args .s .now in c .place-field17 .ensures ∙ sym (ap (λ (f : Form). placeIn f s) (c .before .enum-told11 .given .1))
+returns-11 c =
+    let s = c .before .before .before .before .args .s .now in
+    c .place-field17 .ensures ∙ sym (ap (λ (f : Form). placeIn f s) (c .before .enum-told11 .given .1))
 
 -- src/lib.rt:40:1
 returns-12 : tie.Need-returns-12
-returns-12 c = let s = c .before .before .before .before .args .s .now in c .place-field18 .ensures ∙ sym (ap (λ (f : Form). placeIn f s) (c .before .enum-told12 .given .1))
+returns-12 c =
+    let s = c .before .before .before .before .args .s .now in
+    c .place-field18 .ensures ∙ sym (ap (λ (f : Form). placeIn f s) (c .before .enum-told12 .given .1))
 
 -- src/lib.rt:40:1
 returns-13 : tie.Need-returns-13
-returns-13 c = let s = c .before .before .before .before .args .s .now in c .place-field19 .ensures ∙ sym (ap (λ (f : Form). placeIn f s) (c .before .enum-told13 .given .1))
+returns-13 c =
+    let s = c .before .before .before .before .args .s .now in
+    c .place-field19 .ensures ∙ sym (ap (λ (f : Form). placeIn f s) (c .before .enum-told13 .given .1))
 
 -- src/lib.rt:40:1
 returns-14 : tie.Need-returns-14
-returns-14 c = let s = c .before .before .before .before .args .s .now in c .place-entry .ensures ∙ sym (ap (λ (f : Form). placeIn f s) (c .before .enum-told14 .given .1))
+returns-14 c =
+    let s = c .before .before .before .before .args .s .now in
+    c .place-entry .ensures ∙ sym (ap (λ (f : Form). placeIn f s) (c .before .enum-told14 .given .1))
 
 pub place-in-spec : {M : Type 1} → statement M
 place-in-spec =

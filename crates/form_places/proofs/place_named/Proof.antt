@@ -1,21 +1,11 @@
+-- `form_places::place_named` meets its contract. Assumes nothing.
 use Rattle.form_places.proofs.Index.{the-last}
 use Prim.Native.Nat.{ℕ}
-use mathlib.Core.Path.{_≡_, sym, ap, _∙_}
+use mathlib.Core.Path.{sym, ap, _∙_}
 use Rattle.form_places.specs.Places.{placeNamed}
-use native.Mathlib.Omega.{arith}
 use borrow.Author.Needs.{needs}
 use Rattle.form_places.proofs.place_named.Statement.{statement}
 use Rattle.form_places.proofs.place_named.Tie as tie
-use Rattle.form_places.proofs.place_named.Reads as reads
-use Rattle.form_places.proofs.place_named.Lts as lts
-use Rattle.aerodromes_places.proofs.place_field13.Reads as place-field13-reads
-use Rattle.aerodromes_places.proofs.place_field16_plan.Reads as place-field16-plan-reads
-use Rattle.equipment_places.proofs.place_field10.Reads as place-field10-reads
-use Rattle.head_places.proofs.place_field7.Reads as place-field7-reads
-use Rattle.head_places.proofs.place_field8.Reads as place-field8-reads
-use Rattle.head_places.proofs.place_field9.Reads as place-field9-reads
-use Rattle.other_places.proofs.place_field18.Reads as place-field18-reads
-use Rattle.route_places.proofs.place_field15.Reads as place-field15-reads
 
 -- src/lib.rt:13:14
 place-field7-requires : tie.Need-place-field7-requires

@@ -1,6 +1,6 @@
--- `head::place_aircraft` meets its contract. Assumes nothing.
+-- `head_places::place_aircraft` meets its contract. Assumes nothing.
 use Prim.Native.Nat.{_+_}
-use mathlib.Core.Path.{refl, sym, ap, _∙_}
+use mathlib.Core.Path.{sym, _∙_}
 use native.Mathlib.Omega.{arith}
 use lib.Seq.{length-take-le}
 use borrow.Author.Tests.{not-true, not-false}
@@ -24,7 +24,11 @@ place-type-requires c κs = search needs
 
 returns : tie.Need-returns
 unfolding aircraftPlace
-returns c = cut-none 47 typeFits typePlace wakePlace (c .before .before .before .before .before .args .t .now) (c .before .before .before .find .result) (c .before .before .before .find .ensures .0) (c .place-type .result) (c .before .before .if1 .taken) (c .place-type .ensures)
+returns c =
+    let at-find = c .before .before .before in
+    let start = at-find .before .before in
+    cut-none 47 typeFits typePlace wakePlace (start .args .t .now) (at-find .find .result) (at-find .find .ensures .0) (c .place-type .result)
+    (c .before .before .if1 .taken) (c .place-type .ensures)
 
 slice-aggregate-is-type : tie.Need-slice-aggregate-is-type
 slice-aggregate-is-type c = sym (length-take-le _ _ (c .before .before .find .ensures .1 .1))
@@ -33,14 +37,22 @@ is-type-requires : tie.Need-is-type-requires
 is-type-requires c κs = search needs
 
 slice-aggregate-place-type-2 : tie.Need-slice-aggregate-place-type-2
-slice-aggregate-place-type-2 c = sym (length-take-le _ _ (c .before .before .before .before .before .find .ensures .1 .1))
+slice-aggregate-place-type-2 c =
+    let back = c .before .before .before .before in
+    let at-find = back .before in
+    sym (length-take-le _ _ (at-find .find .ensures .1 .1))
 
 place-type-requires-2 : tie.Need-place-type-requires-2
 place-type-requires-2 c κs = search needs
 
 returns-2 : tie.Need-returns-2
 unfolding aircraftPlace
-returns-2 c = cut-off 47 typeFits typePlace wakePlace (c .before .before .before .before .before .before .before .before .args .t .now) (c .before .before .before .before .before .before .find .result) (c .before .before .before .before .before .before .find .ensures .0) (c .place-type2 .result) (sym (c .before .before .before .is-type .ensures) ∙ not-true _ (c .before .before .if2 .taken)) (c .place-type2 .ensures)
+returns-2 c =
+    let at-is-type = c .before .before .before in
+    let at-find = at-is-type .before .before .before in
+    let start = at-find .before .before in
+    cut-off 47 typeFits typePlace wakePlace (start .args .t .now) (at-find .find .result) (at-find .find .ensures .0) (c .place-type2 .result)
+    (sym (at-is-type .is-type .ensures) ∙ not-true _ (c .before .before .if2 .taken)) (c .place-type2 .ensures)
 
 add-result : tie.Need-add-result
 add-result c = search needs
@@ -61,11 +73,25 @@ place-wake-requires : tie.Need-place-wake-requires
 place-wake-requires c κs = search needs
 
 add-result-2 : tie.Need-add-result-2
-add-result-2 c = omega (arith, behind-within wakePlace wake-within (c .before .before .before .before .before .before .before .before .args .t .now) (c .before .before .before .before .before .before .find .result + 1) (c .place-wake .result) (omega arith) (c .place-wake .ensures))
+add-result-2 c =
+    let back = c .before .before .before .before in
+    let at-find = back .before .before in
+    let start = at-find .before .before in
+    omega (
+      arith,
+      behind-within wakePlace wake-within (start .args .t .now) (at-find .find .result + 1) (c .place-wake .result) (omega arith) (c .place-wake .ensures),
+    )
 
 returns-3 : tie.Need-returns-3
 unfolding aircraftPlace
-returns-3 c = cut-on 47 typeFits typePlace wakePlace (c .before .before .before .before .before .before .before .before .args .t .now) (c .before .before .before .before .before .before .find .result) (c .before .before .before .before .before .before .find .ensures .0) (c .place-wake .result) (c .before .before .before .before .before .if1 .left) (c .before .before .before .before .before .before .find .ensures .1 .1) (sym (c .before .before .before .is-type .ensures) ∙ not-false _ (c .before .before .if2 .left)) (c .place-wake .ensures)
+returns-3 c =
+    let at-is-type = c .before .before .before in
+    let at-if1 = at-is-type .before .before in
+    let at-find = at-if1 .before in
+    let start = at-find .before .before in
+    cut-on 47 typeFits typePlace wakePlace (start .args .t .now) (at-find .find .result) (at-find .find .ensures .0) (c .place-wake .result)
+    (at-if1 .if1 .left) (at-find .find .ensures .1 .1) (sym (at-is-type .is-type .ensures) ∙ not-false _ (c .before .before .if2 .left))
+    (c .place-wake .ensures)
 
 pub place-aircraft-spec : {M : Type 1} → statement M
 place-aircraft-spec =

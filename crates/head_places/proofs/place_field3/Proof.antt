@@ -1,5 +1,5 @@
--- `head::place_field3` meets its contract. Assumes nothing.
-use mathlib.Core.Path.{_≡_, refl, sym, ap, _∙_}
+-- `head_places::place_field3` meets its contract. Assumes nothing.
+use mathlib.Core.Path.{sym, _∙_}
 use lib.Seq.{length-take-le}
 use borrow.Author.Tests.{not-true, not-false}
 use Rattle.places.proofs.Index.{behind-within}
@@ -10,11 +10,6 @@ use native.Mathlib.Omega.{arith}
 use borrow.Author.Needs.{needs}
 use Rattle.head_places.proofs.place_field3.Statement.{statement}
 use Rattle.head_places.proofs.place_field3.Tie as tie
-use Rattle.head_places.proofs.place_field3.Reads as reads
-use Rattle.head_places.proofs.place_field3.Lts as lts
-use Rattle.entries.proofs.any_of.Reads as any-of-reads
-use Rattle.head_places.proofs.first_number.Reads as first-number-reads
-use Rattle.text.proofs.in_list.Reads as in-list-reads
 
 slice-aggregate-any-of : tie.Need-slice-aggregate-any-of
 slice-aggregate-any-of c = search needs
@@ -43,26 +38,38 @@ any-of-requires-2 c κs = search needs
 
 returns-2 : tie.Need-returns-2
 unfolding types
-returns-2 c = c .any-of2 .ensures ∙ type-off (c .before .before .before .before .before .before .before .before .args .s .now) (sym (c .before .before .before .in-list .ensures) ∙ not-true _ (c .before .before .if2 .taken))
+returns-2 c =
+    let at-in-list = c .before .before .before in
+    let back = at-in-list .before .before .before .before in
+    let start = back .before in
+    c .any-of2 .ensures ∙ type-off (start .args .s .now) (sym (at-in-list .in-list .ensures) ∙ not-true _ (c .before .before .if2 .taken))
 
-sub-first-number : tie.Need-sub-first-number
-sub-first-number c = search needs
+sub-place-numbers : tie.Need-sub-place-numbers
+sub-place-numbers c = search needs
 
-part-first-number-start : tie.Need-part-first-number-start
-part-first-number-start c = search needs
+part-place-numbers-start : tie.Need-part-place-numbers-start
+part-place-numbers-start c = search needs
 
-part-first-number-end : tie.Need-part-first-number-end
-part-first-number-end c = search needs
+part-place-numbers-end : tie.Need-part-place-numbers-end
+part-place-numbers-end c = search needs
 
-first-number-requires : tie.Need-first-number-requires
-first-number-requires c κs = search needs
+place-numbers-requires : tie.Need-place-numbers-requires
+place-numbers-requires c κs = search needs
 
 add-result : tie.Need-add-result
-add-result c = omega (arith, behind-within numbersPlace numbers-within (c .before .before .before .before .before .before .before .before .args .s .now) 3 (c .first-number .result) (omega arith) (c .first-number .ensures))
+add-result c =
+    let back = c .before .before .before .before in
+    let start = back .before .before .before .before in
+    omega (arith, behind-within numbersPlace numbers-within (start .args .s .now) 3 (c .place-numbers .result) (omega arith) (c .place-numbers .ensures))
 
 returns-3 : tie.Need-returns-3
 unfolding types
-returns-3 c = type-on (c .before .before .before .before .before .before .before .before .args .s .now) (c .first-number .result) (sym (c .before .before .before .in-list .ensures) ∙ not-false _ (c .before .before .if2 .left)) (c .first-number .ensures)
+returns-3 c =
+    let at-in-list = c .before .before .before in
+    let back = at-in-list .before .before .before .before in
+    let start = back .before in
+    type-on (start .args .s .now) (c .place-numbers .result) (sym (at-in-list .in-list .ensures) ∙ not-false _ (c .before .before .if2 .left))
+    (c .place-numbers .ensures)
 
 pub place-field3-spec : {M : Type 1} → statement M
 place-field3-spec =
@@ -77,9 +84,9 @@ place-field3-spec =
     slice-aggregate-any-of-2
     any-of-requires-2
     returns-2
-    sub-first-number
-    part-first-number-start
-    part-first-number-end
-    first-number-requires
+    sub-place-numbers
+    part-place-numbers-start
+    part-place-numbers-end
+    place-numbers-requires
     add-result
     returns-3)

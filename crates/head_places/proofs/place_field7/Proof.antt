@@ -1,6 +1,6 @@
--- `head::place_field7` meets its contract. Assumes nothing.
+-- `head_places::place_field7` meets its contract. Assumes nothing.
 use Prim.Native.Nat.{_+_}
-use mathlib.Core.Path.{refl, sym, ap, _∙_}
+use mathlib.Core.Path.{sym, _∙_}
 use native.Mathlib.Omega.{arith}
 use lib.Seq.{length-take-le}
 use borrow.Author.Tests.{not-true, not-false}
@@ -27,7 +27,11 @@ run-place-requires c κs = search needs
 
 returns : tie.Need-returns
 unfolding place7
-returns c = cut-none 47 identificationFits (runPlace 7 sign) (along (bytes "Aoooo")) (c .before .before .before .before .before .args .s .now) (c .before .before .before .find .result) (c .before .before .before .find .ensures .0) (c .run-place .result) (c .before .before .if1 .taken) (c .run-place .ensures)
+returns c =
+    let at-find = c .before .before .before in
+    let start = at-find .before .before in
+    cut-none 47 identificationFits (runPlace 7 sign) (along (bytes "Aoooo")) (start .args .s .now) (at-find .find .result) (at-find .find .ensures .0)
+    (c .run-place .result) (c .before .before .if1 .taken) (c .run-place .ensures)
 
 slice-aggregate-is-identification : tie.Need-slice-aggregate-is-identification
 slice-aggregate-is-identification c = sym (length-take-le _ _ (c .before .before .find .ensures .1 .1))
@@ -36,14 +40,22 @@ is-identification-requires : tie.Need-is-identification-requires
 is-identification-requires c κs = search needs
 
 slice-aggregate-run-place-2 : tie.Need-slice-aggregate-run-place-2
-slice-aggregate-run-place-2 c = sym (length-take-le _ _ (c .before .before .before .before .before .find .ensures .1 .1))
+slice-aggregate-run-place-2 c =
+    let back = c .before .before .before .before in
+    let at-find = back .before in
+    sym (length-take-le _ _ (at-find .find .ensures .1 .1))
 
 run-place-requires-2 : tie.Need-run-place-requires-2
 run-place-requires-2 c κs = search needs
 
 returns-2 : tie.Need-returns-2
 unfolding place7
-returns-2 c = cut-off 47 identificationFits (runPlace 7 sign) (along (bytes "Aoooo")) (c .before .before .before .before .before .before .before .before .args .s .now) (c .before .before .before .before .before .before .find .result) (c .before .before .before .before .before .before .find .ensures .0) (c .run-place2 .result) (sym (c .before .before .before .is-identification .ensures) ∙ not-true _ (c .before .before .if2 .taken)) (c .run-place2 .ensures)
+returns-2 c =
+    let at-is-identification = c .before .before .before in
+    let at-find = at-is-identification .before .before .before in
+    let start = at-find .before .before in
+    cut-off 47 identificationFits (runPlace 7 sign) (along (bytes "Aoooo")) (start .args .s .now) (at-find .find .result) (at-find .find .ensures .0)
+    (c .run-place2 .result) (sym (at-is-identification .is-identification .ensures) ∙ not-true _ (c .before .before .if2 .taken)) (c .run-place2 .ensures)
 
 add-result : tie.Need-add-result
 add-result c = search needs
@@ -67,11 +79,26 @@ along-shape-requires : tie.Need-along-shape-requires
 along-shape-requires c κs = search needs
 
 add-result-2 : tie.Need-add-result-2
-add-result-2 c = omega (arith, behind-within (along (bytes "Aoooo")) code-within (c .before .before .before .before .before .before .before .before .before .args .s .now) (c .before .before .before .before .before .before .before .find .result + 1) (c .along-shape .result) (omega arith) (c .along-shape .ensures))
+add-result-2 c =
+    let back = c .before .before .before .before in
+    let at-find = back .before .before .before in
+    let start = at-find .before .before in
+    omega (
+      arith,
+      behind-within (along (bytes "Aoooo")) code-within (start .args .s .now) (at-find .find .result + 1) (c .along-shape .result) (omega arith)
+          (c .along-shape .ensures),
+    )
 
 returns-3 : tie.Need-returns-3
 unfolding place7
-returns-3 c = cut-on 47 identificationFits (runPlace 7 sign) (along (bytes "Aoooo")) (c .before .before .before .before .before .before .before .before .before .args .s .now) (c .before .before .before .before .before .before .before .find .result) (c .before .before .before .before .before .before .before .find .ensures .0) (c .along-shape .result) (c .before .before .before .before .before .before .if1 .left) (c .before .before .before .before .before .before .before .find .ensures .1 .1) (sym (c .before .before .before .before .is-identification .ensures) ∙ not-false _ (c .before .before .before .if2 .left)) (c .along-shape .ensures)
+returns-3 c =
+    let at-is-identification = c .before .before .before .before in
+    let at-if1 = at-is-identification .before .before in
+    let at-find = at-if1 .before in
+    let start = at-find .before .before in
+    cut-on 47 identificationFits (runPlace 7 sign) (along (bytes "Aoooo")) (start .args .s .now) (at-find .find .result) (at-find .find .ensures .0)
+    (c .along-shape .result) (at-if1 .if1 .left) (at-find .find .ensures .1 .1)
+    (sym (at-is-identification .is-identification .ensures) ∙ not-false _ (c .before .before .before .if2 .left)) (c .along-shape .ensures)
 
 pub place-field7-spec : {M : Type 1} → statement M
 place-field7-spec =

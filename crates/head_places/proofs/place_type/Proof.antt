@@ -1,5 +1,5 @@
--- `head::place_type` meets its contract. Assumes nothing.
-use mathlib.Core.Path.{_≡_, refl, sym, ap, _∙_}
+-- `head_places::place_type` meets its contract. Assumes nothing.
+use mathlib.Core.Path.{_≡_, sym, ap, _∙_}
 use native.Mathlib.Omega.{arith}
 use lib.ListN.{drop}
 use borrow.Author.Tests.{not-true, not-false}
@@ -23,7 +23,10 @@ is-letter-requires : tie.Need-is-letter-requires
 is-letter-requires c κs = search needs
 
 returns-2 : tie.Need-returns-2
-returns-2 c = sym (first-stop letter (λ a. runPlace 3 sign) (c .before .before .before .before .before .args .w .now) (sym (c .before .is-letter .ensures) ∙ not-true _ (c .if2 .taken)))
+returns-2 c =
+    let at-is-letter = c .before in
+    let start = at-is-letter .before .before .before .before in
+    sym (first-stop letter (λ a. runPlace 3 sign) (start .args .w .now) (sym (at-is-letter .is-letter .ensures) ∙ not-true _ (c .if2 .taken)))
 
 sub-run-place : tie.Need-sub-run-place
 sub-run-place c = search needs
@@ -38,13 +41,23 @@ run-place-requires : tie.Need-run-place-requires
 run-place-requires c κs = search needs
 
 add-result : tie.Need-add-result
-add-result c = omega (arith, behind-within (runPlace 3 sign) run-within (c .before .before .before .before .before .before .before .args .w .now) 1 (c .run-place .result) (omega arith) (c .run-place .ensures))
+add-result c =
+    let back = c .before .before .before .before in
+    let start = back .before .before .before in
+    omega (arith, behind-within (runPlace 3 sign) run-within (start .args .w .now) 1 (c .run-place .result) (omega arith) (c .run-place .ensures))
 
 returns-3 : tie.Need-returns-3
 returns-3 c =
-    let w = c .before .before .before .before .before .before .before .args .w .now in
+    let at-is-letter = c .before .before .before in
+    let at-if1 = at-is-letter .before .before in
+    let start = at-if1 .before .before in
+    let w = start .args .w .now in
     let e : c .run-place .result ≡ runPlace 3 sign (drop 1 w) = c .run-place .ensures ∙ ap (runPlace 3 sign) (rest w 1) in
-    omega (arith, first-goes letter (λ a. runPlace 3 sign) (c .before .before .before .before .before .before .before .args .w .now) (c .before .before .before .before .before .if1 .left) (sym (c .before .before .before .is-letter .ensures) ∙ not-false _ (c .before .before .if2 .left)))
+    omega (
+      arith,
+      first-goes letter (λ a. runPlace 3 sign) (start .args .w .now) (at-if1 .if1 .left)
+          (sym (at-is-letter .is-letter .ensures) ∙ not-false _ (c .before .before .if2 .left)),
+    )
 
 pub place-type-spec : {M : Type 1} → statement M
 place-type-spec =

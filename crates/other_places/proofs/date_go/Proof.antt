@@ -1,6 +1,6 @@
 -- `other_places::date_go` meets its contract. Assumes nothing.
 use mathlib.Core.Path.{sym, _∙_}
-use Rattle.places.proofs.Given.{or-false}
+use mathlib.Core.Bool.{or-false}
 use borrow.Author.Needs.{needs}
 use Rattle.other_places.proofs.date_go.Statement.{statement}
 use Rattle.other_places.proofs.date_go.Tie as tie

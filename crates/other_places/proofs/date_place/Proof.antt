@@ -6,7 +6,7 @@ use lib.ListN.{length, take, drop}
 use lib.Seq.{length-take-le}
 use borrow.Author.Tests.{not-true, not-false}
 use Rattle.places.specs.Parts.{passes}
-use Rattle.entries.proofs.Index.{passes-stop, passes-next, passes-end}
+use Rattle.places.proofs.Index.{passes-stop, passes-next, passes-end}
 use Rattle.other_places.specs.Places.{dateGo}
 use borrow.Author.Needs.{needs}
 use native.Mathlib.Omega.{arith}

@@ -6,7 +6,7 @@ use Rattle.text.specs.Words.{before, cells}
 use Rattle.text.proofs.Index.{cellsFrom, all-cells}
 use Rattle.places.specs.Parts.{larger}
 use Rattle.entries.specs.Entries.{entriesPlace}
-use Rattle.entries.proofs.Index.{larger-first}
+use Rattle.places.proofs.Larger.{larger-first}
 use Rattle.other.specs.Rules.{Edition, edition}
 use Rattle.other_places.specs.Places.{laterKeys, keysPlace}
 use Rattle.other_places.proofs.Index.{keys-next, keys-end}

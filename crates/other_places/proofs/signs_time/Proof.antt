@@ -6,7 +6,7 @@ use Rattle.places.proofs.Index.{fixed-short, fixed-whole, behind-within}
 use Rattle.alphabet.specs.Alphabet.{sign}
 use Rattle.shape.specs.Time.{elapsedHours}
 use Rattle.places.specs.Parts.{timePlace}
-use Rattle.other_places.proofs.Index.{time-within}
+use Rattle.places.proofs.Fixed.{time-within}
 use native.Mathlib.Omega.{arith}
 use borrow.Author.Needs.{needs}
 use Rattle.other_places.proofs.signs_time.Statement.{statement}
@@ -21,7 +21,7 @@ module _ (c : tie.After-front-of) where
   within : (r : ℕ) → start .args .m ≤ length (start .args .w .now)
       → r ≡ timePlace elapsedHours (take (length (start .args .w .now) - start .args .m) (drop (start .args .m) (start .args .w .now)))
       → start .args .m + r ≤ length (start .args .w .now)
-  within r h e = behind-within (timePlace elapsedHours) time-within (start .args .w .now) (start .args .m) r h e
+  within r h e = behind-within (timePlace elapsedHours) (time-within elapsedHours) (start .args .w .now) (start .args .m) r h e
 
 front-of-requires : tie.Need-front-of-requires
 front-of-requires c κs = search needs

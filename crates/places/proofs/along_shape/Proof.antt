@@ -9,8 +9,6 @@ use Rattle.places.proofs.Index.{along-stop, along-next, along-over, alo
 use borrow.Author.Needs.{needs}
 use Rattle.places.proofs.along_shape.Statement.{statement}
 use Rattle.places.proofs.along_shape.Tie as tie
-use Rattle.places.proofs.along_shape.Reads as reads
-use Rattle.places.proofs.along_shape.Lts as lts
 
 abbrev Inv-loop : tie.InvT-loop
 Inv-loop t w i₀ i = (i ≤ length t) × (i ≤ length w) × (along t w ≡ i + along (drop i t) (drop i w))
@@ -23,8 +21,10 @@ loop-holds c = (search needs, search needs, search needs)
 
 returns : tie.Need-returns Inv-loop μ-loop
 returns c =
-    let a = c .before .before .before .before .before .args in
-    omega (arith, along-short (a .t .now) (a .w .now) (c .before .before .loop .i) (omega arith) (omega arith))
+    let turn = c .before .before in
+    let start = turn .before .before .before in
+    let a = start .args in
+    omega (arith, along-short (a .t .now) (a .w .now) (turn .loop .i) (omega arith) (omega arith))
 
 add-e : tie.Need-add-e Inv-loop μ-loop
 add-e c = search needs
@@ -52,9 +52,13 @@ fits-requires c κs = search needs
 
 returns-2 : tie.Need-returns-2 Inv-loop μ-loop
 returns-2 c =
-    let a = c .before .before .before .before .before .before .before .before .before .args in
-    let i = c .before .before .before .before .before .before .loop .i in
-    let e = sym (class-here (a .t .now) (a .w .now) i (omega arith) (omega arith)) ∙ sym (c .before .fits2 .ensures) ∙ not-true _ (c .if2 .taken) in
+    let at-fits2 = c .before in
+    let back = at-fits2 .before .before .before .before in
+    let turn = back .before in
+    let start = turn .before .before .before in
+    let a = start .args in
+    let i = turn .loop .i in
+    let e = sym (class-here (a .t .now) (a .w .now) i (omega arith) (omega arith)) ∙ sym (at-fits2 .fits2 .ensures) ∙ not-true _ (c .if2 .taken) in
     omega (arith, along-stop (a .t .now) (a .w .now) i (omega arith) (omega arith) e)
 
 loop-less : tie.Need-loop-less Inv-loop μ-loop
@@ -62,9 +66,13 @@ loop-less c = search needs
 
 loop-again : tie.Need-loop-again Inv-loop μ-loop
 loop-again c =
-    let a = c .before .before .before .before .before .before .before .before .before .args in
-    let i = c .before .before .before .before .before .before .loop .i in
-    let e = sym (class-here (a .t .now) (a .w .now) i (omega arith) (omega arith)) ∙ sym (c .before .fits2 .ensures) ∙ not-false _ (c .if2 .left) in
+    let at-fits2 = c .before in
+    let back = at-fits2 .before .before .before .before in
+    let turn = back .before in
+    let start = turn .before .before .before in
+    let a = start .args in
+    let i = turn .loop .i in
+    let e = sym (class-here (a .t .now) (a .w .now) i (omega arith) (omega arith)) ∙ sym (at-fits2 .fits2 .ensures) ∙ not-false _ (c .if2 .left) in
     omega (arith, along-next (a .t .now) (a .w .now) i (omega arith) (omega arith) e)
 
 returns-3 : tie.Need-returns-3 Inv-loop μ-loop

@@ -28,9 +28,11 @@ is-kind-requires c κs = search needs
 
 returns : tie.Need-returns Inv-loop μ-loop
 returns c =
-    let a = c .before .before .before .before .before .before .args in
+    let turn = c .before .before .before .before in
+    let start = turn .before .before in
+    let a = start .args in
     let e = sym (c .before .is-kind .ensures) ∙ not-true _ (c .if1 .taken) in
-    omega (arith, front-stop (ofKind (a .k)) (a .s .now) (c .before .before .before .before .loop .i) (c .before .before .before .loop-test .taken) e)
+    omega (arith, front-stop (ofKind (a .k)) (a .s .now) (turn .loop .i) (c .before .before .before .loop-test .taken) e)
 
 add-i : tie.Need-add-i Inv-loop μ-loop
 add-i c = search needs
@@ -40,9 +42,11 @@ loop-less c = search needs
 
 loop-again : tie.Need-loop-again Inv-loop μ-loop
 loop-again c =
-    let a = c .before .before .before .before .before .before .args in
+    let turn = c .before .before .before .before in
+    let start = turn .before .before in
+    let a = start .args in
     let e = sym (c .before .is-kind .ensures) ∙ not-false _ (c .if1 .left) in
-    omega (arith, front-next (ofKind (a .k)) (a .s .now) (c .before .before .before .before .loop .i) (c .before .before .before .loop-test .taken) e)
+    omega (arith, front-next (ofKind (a .k)) (a .s .now) (turn .loop .i) (c .before .before .before .loop-test .taken) e)
 
 returns-2 : tie.Need-returns-2 Inv-loop μ-loop
 returns-2 c = let a = c .before .before .before .args in omega (arith, front-end (ofKind (a .k)) (a .s .now) (c .before .loop .i) (c .loop-test .left))

@@ -1,6 +1,6 @@
 -- `places::run_place` meets its contract. Assumes nothing.
 use borrow.Author.Needs.{needs}
-use mathlib.Core.Path.{sym, ap, _∙_}
+use mathlib.Core.Path.{ap, _∙_}
 use Rattle.places.specs.Parts.{smaller}
 use Rattle.places.proofs.run_place.Statement.{statement}
 use Rattle.places.proofs.run_place.Tie as tie

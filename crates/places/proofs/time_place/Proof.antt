@@ -1,27 +1,80 @@
 -- `places::time_place` meets its contract. Assumes nothing.
-use mathlib.Core.Path.{_≡_, refl, sym, ap, _∙_}
-use Prim.Native.Nat.{ℕ, _+_, _*_, _-_, _≤_}
+use mathlib.Core.Path.{_≡_, sym, _∙_}
+use mathlib.Core.Bool.{true, false}
+use mathlib.Core.List.{List}
+use Prim.Native.Nat.{ℕ, _+_, _*_, _-_, _<_, _≤_}
 use lib.Dec.{leb}
 use lib.ListN.{getD, length}
-use mathlib.Core.List.{List}
 use borrow.Author.Tests.{not-true, not-false, lt-leb, le-leb}
 use Rattle.text.proofs.Tests.{and-false, and-both}
 use Rattle.alphabet.specs.Alphabet.{digit}
-use Rattle.places.specs.Parts.{minutesPlace}
+use Rattle.places.specs.Parts.{minutesPlace, tens, units}
 use Rattle.places.proofs.Fixed.{last-right}
 use Rattle.places.proofs.Index.{time-none, time-off, time-one, time-second, time-both, behind-within}
 use native.Mathlib.Omega.{arith}
 use borrow.Author.Needs.{needs}
 use Rattle.places.proofs.time_place.Statement.{statement}
 use Rattle.places.proofs.time_place.Tie as tie
-use Rattle.places.proofs.time_place.Reads as reads
-use Rattle.places.proofs.time_place.Lts as lts
-use Rattle.alphabet.proofs.is_digit.Reads as is-digit-reads
-use Rattle.places.proofs.minutes_place.Reads as minutes-place-reads
-use Rattle.shape.proofs.one.Reads as one-reads
 
 minutes-within : (w : List ℕ) → minutesPlace w ≤ length w
 minutes-within w = last-right 0 w .within
+
+-- where the first byte was read
+module _ (c : tie.After-one) where
+  abbrev tried : tie.Else2
+  tried = c .before .before
+
+  abbrev some : tie.Else1
+  some = tried .before .before .before
+
+  abbrev most : ℕ
+  most = some .before .before .args .most
+
+  abbrev w : List ℕ
+  w = some .before .before .args .w .now
+
+  abbrev ten : ℕ
+  ten = (getD w 0 0 - 48) * 10
+
+  over : most < c .one .result * 10 → tens most (getD w 0 0) ≡ false
+  over h = and-false (digit (getD w 0 0)) (leb ten most) (lt-leb ten most (omega (arith, c .one .ensures .0, h)))
+
+  up-to : c .one .result * 10 ≤ most → tens most (getD w 0 0) ≡ true
+  up-to h =
+      and-both (digit (getD w 0 0)) (leb ten most) (sym (tried .before .is-digit .ensures) ∙ not-false _ (tried .if2 .left))
+      (le-leb ten most (omega (arith, c .one .ensures .0, h)))
+
+-- where the second byte was tried
+module _ (c : tie.After-is-digit2) where
+  abbrev two : tie.Else4
+  two = c .before .before
+
+  abbrev first : tie.After-one
+  first = two .before .before
+
+  tens-right : tens (most first) (getD (w first) 0 0) ≡ true
+  tens-right = up-to first (two .before .if3 .left)
+
+-- and read
+module _ (c : tie.After-one2) where
+  abbrev second : tie.After-is-digit2
+  second = c .before .before .before
+
+  abbrev hours : ℕ
+  hours = ten (first second) + (getD (w (first second)) 1 0 - 48)
+
+  late : most (first second) < first second .one .result * 10 + c .one2 .result
+      → units (most (first second)) (getD (w (first second)) 0 0) (getD (w (first second)) 1 0) ≡ false
+  late h =
+      let f = first second in
+      and-false (digit (getD (w f) 1 0)) (leb hours (most f)) (lt-leb hours (most f) (omega (arith, f .one .ensures .0, c .one2 .ensures .0, h)))
+
+  in-time : first second .one .result * 10 + c .one2 .result ≤ most (first second)
+      → units (most (first second)) (getD (w (first second)) 0 0) (getD (w (first second)) 1 0) ≡ true
+  in-time h =
+      let f = first second in
+      and-both (digit (getD (w f) 1 0)) (leb hours (most f)) (sym (second .is-digit2 .ensures) ∙ not-false _ (c .before .before .if5 .left))
+      (le-leb hours (most f) (omega (arith, f .one .ensures .0, c .one2 .ensures .0, h)))
 
 returns : tie.Need-returns
 returns c = time-none (c .before .before .args .most) (c .before .before .args .w .now) (c .if1 .taken)
@@ -33,7 +86,10 @@ is-digit-requires : tie.Need-is-digit-requires
 is-digit-requires c κs = search needs
 
 returns-2 : tie.Need-returns-2
-returns-2 c = time-off (c .before .before .before .before .before .args .most) (c .before .before .before .before .before .args .w .now) (rw (sym (c .before .is-digit .ensures) ∙ not-true _ (c .if2 .taken)))
+returns-2 c =
+    let tested = c .before in
+    let start = tested .before .before .before .before in
+    time-off (start .args .most) (start .args .w .now) (rw (sym (tested .is-digit .ensures) ∙ not-true _ (c .if2 .taken)))
 
 shared-slice-read-one : tie.Need-shared-slice-read-one
 shared-slice-read-one c = search needs
@@ -45,10 +101,10 @@ mul-tens : tie.Need-mul-tens
 mul-tens c = search needs
 
 returns-3 : tie.Need-returns-3
-returns-3 c = time-off (c .before .before .before .before .before .before .before .before .args .most) (c .before .before .before .before .before .before .before .before .args .w .now) (and-false (digit (getD (c .before .before .before .before .before .before .before .before .args .w .now) 0 0)) (leb (((getD (c .before .before .before .before .before .before .before .before .args .w .now) 0 0) - 48) * 10) (c .before .before .before .before .before .before .before .before .args .most)) (lt-leb (((getD (c .before .before .before .before .before .before .before .before .args .w .now) 0 0) - 48) * 10) (c .before .before .before .before .before .before .before .before .args .most) (omega (arith, c .before .one .ensures .0, c .if3 .taken))))
+returns-3 c = let f = c .before in time-off (most f) (w f) (over f (c .if3 .taken))
 
 returns-4 : tie.Need-returns-4
-returns-4 c = time-one (c .before .before .before .before .before .before .before .before .before .args .most) (c .before .before .before .before .before .before .before .before .before .args .w .now) (c .if4 .taken) (and-both (digit (getD (c .before .before .before .before .before .before .before .before .before .args .w .now) 0 0)) (leb (((getD (c .before .before .before .before .before .before .before .before .before .args .w .now) 0 0) - 48) * 10) (c .before .before .before .before .before .before .before .before .before .args .most)) (sym (c .before .before .before .before .before .is-digit .ensures) ∙ not-false _ (c .before .before .before .before .if2 .left)) (le-leb (((getD (c .before .before .before .before .before .before .before .before .before .args .w .now) 0 0) - 48) * 10) (c .before .before .before .before .before .before .before .before .before .args .most) (omega (arith, c .before .before .one .ensures .0, c .before .if3 .left))))
+returns-4 c = let f = c .before .before in time-one (most f) (w f) (c .if4 .taken) (up-to f (c .before .if3 .left))
 
 shared-slice-read-is-digit-2 : tie.Need-shared-slice-read-is-digit-2
 shared-slice-read-is-digit-2 c = search needs
@@ -57,7 +113,10 @@ is-digit-requires-2 : tie.Need-is-digit-requires-2
 is-digit-requires-2 c κs = search needs
 
 returns-5 : tie.Need-returns-5
-returns-5 c = time-second (c .before .before .before .before .before .before .before .before .before .before .before .before .args .most) (c .before .before .before .before .before .before .before .before .before .before .before .before .args .w .now) (c .before .before .before .before .before .before .before .before .before .before .if1 .left) (and-both (digit (getD (c .before .before .before .before .before .before .before .before .before .before .before .before .args .w .now) 0 0)) (leb (((getD (c .before .before .before .before .before .before .before .before .before .before .before .before .args .w .now) 0 0) - 48) * 10) (c .before .before .before .before .before .before .before .before .before .before .before .before .args .most)) (sym (c .before .before .before .before .before .before .before .before .is-digit .ensures) ∙ not-false _ (c .before .before .before .before .before .before .before .if2 .left)) (le-leb (((getD (c .before .before .before .before .before .before .before .before .before .before .before .before .args .w .now) 0 0) - 48) * 10) (c .before .before .before .before .before .before .before .before .before .before .before .before .args .most) (omega (arith, c .before .before .before .before .before .one .ensures .0, c .before .before .before .before .if3 .left)))) (rw (sym (c .before .is-digit2 .ensures) ∙ not-true _ (c .if5 .taken)))
+returns-5 c =
+    let s = c .before in
+    let f = first s in
+    time-second (most f) (w f) (some f .if1 .left) (tens-right s) (rw (sym (s .is-digit2 .ensures) ∙ not-true _ (c .if5 .taken)))
 
 shared-slice-read-one-2 : tie.Need-shared-slice-read-one-2
 shared-slice-read-one-2 c = search needs
@@ -69,28 +128,35 @@ add-if6 : tie.Need-add-if6
 add-if6 c = search needs
 
 returns-6 : tie.Need-returns-6
-returns-6 c = time-second (c .before .before .before .before .before .before .before .before .before .before .before .before .before .before .before .args .most) (c .before .before .before .before .before .before .before .before .before .before .before .before .before .before .before .args .w .now) (c .before .before .before .before .before .before .before .before .before .before .before .before .before .if1 .left) (and-both (digit (getD (c .before .before .before .before .before .before .before .before .before .before .before .before .before .before .before .args .w .now) 0 0)) (leb (((getD (c .before .before .before .before .before .before .before .before .before .before .before .before .before .before .before .args .w .now) 0 0) - 48) * 10) (c .before .before .before .before .before .before .before .before .before .before .before .before .before .before .before .args .most)) (sym (c .before .before .before .before .before .before .before .before .before .before .before .is-digit .ensures) ∙ not-false _ (c .before .before .before .before .before .before .before .before .before .before .if2 .left)) (le-leb (((getD (c .before .before .before .before .before .before .before .before .before .before .before .before .before .before .before .args .w .now) 0 0) - 48) * 10) (c .before .before .before .before .before .before .before .before .before .before .before .before .before .before .before .args .most) (omega (arith, c .before .before .before .before .before .before .before .before .one .ensures .0, c .before .before .before .before .before .before .before .if3 .left)))) (and-false (digit (getD (c .before .before .before .before .before .before .before .before .before .before .before .before .before .before .before .args .w .now) 1 0)) (leb (((getD (c .before .before .before .before .before .before .before .before .before .before .before .before .before .before .before .args .w .now) 0 0) - 48) * 10 + ((getD (c .before .before .before .before .before .before .before .before .before .before .before .before .before .before .before .args .w .now) 1 0) - 48)) (c .before .before .before .before .before .before .before .before .before .before .before .before .before .before .before .args .most)) (lt-leb (((getD (c .before .before .before .before .before .before .before .before .before .before .before .before .before .before .before .args .w .now) 0 0) - 48) * 10 + ((getD (c .before .before .before .before .before .before .before .before .before .before .before .before .before .before .before .args .w .now) 1 0) - 48)) (c .before .before .before .before .before .before .before .before .before .before .before .before .before .before .before .args .most) (omega (arith, c .before .before .before .before .before .before .before .before .one .ensures .0, c .before .one2 .ensures .0, c .if6 .taken))))
+returns-6 c =
+    let s = second (c .before) in
+    let f = first s in
+    time-second (most f) (w f) (some f .if1 .left) (tens-right s) (late (c .before) (c .if6 .taken))
 
-sub-minutes-place : tie.Need-sub-minutes-place
-sub-minutes-place c = search needs
+sub-two-digits : tie.Need-sub-two-digits
+sub-two-digits c = search needs
 
-part-minutes-place-start : tie.Need-part-minutes-place-start
-part-minutes-place-start c = search needs
+part-two-digits-start : tie.Need-part-two-digits-start
+part-two-digits-start c = search needs
 
-part-minutes-place-end : tie.Need-part-minutes-place-end
-part-minutes-place-end c = search needs
+part-two-digits-end : tie.Need-part-two-digits-end
+part-two-digits-end c = search needs
 
-minutes-place-requires : tie.Need-minutes-place-requires
-minutes-place-requires c κs = search needs
+two-digits-requires : tie.Need-two-digits-requires
+two-digits-requires c κs = search needs
 
 add-result : tie.Need-add-result
-add-result c = omega (arith, behind-within minutesPlace minutes-within (c .before .before .before .before .before .before .before .before .before .before .before .before .before .before .before .before .before .args .w .now) 2 (c .minutes-place .result) (omega arith) (c .minutes-place .ensures))
+add-result c =
+    let f = first (second (c .before .before .before)) in
+    omega (arith, behind-within minutesPlace minutes-within (w f) 2 (c .two-digits .result) (omega arith) (c .two-digits .ensures))
 
 returns-7 : tie.Need-returns-7
 returns-7 c =
-    time-both (c .before .before .before .before .before .before .before .before .before .before .before .before .before .before .before .before .before .args .most) (c .before .before .before .before .before .before .before .before .before .before .before .before .before .before .before .before .before .args .w .now) (c .before .before .before .before .before .before .before .before .before .before .before .before .before .before .before .if1 .left) (c .before .before .before .before .before .before .before .before .if4 .left) (and-both (digit (getD (c .before .before .before .before .before .before .before .before .before .before .before .before .before .before .before .before .before .args .w .now) 0 0)) (leb (((getD (c .before .before .before .before .before .before .before .before .before .before .before .before .before .before .before .before .before .args .w .now) 0 0) - 48) * 10) (c .before .before .before .before .before .before .before .before .before .before .before .before .before .before .before .before .before .args .most)) (sym (c .before .before .before .before .before .before .before .before .before .before .before .before .before .is-digit .ensures) ∙ not-false _ (c .before .before .before .before .before .before .before .before .before .before .before .before .if2 .left)) (le-leb (((getD (c .before .before .before .before .before .before .before .before .before .before .before .before .before .before .before .before .before .args .w .now) 0 0) - 48) * 10) (c .before .before .before .before .before .before .before .before .before .before .before .before .before .before .before .before .before .args .most) (omega (arith, c .before .before .before .before .before .before .before .before .before .before .one .ensures .0, c .before .before .before .before .before .before .before .before .before .if3 .left))))
-    (and-both (digit (getD (c .before .before .before .before .before .before .before .before .before .before .before .before .before .before .before .before .before .args .w .now) 1 0)) (leb (((getD (c .before .before .before .before .before .before .before .before .before .before .before .before .before .before .before .before .before .args .w .now) 0 0) - 48) * 10 + ((getD (c .before .before .before .before .before .before .before .before .before .before .before .before .before .before .before .before .before .args .w .now) 1 0) - 48)) (c .before .before .before .before .before .before .before .before .before .before .before .before .before .before .before .before .before .args .most)) (sym (c .before .before .before .before .before .before .is-digit2 .ensures) ∙ not-false _ (c .before .before .before .before .before .if5 .left)) (le-leb (((getD (c .before .before .before .before .before .before .before .before .before .before .before .before .before .before .before .before .before .args .w .now) 0 0) - 48) * 10 + ((getD (c .before .before .before .before .before .before .before .before .before .before .before .before .before .before .before .before .before .args .w .now) 1 0) - 48)) (c .before .before .before .before .before .before .before .before .before .before .before .before .before .before .before .before .before .args .most) (omega (arith, c .before .before .before .before .before .before .before .before .before .before .one .ensures .0, c .before .before .before .one2 .ensures .0, c .before .before .if6 .left))))
-    (c .minutes-place .result) (c .minutes-place .ensures)
+    let read = c .before .before .before in
+    let s = second read in
+    let f = first s in
+    time-both (most f) (w f) (some f .if1 .left) (two s .if4 .left) (tens-right s) (in-time read (c .before .before .if6 .left))
+    (c .two-digits .result) (c .two-digits .ensures)
 
 pub time-place-spec : {M : Type 1} → statement M
 time-place-spec =
@@ -112,9 +178,9 @@ time-place-spec =
     one-requires-2
     add-if6
     returns-6
-    sub-minutes-place
-    part-minutes-place-start
-    part-minutes-place-end
-    minutes-place-requires
+    sub-two-digits
+    part-two-digits-start
+    part-two-digits-end
+    two-digits-requires
     add-result
     returns-7)

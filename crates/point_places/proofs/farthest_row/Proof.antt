@@ -5,7 +5,7 @@ use lib.ListN.{length, drop}
 use Rattle.text.specs.Words.{split}
 use Rattle.places.specs.Parts.{larger}
 use Rattle.point_places.specs.Rows.{rowPlace, rowsPlace}
-use Rattle.point_places.proofs.Index.{zero-larger, largest-last, largest-next}
+use Rattle.places.proofs.Larger.{larger-first, largest-last, largest-next}
 use borrow.Author.Needs.{needs}
 use native.Mathlib.Omega.{arith}
 use Rattle.point_places.proofs.farthest_row.Statement.{statement}
@@ -18,7 +18,7 @@ abbrev μ-loop : tie.MeasureT-loop
 μ-loop list w at₀ best₀ at best = length list - at
 
 loop-holds : tie.Need-loop-holds Inv-loop μ-loop
-loop-holds c = (search needs, sym (zero-larger (rowsPlace (split 32 (c .before .before .args .list .now)) (c .before .before .args .w .now))))
+loop-holds c = (search needs, sym (larger-first (rowsPlace (split 32 (c .before .before .args .list .now)) (c .before .before .args .w .now))))
 
 find-requires : tie.Need-find-requires Inv-loop μ-loop
 find-requires c κs = search needs

@@ -1,5 +1,5 @@
 -- `route_places::place_element` meets its contract. Assumes nothing.
-use Rattle.point_places.proofs.Index.{larger-up}
+use Rattle.places.proofs.Larger.{larger-up}
 use Rattle.route_places.specs.Places.{elementPlace}
 use borrow.Author.Needs.{needs}
 use Rattle.route_places.proofs.place_element.Statement.{statement}

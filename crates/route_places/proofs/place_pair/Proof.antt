@@ -8,7 +8,7 @@ use Rattle.text.specs.Words.{split}
 use Rattle.places.specs.Parts.{farthest}
 use Rattle.route.specs.Points.{pointFits}
 use Rattle.point_places.specs.Points.{pointPlace}
-use Rattle.route_places.proofs.Index.{farthest-le}
+use Rattle.places.proofs.Leaves.{farthest-le}
 use native.Mathlib.Omega.{arith}
 use borrow.Author.Needs.{needs}
 use Rattle.route_places.proofs.place_pair.Statement.{statement}

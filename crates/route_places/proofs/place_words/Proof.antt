@@ -8,7 +8,8 @@ use Rattle.text.specs.Words.{split}
 use Rattle.places.specs.Words.{wordsPlace}
 use Rattle.places.proofs.Index.{words-last, words-stuck, words-end, words-next}
 use Rattle.route_places.specs.Places.{route, wordPlace, routePlace}
-use Rattle.route_places.proofs.Index.{next-t, next-word, next-none, word-length}
+use Rattle.places.proofs.Texts.{word-length}
+use Rattle.route_places.proofs.Index.{next-t, next-word, next-none}
 use Rattle.route_places.proofs.Places.{element-right}
 use borrow.Author.Needs.{needs}
 use native.Mathlib.Omega.{arith}

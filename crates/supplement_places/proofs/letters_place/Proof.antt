@@ -7,7 +7,7 @@ use lib.ListN.{length, take, drop}
 use lib.Seq.{length-take-le}
 use borrow.Author.Tests.{not-true, not-false}
 use Rattle.places.specs.Parts.{passes}
-use Rattle.entries.proofs.Index.{passes-end}
+use Rattle.places.proofs.Index.{passes-end}
 use Rattle.supplement.specs.Field19.{lettersFit}
 use Rattle.supplement_places.proofs.PlaceIndex.{letters-stop, letters-next}
 use borrow.Author.Needs.{needs}

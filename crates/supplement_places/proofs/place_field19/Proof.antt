@@ -7,8 +7,9 @@ use borrow.Author.Tests.{not-true, not-false}
 use Rattle.text.specs.Words.{split}
 use Rattle.places.specs.Words.{wordsPlace}
 use Rattle.places.proofs.Index.{words-last}
+use Rattle.places.proofs.Texts.{word-length}
 use Rattle.supplement_places.specs.Places.{wordPlace, stands as standsAt, walk, place19}
-use Rattle.supplement_places.proofs.PlaceIndex.{word-length, place-stuck, place-next}
+use Rattle.supplement_places.proofs.PlaceIndex.{place-stuck, place-next}
 use borrow.Author.Needs.{needs}
 use Rattle.supplement_places.proofs.place_field19.Statement.{statement}
 use Rattle.supplement_places.proofs.place_field19.Tie as tie
