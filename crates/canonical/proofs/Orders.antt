@@ -17,7 +17,7 @@ use Rattle.canonical.specs.Canonical.{sorted, stripped}
 -- LETTERS
 
 -- a letter is among the sorted ones where it is in the set and in the word
-in-sorted : (b : ℕ) (set : List ℕ) (w : Word) → oneOf b (sorted set w) ≡ (oneOf b set && oneOf b w)
+pub in-sorted : (b : ℕ) (set : List ℕ) (w : Word) → oneOf b (sorted set w) ≡ (oneOf b set && oneOf b w)
 in-sorted b [] w = refl
 in-sorted b (x ∷ set) w = go (in-sorted b set w) (oneOf x w) refl (eqb b x) refl
   where
@@ -70,7 +70,7 @@ sorted-some set a (b ∷ w) e =
 
 -- letters of one set are sorted by any order that has the set in its order
 
-absent : (set : List ℕ) (x : ℕ) → oneOf x set ≡ false → (w : Word) → lettersFit set w ≡ true → oneOf x w ≡ false
+pub absent : (set : List ℕ) (x : ℕ) → oneOf x set ≡ false → (w : Word) → lettersFit set w ≡ true → oneOf x w ≡ false
 absent set x n [] e = refl
 absent set x n (b ∷ w) e = go (absent set x n w (both (not (oneOf b w)) _ (h .1) .1)) (eqb x b) refl
   where

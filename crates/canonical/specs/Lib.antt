@@ -1,2 +1,3 @@
 pub mod Canonical
+pub mod Meaning
 pub mod Rewriting

@@ -3,3 +3,4 @@ pub mod Field22
 pub mod Faults
 pub mod Index
 pub mod Forms
+pub mod Meaning

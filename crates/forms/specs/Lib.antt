@@ -1,2 +1,3 @@
 pub mod Field22
 pub mod Forms
+pub mod Meaning
