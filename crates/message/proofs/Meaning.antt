@@ -34,8 +34,9 @@ same-apart M N v w e = kept-one (subst (λ (K : Message). Kept K M) e (kept (M .
 
 pub same-together : (M N : Message) → validMessage M ≡ true → validMessage N ≡ true → SameMessage M N → canonicalMessage M ≡ canonicalMessage N
 same-together M N v w (same-fields qs a) =
+    let other = valid-fields (record { type = M .type; count = M .count; fields = qs }) w in
     ap (λ (rs : Records (fieldsOf (M .type) (M .count))). record { type = M .type; count = M .count; fields = rs })
-    (all-together (formsOf (M .type) (M .count)) (M .fields) qs (valid-fields M v) (valid-fields (record { type = M .type; count = M .count; fields = qs }) w) a)
+    (all-together (formsOf (M .type) (M .count)) (M .fields) qs (valid-fields M v) other a)
 
 -- THE SAME, OF ACCEPTED MESSAGES
 
