@@ -25,6 +25,7 @@ use Rattle.history.specs.Demand3.{updater, Meets as Meets3}
 use Rattle.history.proofs.Demand3.{demand3 as of-history}
 use Rattle.demands.specs.Demands.{Reader, Reads, Demand1, accepted, refused, IsRecord, Fits, Spelled, spellingIn, Demand2, Passes, NotPassing}
 use Rattle.demands.proofs.Places.{refused-place}
+use Rattle.demands.proofs.Named.{refused-named}
 use Rattle.demands.proofs.Pointed.{refused-points}
 
 -- DEMAND 1
@@ -41,6 +42,7 @@ demand1 m out a after r = go (answered a)
         (record {
           least = k .0;
           greatest = k .1;
+          named = refused-named m (length out) number field place q;
           inside = refused-place m (length out) number field place q;
           points = refused-points m (length out) number field place q;
           stays = r .output-is ∙ refused-leaves m out number field place q;
@@ -139,6 +141,14 @@ demand2 m out a after r =
       equal-records = λ M q e k other b left p N n d same.
           same-spellings m k M N q n (sym (read-so m out a after r M q e) ∙ same ∙ read-so k other b left p N n d);
     }
+
+-- WHAT THE CONTRACT of `message::read` says is a result of reading, and so as demanded
+
+pub read-demanded : (m out : List ℕ) (a : Answer) (after : List ℕ) → (a ≡ answerOf m (length out)) × (after ≡ outAfter m out)
+    → Reads m out a after × (Demand1 m out a after × Demand2 Reads m out a after)
+read-demanded m out a after e =
+    let r : Reads m out a after = record { answer-is = e .0; output-is = e .1 } in
+    (r, (demand1 m out a after r, demand2 m out a after r))
 
 -- THE READER PASSES
 

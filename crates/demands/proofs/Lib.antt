@@ -1,5 +1,7 @@
 pub mod Examples
 pub mod Places
+pub mod Named
 pub mod Pointed
 pub mod Demands
+pub mod Turns
 pub mod Determined

@@ -1,10 +1,11 @@
 -- The client's demands 1 and 2, said of a result of reading: the bytes sent, the output as it was lent, the answer, the output afterwards.
 -- Assumes nothing.
 use Prim.Native.Nat.{ℕ, _≤_}
-use mathlib.Core.Path.{_≡_}
+use mathlib.Core.Path.{_≡_, refl}
 use mathlib.Core.Bool.{true, false}
-use mathlib.Core.List.{List, []}
+use mathlib.Core.List.{List, [], _∷_}
 use lib.ListN.{length, take}
+use Rattle.alphabet.specs.Alphabet.{oneOf}
 use Rattle.text.specs.Lent.{front}
 use Rattle.places.specs.Place.{IsPlace}
 use Rattle.space.specs.Places.{sentPlace}
@@ -42,10 +43,19 @@ pub record Points (m : List ℕ) (field place : ℕ) : Type 0 where
   pub is-place : IsPlace (fieldOf (formAt type (countOf m) which) .fits) (contentOf which m) at
   pub place-is : place ≡ sentPlace which at m
 
+-- the fields that a refusal may name: those that have forms, and 0 for none
+unfoldable pub fieldsNamed : List ℕ
+fieldsNamed = 0 ∷ 3 ∷ 7 ∷ 8 ∷ 9 ∷ 10 ∷ 13 ∷ 15 ∷ 16 ∷ 17 ∷ 18 ∷ 19 ∷ 22 ∷ []
+
+fields-named : (oneOf 0 fieldsNamed ≡ true) × (oneOf 22 fieldsNamed ≡ true) × (oneOf 5 fieldsNamed ≡ false) × (oneOf 14 fieldsNamed ≡ false)
+unfolding fieldsNamed
+fields-named = (refl, refl, refl, refl)
+
 -- a message that is not taken gets one of reading's numbers, a field and a place in it or at its end; every byte of the output stays
 pub record Refusal (m out : List ℕ) (number field place : ℕ) (after : List ℕ) : Type 0 where
   pub least : 1 ≤ number
   pub greatest : number ≤ 11
+  pub named : oneOf field fieldsNamed ≡ true
   pub inside : place ≤ length m
   pub points : number ≡ 7 → Points m field place
   pub stays : after ≡ out

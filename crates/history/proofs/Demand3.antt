@@ -177,6 +177,16 @@ pub refused-stays : (strip : List ℕ) (s : Strip) (m out : List ℕ) (number fi
 unfolding outAfter
 refused-stays strip s m out number field place e = ap (λ (u : Updated). writtenAs u strip m out) e
 
+-- the length that is answered is that of the strip which is put down
+pub stepped-length : (b : Board) (o : Offer) (held : Strip) (n : ℕ) → answered updater b o ≡ Accepted held n → n ≡ length (offered updater b o .strip)
+stepped-length b o held n q =
+    let room = length (o .lent) in
+    let k : Took (b .strip) (b .held) (o .bytes) room held n
+    = subst (Verdict (b .strip) (b .held) (o .bytes) room) q (verdict (b .strip) (b .held) (o .bytes) room) in
+    k .long
+    ∙ sym (ap length (took-written (b .strip) (b .held) (o .bytes) room held n k (o .lent) q))
+    ∙ sym (ap (λ (u : Updated). length (putAs u (outAfter (b .strip) (b .held) (o .bytes) (o .lent)) b .strip)) q)
+
 pub demand3 : Meets updater
 demand3 m room n e run =
     let filed = planIn (contents m) in
@@ -201,6 +211,7 @@ demand3 m room n e run =
           cause-refused (b .strip) (b .held) (o .bytes) (length (o .lent)) number field place
           (subst (λ (w : List ℕ). Cause w (b .held) (o .bytes) (length (o .lent)) number field place) (sym spelt) c);
       unchanged = λ o number field place q. refused-stays (b .strip) (b .held) (o .bytes) (o .lent) number field place q;
+      length-is = λ o held k q. stepped-length b o held k q;
       behind-stays = λ o held k q.
           took-behind (b .strip) (b .held) (o .bytes) (length (o .lent)) held k
           (subst (Verdict (b .strip) (b .held) (o .bytes) (length (o .lent))) q (verdict (b .strip) (b .held) (o .bytes) (length (o .lent))))

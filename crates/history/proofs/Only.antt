@@ -26,7 +26,11 @@ use Rattle.history.proofs.Refuted.{accepts, meets-strip, meets-refused}
 
 -- A RUN AND ONE OFFER MORE
 
-log-last : (U : Updater) (run : List Offer) (b : Board) (log : List Told) (o : Offer)
+pub board-last : (U : Updater) (run : List Offer) (b : Board) (o : Offer) → offeredAll U b (run ++ (o ∷ [])) ≡ offered U (offeredAll U b run) o
+board-last U [] b o = refl
+board-last U (x ∷ run) b o = board-last U run (offered U b x) o
+
+pub log-last : (U : Updater) (run : List Offer) (b : Board) (log : List Told) (o : Offer)
     → logAll U b log (run ++ (o ∷ [])) ≡ enteredAs (answered U (offeredAll U b run) o) (o .bytes) (logAll U b log run)
 log-last U [] b log o = refl
 log-last U (x ∷ run) b log o = log-last U run (offered U b x) (enteredAs (answered U b x) (x .bytes) log) o

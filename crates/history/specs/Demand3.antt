@@ -199,7 +199,9 @@ pub record Demand3 (U : Updater) (filed : List Word) (start : Board) (run : List
       → answered U (offeredAll U start run) o ≡ Refused number field place
   pub unchanged : (o : Offer) (number field place : ℕ) → answered U (offeredAll U start run) o ≡ Refused number field place
       → left U (offeredAll U start run) o ≡ o .lent
-  -- and of an accepted one what lies behind the new strip stays
+  -- of an accepted one the answer gives the new strip's length, and what lies behind it stays
+  pub length-is : (o : Offer) (next : Strip) (n : ℕ) → answered U (offeredAll U start run) o ≡ Accepted next n
+      → n ≡ length (offered U (offeredAll U start run) o .strip)
   pub behind-stays : (o : Offer) (next : Strip) (n : ℕ) → answered U (offeredAll U start run) o ≡ Accepted next n
       → drop n (left U (offeredAll U start run) o) ≡ drop n (o .lent)
 
