@@ -14,7 +14,7 @@ use Rattle.aerodromes.specs.Field16.{fits16plan}
 use Rattle.aerodromes.specs.Field17.{fits17, unlisted}
 use Rattle.route.specs.Levels.{speedDigits, levelDigits, speeds, levels, starts, changes, climbs}
 use Rattle.route.specs.Points.{within, radialFits, indicators, nameFits, pointFits}
-use Rattle.route.specs.Field15.{pairFits, elementFits, fits15}
+use Rattle.route.specs.Field15.{pairFits, elementFits, fits15, record15}
 use Rattle.other.specs.Rules.{statuses, approvals, approved, daysIn, date, timed as timedWord, hexadecimal, base}
 use Rattle.other.specs.Field18.{fitsIn, hasKey}
 use Rattle.head.specs.Field3.{types, fits3, numbersFit}
@@ -43,10 +43,10 @@ both-hold (x ∷ xs) ys h k = (h .0, both-hold xs ys (h .1) k)
 fields-hold : AllHold ofFields
 unfolding text inAlphabet white letters timeFits fits7 fits9 countFits aircraftFits fits10 valid10 present fourLetters timed fits17 unlisted speedDigits
     levelDigits speeds levels starts changes climbs within radialFits indicators nameFits pointFits pairFits elementFits fits15 statuses approvals
-    approved daysIn date timedWord hexadecimal base fitsIn
+    approved daysIn date timedWord hexadecimal base fitsIn record15
 fields-hold =
     both-hold (take 11 ofFields) (drop 11 ofFields)
-    (refl, (refl, (refl, (refl, (refl, (refl, (refl, (refl, (refl, (refl, (refl, tt)))))))))))
+    (refl, (refl, (refl, (refl, ((refl, refl), (refl, ((refl, refl), (refl, ((refl, refl), (refl, (refl, tt)))))))))))
     (refl, (refl, (refl, (refl, (refl, (refl, (refl, (refl, (refl, (refl, tt))))))))))
 
 messages-hold : AllHold ofMessages

@@ -13,7 +13,8 @@ use Rattle.head.specs.Field7.{field7}
 use Rattle.head.specs.Field9.{field9}
 use Rattle.equipment.specs.Field10.{field10, present}
 use Rattle.aerodromes.specs.Field17.{field17}
-use Rattle.route.specs.Field15.{field15}
+use Rattle.route.specs.Points.{inDegrees, inMinutes, withBearing}
+use Rattle.route.specs.Field15.{Element, plain, record15, field15}
 use Rattle.other.specs.Field18.{field18}
 use Rattle.kinds.specs.declared.MessageType.{MessageType}
 use Rattle.kinds.specs.declared.MessageType.the-variants.{Cnl}
@@ -34,8 +35,8 @@ pub data Example : Type 1 where
   no : Field → String → Example
   -- a content fits as a record
   fitsAs : (f : Field) → String → f .Record → Example
-  -- a word of a route fits, as the only one behind speed and level, or does not
-  routeFits : String → Example
+  -- a word of a route fits as an element, the only one behind speed and level, or does not fit there
+  routeAs : String → Element → Example
   routeNo : String → Example
   -- four digits are a time of day, or are none
   time : String → Example
@@ -55,7 +56,7 @@ abbrev pub Holds : Example → Type 0
 Holds (fits f s) = f .fits (bytes s) ≡ true
 Holds (no f s) = f .fits (bytes s) ≡ false
 Holds (fitsAs f s r) = read f (bytes s) ≡ some r
-Holds (routeFits w) = field15 .fits (alone w) ≡ true
+Holds (routeAs w x) = (field15 .fits (alone w) ≡ true) × (record15 (alone w) .route ≡ x ∷ [])
 Holds (routeNo w) = field15 .fits (alone w) ≡ false
 Holds (time s) = clockFits (bytes s) ≡ true
 Holds (noTime s) = clockFits (bytes s) ≡ false
@@ -77,11 +78,13 @@ ofFields =
     ∷ (no field9 "1B707/M"
     ∷ (fits field7 "ABC12/A7777"
     ∷ (no field7 "ABC12/A7780"
-    ∷ (routeFits "46N078W"
+    ∷ (routeAs "46N078W" (plain (inDegrees (record { latitude = 46; north = 78; longitude = 78; east = 87 })))
     ∷ (routeNo "91N078W"
-    ∷ (routeFits "9000N18000E"
+    ∷ (routeAs "9000N18000E" (plain
+    (inMinutes
+    (record { latitude = 90; latitudeMinutes = 0; north = 78; longitude = 180; longitudeMinutes = 0; east = 69 })))
     ∷ (routeNo "9001N07805W"
-    ∷ (routeFits "FOJ180040"
+    ∷ (routeAs "FOJ180040" (plain (withBearing (record { point = bytes "FOJ"; bearing = 180; distance = 40 })))
     ∷ (routeNo "FOJ361040"
     ∷ (fits field18 "DOF/240229"
     ∷ (no field18 "DOF/230229"
