@@ -16,10 +16,10 @@ use Rattle.state.specs.declared.Strip.{Strip}
 use Rattle.strip.specs.declared.Updated.{Updated}
 use Rattle.strip.specs.declared.Updated.the-variants.{Accepted, Refused}
 use Rattle.strip.specs.Updating.{updateOf, outAfter}
-use Rattle.history.specs.Demand3.{Updater, updater, Board, Offer, Proper, putAs, enteredAs, answered, offered, offeredAll, logAll, Demand3, filedAs}
+use Rattle.history.specs.Demand3.{Updater, updater, Standing, Offer, Proper, putAs, enteredAs, answered, offered, offeredAll, logAll, Demand3, filedAs}
 use Rattle.history.proofs.Causes.{Verdict, verdict, refused-cause, cause-refused}
 use Rattle.history.proofs.Demand3.{took-behind, refused-stays, stepped-length, demand3}
-use Rattle.history.proofs.Only.{board-last, log-last}
+use Rattle.history.proofs.Only.{standing-last, log-last}
 use Rattle.demands.specs.Turns.{OnStrip, Updates, Turn, Turns}
 
 -- THE RECORD ON A STRIP
@@ -37,19 +37,19 @@ proper-record strip held p =
     }
 
 -- after every run, by demand 3 alone
-pub strip-record : (U : Updater) (filed : List (List ℕ)) (start : Board) (run : List Offer) → Demand3 U filed start run
+pub strip-record : (U : Updater) (filed : List (List ℕ)) (start : Standing) (run : List Offer) → Demand3 U filed start run
     → OnStrip (offeredAll U start run .strip)
 strip-record U filed start run d = subst OnStrip (sym (d .strip-is)) (proper-record _ (d .held) (d .stays-proper))
 
 -- ONE TURN
 
-module _ (b : Board) (o : Offer) (a : Updated) (after : List ℕ) (u : Updates b o a after) where
+module _ (b : Standing) (o : Offer) (a : Updated) (after : List ℕ) (u : Updates b o a after) where
   -- the strip that the caller has afterwards
   put-so : offered updater b o ≡ putAs a after b
   put-so = ap₂ (λ (x : Updated) (w : List ℕ). putAs x w b) (sym (u .answer-is)) (sym (u .output-is))
 
   accepted-length : (next : Strip) (n : ℕ) → a ≡ Accepted next n → n ≡ length (putAs a after b .strip)
-  accepted-length next n q = stepped-length b o next n (sym (u .answer-is) ∙ q) ∙ ap (λ (x : Board). length (x .strip)) put-so
+  accepted-length next n q = stepped-length b o next n (sym (u .answer-is) ∙ q) ∙ ap (λ (x : Standing). length (x .strip)) put-so
 
   accepted-behind : (next : Strip) (n : ℕ) → a ≡ Accepted next n → drop n after ≡ drop n (o .lent)
   accepted-behind next n q =
@@ -62,10 +62,10 @@ module _ (b : Board) (o : Offer) (a : Updated) (after : List ℕ) (u : Updates b
   pub turns : Turns b o a after
   turns filed room n read run e =
       record {
-        board-is = board-last updater run (filedAs filed) o ∙ ap (λ (x : Board). offered updater x o) e ∙ put-so;
+        standing-is = standing-last updater run (filedAs filed) o ∙ ap (λ (x : Standing). offered updater x o) e ∙ put-so;
         log-is =
             log-last updater run (filedAs filed) [] o
-            ∙ ap (λ (x : Board). enteredAs (answered updater x o) (o .bytes) (logAll updater (filedAs filed) [] run)) e
+            ∙ ap (λ (x : Standing). enteredAs (answered updater x o) (o .bytes) (logAll updater (filedAs filed) [] run)) e
             ∙ ap (λ (x : Updated). enteredAs x (o .bytes) (logAll updater (filedAs filed) [] run)) (sym (u .answer-is));
         demanded = demand3 filed room n read (run ++ (o ∷ []));
         refused-cause = λ number field place q.
@@ -79,7 +79,7 @@ module _ (b : Board) (o : Offer) (a : Updated) (after : List ℕ) (u : Updates b
       }
 
 -- WHAT THE CONTRACT of `strip::update` says is a result of the update, and so a turn as demanded
-pub update-demanded : (b : Board) (o : Offer) (a : Updated) (after : List ℕ)
+pub update-demanded : (b : Standing) (o : Offer) (a : Updated) (after : List ℕ)
     → (a ≡ updateOf (b .strip) (b .held) (o .bytes) (length (o .lent))) × (after ≡ outAfter (b .strip) (b .held) (o .bytes) (o .lent))
     → Updates b o a after × Turns b o a after
 update-demanded b o a after e =

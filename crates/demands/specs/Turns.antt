@@ -13,7 +13,7 @@ use Rattle.message.specs.Message.{Message, spelling, validMessage}
 use Rattle.state.specs.declared.Strip.{Strip}
 use Rattle.strip.specs.declared.Updated.{Updated}
 use Rattle.strip.specs.declared.Updated.the-variants.{Accepted, Refused}
-use Rattle.history.specs.Demand3.{updater, Board, Offer, putAs, enteredAs, offeredAll, logAll, Cause, Demand3, filedAs}
+use Rattle.history.specs.Demand3.{updater, Standing, Offer, putAs, enteredAs, offeredAll, logAll, Cause, Demand3, filedAs}
 use Rattle.demands.specs.Demands.{IsRecord}
 
 -- THE RECORD ON A STRIP: a valid record of an FPL, the one that the forms allow for the strip's bytes, and they are its spelling
@@ -25,21 +25,21 @@ pub record OnStrip (strip : List ℕ) : Type 0 where
   pub spelt : strip ≡ spelling of
 
 -- the strip and the offer that a call is given
-abbrev pub board : List ℕ → Strip → Board
-board strip held = record { strip = strip; held = held }
+abbrev pub standing : List ℕ → Strip → Standing
+standing strip held = record { strip = strip; held = held }
 
 abbrev pub offer : List ℕ → List ℕ → Offer
 offer m out = record { bytes = m; lent = out }
 
 -- the results of `strip::update`: what its contract says
-pub record Updates (b : Board) (o : Offer) (a : Updated) (after : List ℕ) : Type 0 where
+pub record Updates (b : Standing) (o : Offer) (a : Updated) (after : List ℕ) : Type 0 where
   pub answer-is : a ≡ updater .answer (b .strip) (b .held) (o .bytes) (o .lent)
   pub output-is : after ≡ updater .output (b .strip) (b .held) (o .bytes) (o .lent)
 
 -- A TURN: the strip b, to which an FPL and a run of offers led, is offered a message more; the answer, and the output afterwards
-pub record Turn (filed : List ℕ) (run : List Offer) (b : Board) (o : Offer) (a : Updated) (after : List ℕ) : Type 0 where
+pub record Turn (filed : List ℕ) (run : List Offer) (b : Standing) (o : Offer) (a : Updated) (after : List ℕ) : Type 0 where
   -- the longer run leads to the strip that was written and to the record that was answered, and the answer says whether its log has the message
-  pub board-is : offeredAll updater (filedAs filed) (run ++ (o ∷ [])) ≡ putAs a after b
+  pub standing-is : offeredAll updater (filedAs filed) (run ++ (o ∷ [])) ≡ putAs a after b
   pub log-is : logAll updater (filedAs filed) [] (run ++ (o ∷ [])) ≡ enteredAs a (o .bytes) (logAll updater (filedAs filed) [] run)
   -- and all that is demanded of a run holds of it
   pub demanded : Demand3 updater (contents filed) (filedAs filed) (run ++ (o ∷ []))
@@ -54,7 +54,7 @@ pub record Turn (filed : List ℕ) (run : List Offer) (b : Board) (o : Offer) (a
   pub behind-stays : (next : Strip) (n : ℕ) → a ≡ Accepted next n → drop n after ≡ drop n (o .lent)
 
 -- whatever FPL was filed, and whatever run of offers led to the strip
-abbrev pub Turns : Board → Offer → Updated → List ℕ → Type 0
+abbrev pub Turns : Standing → Offer → Updated → List ℕ → Type 0
 Turns b o a after =
     (filed : List ℕ) (room n : ℕ) → answerOf filed room ≡ ReadAs Fpl n → (run : List Offer) → offeredAll updater (filedAs filed) run ≡ b
     → Turn filed run b o a after

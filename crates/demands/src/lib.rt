@@ -1,7 +1,7 @@
 // The demands as contracts of the calls that they speak of, so that the checker ties them to the code: each function here only calls the
 // library's. The statements are in specs/, and beside them the examples of document 01.
 ghost use Rattle.demands.specs.Demands.{Reads, Demand1, Demand2};
-ghost use Rattle.demands.specs.Turns.{board, offer, Updates, Turns};
+ghost use Rattle.demands.specs.Turns.{standing, offer, Updates, Turns};
 use message::Answer;
 use state::Strip;
 use strip::Updated;
@@ -17,8 +17,8 @@ pub fn read(msg: &[u8], out: &mut [u8]) -> Answer
 
 // Offering a message to a strip: demand 3, at this turn of whatever run the strip has come from.
 pub fn update(strip: &[u8], held: Strip, msg: &[u8], out: &mut [u8]) -> Updated
-    ensures { λ a. ⌜ Updates (board (now (strip .entry)) held) (offer (now (msg .entry)) (now (out .entry))) a (now (out .exit)) ⌝ }
-    ensures { λ a. ⌜ Turns (board (now (strip .entry)) held) (offer (now (msg .entry)) (now (out .entry))) a (now (out .exit)) ⌝ }
+    ensures { λ a. ⌜ Updates (standing (now (strip .entry)) held) (offer (now (msg .entry)) (now (out .entry))) a (now (out .exit)) ⌝ }
+    ensures { λ a. ⌜ Turns (standing (now (strip .entry)) held) (offer (now (msg .entry)) (now (out .entry))) a (now (out .exit)) ⌝ }
 {
     strip::update(strip, held, msg, out)
 }

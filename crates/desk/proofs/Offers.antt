@@ -21,12 +21,12 @@ use Rattle.state.specs.State.{justFiled}
 use Rattle.strip.specs.declared.Updated.{Updated}
 use Rattle.strip.specs.declared.Updated.the-variants.{Accepted, Refused}
 use Rattle.strip.specs.Updating.{updateOf, outAfter as newAfter}
-use Rattle.history.specs.Demand3.{Board, putAs, updater, offered, offeredAll}
+use Rattle.history.specs.Demand3.{Standing, putAs, updater, offered, offeredAll}
 use Rattle.message.proofs.Plans.{plan-type}
 use Rattle.history.proofs.Causes.{accepted-fits}
 use Rattle.desk.specs.declared.Held.{Held}
 use Rattle.desk.specs.declared.Held.the-variants.{Nothing, Flight}
-use Rattle.desk.specs.Desk.{boardIn, InRoom, filingAs, filedBy, lent, offerOf, boardAfter, afterAll, heldAfter, Offering}
+use Rattle.desk.specs.Desk.{standingIn, InRoom, filingAs, filedBy, lent, offerOf, standingAfter, afterAll, heldAfter, Offering}
 
 -- FILING: `a` is what reading the piece gave, `after` what it left in the buffer
 
@@ -36,7 +36,7 @@ module _ (buffer m after : List ℕ) (wide : length buffer ≡ 1800) where
       → Offering Nothing buffer m (Refused number field place) after
   not-filed a number field place e f =
       let told : filingAs (answerOf m 1800) ≡ Refused number field place = ap filingAs (rw wide at e) ∙ f in
-      record { answer-is = sym told; board-is = sym (ap (λ (u : Updated). filedBy u m) told); in-room = tt }
+      record { answer-is = sym told; standing-is = sym (ap (λ (u : Updated). filedBy u m) told); in-room = tt }
 
   module _ (t : MessageType) (n : ℕ) (e : answerOf m (length buffer) ≡ ReadAs t n) where
     pub other-type : isPlan t ≡ false → Offering Nothing buffer m (Refused 14 0 0) after
@@ -55,7 +55,7 @@ module _ (buffer m after : List ℕ) (wide : length buffer ≡ 1800) where
         let told : filingAs (answerOf m 1800) ≡ Accepted justFiled n = ap filingAs (rw wide at e) ∙ rw p in
         record {
           answer-is = sym told;
-          board-is =
+          standing-is =
               ap (λ (s : List ℕ). some (record { strip = s; held = justFiled })) (filed-strip p w) ∙ sym (ap (λ (u : Updated). filedBy u m) told);
           in-room = omega (arith, k .long, k .fits);
         }
@@ -63,14 +63,14 @@ module _ (buffer m after : List ℕ) (wide : length buffer ≡ 1800) where
 -- OFFERING
 
 module _ (held : Strip) (n : ℕ) (buffer m after : List ℕ) where
-  abbrev board : Board
-  board = record { strip = take n buffer; held = held }
+  abbrev standing : Standing
+  standing = record { strip = take n buffer; held = held }
 
-  -- the board after an update's answer
+  -- the standing after an update's answer
   answered : (u : Updated) → updateOf (take n buffer) held m 1800 ≡ u
-      → some (putAs (updateOf (take n buffer) held m 1800) (newAfter (take n buffer) held m lent) board)
-      ≡ some (putAs u (newAfter (take n buffer) held m lent) board)
-  answered u e = ap (λ (v : Updated). some (putAs v (newAfter (take n buffer) held m lent) board)) e
+      → some (putAs (updateOf (take n buffer) held m 1800) (newAfter (take n buffer) held m lent) standing)
+      ≡ some (putAs u (newAfter (take n buffer) held m lent) standing)
+  answered u e = ap (λ (v : Updated). some (putAs v (newAfter (take n buffer) held m lent) standing)) e
 
   -- a refusal leaves the strip
   pub refused : (number field place : ℕ) → n ≤ 1800 → updateOf (take n buffer) held m 1800 ≡ Refused number field place → after ≡ buffer
@@ -78,7 +78,7 @@ module _ (held : Strip) (n : ℕ) (buffer m after : List ℕ) where
   refused number field place h e w =
       record {
         answer-is = sym e;
-        board-is = ap (λ (s : List ℕ). some (record { strip = take n s; held = held })) w ∙ sym (answered (Refused number field place) e);
+        standing-is = ap (λ (s : List ℕ). some (record { strip = take n s; held = held })) w ∙ sym (answered (Refused number field place) e);
         in-room = h;
       }
 
@@ -91,7 +91,7 @@ module _ (held : Strip) (n : ℕ) (buffer m after : List ℕ) where
       let h : k ≤ 1800 = accepted-fits (take n buffer) held m 1800 next k e in
       record {
         answer-is = sym e;
-        board-is =
+        standing-is =
             ap (λ (s : List ℕ). some (record { strip = take k s; held = next })) w
             ∙ ap (λ (s : List ℕ). some (record { strip = s; held = next })) (take-at (take k new) _ k (length-take-le k new (omega arith)))
             ∙ ap (λ (s : List ℕ). some (record { strip = take k s; held = next })) q
@@ -101,20 +101,20 @@ module _ (held : Strip) (n : ℕ) (buffer m after : List ℕ) where
 
 -- TAKING A PIECE: what the desk then holds, by the case of the answer
 pub then-holds : (before : Held) (buffer m after : List ℕ) (r u : Updated) → Offering before buffer m r after → r ≡ u
-    → (boardIn (heldAfter u before) after ≡ boardAfter (boardIn before buffer) m) × InRoom (heldAfter u before)
-then-holds before buffer m after r u o e = (rw e at (o .board-is), rw e at (o .in-room))
+    → (standingIn (heldAfter u before) after ≡ standingAfter (standingIn before buffer) m) × InRoom (heldAfter u before)
+then-holds before buffer m after r u o e = (rw e at (o .standing-is), rw e at (o .in-room))
 
 -- A TURN OF THE RUN: a piece is taken, and the pieces ahead are those behind it
-pub one-more : (s : List ℕ) (at e next : ℕ) (b after all : Option Board) → at < length s → whiteAhead (drop at s) ≡ 0 → e ≡ pieceEnd s at
-    → next ≡ e + whiteAhead (drop e s) → after ≡ boardAfter b (take (e - at) (drop at s)) → afterAll b (piecesOf (drop at s)) ≡ all
+pub one-more : (s : List ℕ) (at e next : ℕ) (b after all : Option Standing) → at < length s → whiteAhead (drop at s) ≡ 0 → e ≡ pieceEnd s at
+    → next ≡ e + whiteAhead (drop e s) → after ≡ standingAfter b (take (e - at) (drop at s)) → afterAll b (piecesOf (drop at s)) ≡ all
     → afterAll after (piecesOf (drop next s)) ≡ all
 one-more s at e next b after all h z p q r i =
-    ap (λ (x : Option Board). afterAll x (piecesOf (drop next s))) r
-    ∙ ap (λ (ms : List Word). afterAll (boardAfter b (take (e - at) (drop at s))) ms) (to-front s e next q .same-pieces)
+    ap (λ (x : Option Standing). afterAll x (piecesOf (drop next s))) r
+    ∙ ap (λ (ms : List Word). afterAll (standingAfter b (take (e - at) (drop at s))) ms) (to-front s e next q .same-pieces)
     ∙ sym (ap (λ (ms : List Word). afterAll b ms) (next-piece s at e h z p))
     ∙ i
 
 -- DEMAND 3: once a plan is filed, the desk goes by the run of offers that the demand speaks of
-pub as-offered : (b : Board) (ms : List Word) → afterAll (some b) ms ≡ some (offeredAll updater b (map offerOf ms))
+pub as-offered : (b : Standing) (ms : List Word) → afterAll (some b) ms ≡ some (offeredAll updater b (map offerOf ms))
 as-offered b [] = refl
 as-offered b (m ∷ ms) = as-offered (offered updater b (offerOf m)) ms

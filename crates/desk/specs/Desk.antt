@@ -17,16 +17,16 @@ use Rattle.state.specs.State.{justFiled}
 use Rattle.strip.specs.declared.Updated.{Updated}
 use Rattle.strip.specs.declared.Updated.the-variants.{Accepted, Refused}
 use Rattle.strip.specs.Updating.{updateOf}
-use Rattle.history.specs.Demand3.{Board, Offer, updater, offered, filedAs}
+use Rattle.history.specs.Demand3.{Standing, Offer, updater, offered, filedAs}
 use Rattle.desk.specs.declared.Held.{Held}
 use Rattle.desk.specs.declared.Held.the-variants.{Nothing, Flight}
 
 -- THE BOARD: nothing, or a strip with its record
 
 -- as the program keeps it: the strip in the first bytes of a buffer
-abbrev pub boardIn : Held → List ℕ → Option Board
-boardIn Nothing buffer = none
-boardIn (Flight held n) buffer = some (record { strip = take n buffer; held = held })
+abbrev pub standingIn : Held → List ℕ → Option Standing
+standingIn Nothing buffer = none
+standingIn (Flight held n) buffer = some (record { strip = take n buffer; held = held })
 
 abbrev pub InRoom : Held → Type 0
 InRoom Nothing = Unit
@@ -38,7 +38,7 @@ abbrev pub filingAs : Answer → Updated
 filingAs (ReadAs t n) = cond (isPlan t) (Accepted justFiled n) (Refused 14 0 0)
 filingAs (NotRead number field place) = Refused number field place
 
-abbrev pub answerTo : Option Board → List ℕ → Updated
+abbrev pub answerTo : Option Standing → List ℕ → Updated
 answerTo none m = filingAs (answerOf m most)
 answerTo (some b) m = updateOf (b .strip) (b .held) m most
 
@@ -51,18 +51,18 @@ lent = replicate most 0
 abbrev pub offerOf : List ℕ → Offer
 offerOf m = record { bytes = m; lent = lent }
 
-abbrev pub filedBy : Updated → List ℕ → Option Board
+abbrev pub filedBy : Updated → List ℕ → Option Standing
 filedBy (Accepted held n) m = some (filedAs m)
 filedBy (Refused number field place) m = none
 
-abbrev pub boardAfter : Option Board → List ℕ → Option Board
-boardAfter none m = filedBy (answerTo none m) m
-boardAfter (some b) m = some (offered updater b (offerOf m))
+abbrev pub standingAfter : Option Standing → List ℕ → Option Standing
+standingAfter none m = filedBy (answerTo none m) m
+standingAfter (some b) m = some (offered updater b (offerOf m))
 
 -- after each of a list of pieces
-abbrev pub afterAll : Option Board → List Word → Option Board
+abbrev pub afterAll : Option Standing → List Word → Option Standing
 afterAll b [] = b
-afterAll b (m ∷ ms) = afterAll (boardAfter b m) ms
+afterAll b (m ∷ ms) = afterAll (standingAfter b m) ms
 
 abbrev pub heldAfter : Updated → Held → Held
 heldAfter (Accepted held n) before = Flight held n
@@ -70,13 +70,13 @@ heldAfter (Refused number field place) before = before
 
 -- what an offer must do: the answer, and what the desk then holds, from what it held and the piece
 pub record Offering (before : Held) (buffer piece : List ℕ) (answer : Updated) (buffer′ : List ℕ) : Type 0 where
-  pub answer-is : answer ≡ answerTo (boardIn before buffer) piece
-  pub board-is : boardIn (heldAfter answer before) buffer′ ≡ boardAfter (boardIn before buffer) piece
+  pub answer-is : answer ≡ answerTo (standingIn before buffer) piece
+  pub standing-is : standingIn (heldAfter answer before) buffer′ ≡ standingAfter (standingIn before buffer) piece
   pub in-room : InRoom (heldAfter answer before)
 
 -- EXAMPLES, computed
 
-in-front : boardIn (Flight (record { state = Cancelled }) 5) (bytes "(FPL)-0)") ≡ some (record { strip = bytes "(FPL)"; held = record { state = Cancelled } })
+in-front : standingIn (Flight (record { state = Cancelled }) 5) (bytes "(FPL)-0)") ≡ some (record { strip = bytes "(FPL)"; held = record { state = Cancelled } })
 in-front = refl
 
 -- before there is a strip, only an FPL is fit

@@ -6,7 +6,7 @@ ghost use Prim.Native.Nat.{_≤_};
 ghost use mathlib.Core.Option.{none};
 ghost use lib.ListN.{length};
 ghost use Rattle.pieces.specs.Pieces.{piecesOf};
-ghost use Rattle.desk.specs.Desk.{boardIn, boardAfter, afterAll, InRoom, Offering};
+ghost use Rattle.desk.specs.Desk.{standingIn, standingAfter, afterAll, InRoom, Offering};
 use libc::STDIN_FILENO;
 use libc::STDOUT_FILENO;
 use message::Answer;
@@ -93,7 +93,7 @@ fn answer(desk: Held, piece: &[u8], strip: &mut [u8]) -> Updated
 // Takes a piece: prints its line and hands back what the desk then holds.
 fn take(desk: Held, piece: &[u8], strip: &mut [u8]) -> Held
     requires { ⌜ (length (now strip) ≡ most) × InRoom desk ⌝ }
-    ensures { λ r. ⌜ (boardIn r (now (strip .exit)) ≡ boardAfter (boardIn desk (now (strip .entry))) (now (piece .entry))) × InRoom r ⌝ }
+    ensures { λ r. ⌜ (standingIn r (now (strip .exit)) ≡ standingAfter (standingIn desk (now (strip .entry))) (now (piece .entry))) × InRoom r ⌝ }
 {
     match answer(desk, piece, strip) {
         Updated::Accepted(held, n) => {
@@ -114,7 +114,7 @@ fn take(desk: Held, piece: &[u8], strip: &mut [u8]) -> Held
 // Takes each piece of an input in its turn.
 fn run(s: &[u8], strip: &mut [u8]) -> Held
     requires { ⌜ length (now strip) ≡ most ⌝ }
-    ensures { λ r. ⌜ boardIn r (now (strip .exit)) ≡ afterAll none (piecesOf (now (s .entry))) ⌝ }
+    ensures { λ r. ⌜ standingIn r (now (strip .exit)) ≡ afterAll none (piecesOf (now (s .entry))) ⌝ }
 {
     let mut desk = Held::Nothing;
     let mut at = pieces::skip_white(s, 0);

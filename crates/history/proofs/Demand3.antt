@@ -30,7 +30,7 @@ use Rattle.strip.specs.declared.Updated.the-variants.{Accepted, Refused}
 use Rattle.amending.specs.Amended.{newStrip}
 use Rattle.strip.specs.Updating.{typeRead, stripAfter, writtenAs, updateOf, outAfter}
 use Rattle.history.specs.History.{Part, Plan, planIn, nine, spelled, Told, given, withTold, departs, becomes, Left, planBy, departureBy, stateBy}
-use Rattle.history.specs.Demand3.{updater, Board, Offer, told, putAs, enteredAs, answered, offered, offeredAll, logAll}
+use Rattle.history.specs.Demand3.{updater, Standing, Offer, told, putAs, enteredAs, answered, offered, offeredAll, logAll}
 use Rattle.history.specs.Demand3.{Proper, allowed, planOn, amendedOn, Cause, Demand3, filedAs, Meets}
 use Rattle.history.specs.Demand3.Cause.{not-proper, not-read, not-fit, no-type, another-flight, not-allowed, unexplained, too-long, no-room}
 use Rattle.history.proofs.Strip.{plain-spelling, strip-contents, strip-proper, fpl-fits, proper-stripped}
@@ -105,13 +105,13 @@ module _ (strip : List ℕ) (s : Strip) (m : List ℕ) (room : ℕ) (held : Stri
 
 -- WHAT STANDS BY A LOG
 
-pub record Stands (filed : Plan) (b : Board) (log : List Told) : Type 0 where
+pub record Stands (filed : Plan) (b : Standing) (log : List Told) : Type 0 where
   pub proper : Proper (b .strip) (b .held)
   pub plan-is : (f : Part) → planOn (b .strip) f ≡ planBy filed log f
   pub state-is : b .held .state ≡ stateBy log
 
 -- the strip is the spelling of the history's plan
-pub stands-spelled : (filed : Plan) (b : Board) (log : List Told) → Stands filed b log → b .strip ≡ spelled (planBy filed log)
+pub stands-spelled : (filed : Plan) (b : Standing) (log : List Told) → Stands filed b log → b .strip ≡ spelled (planBy filed log)
 stands-spelled filed b log k =
     let p = proper-stripped (b .strip) (b .held) (k .proper) in
     p .spelt
@@ -120,7 +120,7 @@ stands-spelled filed b log k =
 
 module _ (filed : Plan) where
   -- one accepted message more
-  took-stands : (b : Board) (log : List Told) (m : List ℕ) (room : ℕ) (held : Strip) (n : ℕ) (w : List ℕ) → Stands filed b log
+  took-stands : (b : Standing) (log : List Told) (m : List ℕ) (room : ℕ) (held : Strip) (n : ℕ) (w : List ℕ) → Stands filed b log
       → (k : Took (b .strip) (b .held) m room held n) → w ≡ spelled (amendedOn (b .strip) m)
       → Stands filed (record { strip = w; held = held }) (told m ∷ log)
   took-stands b log m room held n w h k e =
@@ -138,7 +138,7 @@ module _ (filed : Plan) where
       }
 
   -- one offer more
-  stepped : (b : Board) (log : List Told) (o : Offer) → Stands filed b log → (u : Updated) → updateOf (b .strip) (b .held) (o .bytes) (length (o .lent)) ≡ u
+  stepped : (b : Standing) (log : List Told) (o : Offer) → Stands filed b log → (u : Updated) → updateOf (b .strip) (b .held) (o .bytes) (length (o .lent)) ≡ u
       → Stands filed (putAs u (outAfter (b .strip) (b .held) (o .bytes) (o .lent)) b) (enteredAs u (o .bytes) log)
   stepped b log o h (Accepted held n) e =
       let room = length (o .lent) in
@@ -149,7 +149,7 @@ module _ (filed : Plan) where
   stepped b log o h (Refused number field place) e = h
 
   -- after any run the strip is the history's
-  pub kept-on : (run : List Offer) (b : Board) (log : List Told) → Stands filed b log → Stands filed (offeredAll updater b run) (logAll updater b log run)
+  pub kept-on : (run : List Offer) (b : Standing) (log : List Told) → Stands filed b log → Stands filed (offeredAll updater b run) (logAll updater b log run)
   kept-on [] b log h = h
   kept-on (o ∷ os) b log h =
       kept-on os (offered updater b o) (enteredAs (answered updater b o) (o .bytes) log) (stepped b log o h (answered updater b o) refl)
@@ -178,7 +178,7 @@ unfolding outAfter
 refused-stays strip s m out number field place e = ap (λ (u : Updated). writtenAs u strip m out) e
 
 -- the length that is answered is that of the strip which is put down
-pub stepped-length : (b : Board) (o : Offer) (held : Strip) (n : ℕ) → answered updater b o ≡ Accepted held n → n ≡ length (offered updater b o .strip)
+pub stepped-length : (b : Standing) (o : Offer) (held : Strip) (n : ℕ) → answered updater b o ≡ Accepted held n → n ≡ length (offered updater b o .strip)
 stepped-length b o held n q =
     let room = length (o .lent) in
     let k : Took (b .strip) (b .held) (o .bytes) room held n

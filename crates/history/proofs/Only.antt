@@ -18,7 +18,7 @@ use Rattle.strip.specs.declared.Updated.{Updated}
 use Rattle.strip.specs.declared.Updated.the-variants.{Accepted, Refused}
 use Rattle.strip.specs.Updating.{updateOf}
 use Rattle.history.specs.History.{planIn, spelled, Told, departs, becomes, latest, planBy, heldBy}
-use Rattle.history.specs.Demand3.{Updater, updater, Board, Offer, told, enteredAs, answered, offered, offeredAll, logAll, Cause, filedAs, Meets}
+use Rattle.history.specs.Demand3.{Updater, updater, Standing, Offer, told, enteredAs, answered, offered, offeredAll, logAll, Cause, filedAs, Meets}
 use Rattle.history.proofs.Causes.{refused-cause}
 use Rattle.history.proofs.Latest.{left-latest}
 use Rattle.history.proofs.Demand3.{demand3}
@@ -26,11 +26,11 @@ use Rattle.history.proofs.Refuted.{accepts, meets-strip, meets-refused}
 
 -- A RUN AND ONE OFFER MORE
 
-pub board-last : (U : Updater) (run : List Offer) (b : Board) (o : Offer) → offeredAll U b (run ++ (o ∷ [])) ≡ offered U (offeredAll U b run) o
-board-last U [] b o = refl
-board-last U (x ∷ run) b o = board-last U run (offered U b x) o
+pub standing-last : (U : Updater) (run : List Offer) (b : Standing) (o : Offer) → offeredAll U b (run ++ (o ∷ [])) ≡ offered U (offeredAll U b run) o
+standing-last U [] b o = refl
+standing-last U (x ∷ run) b o = standing-last U run (offered U b x) o
 
-pub log-last : (U : Updater) (run : List Offer) (b : Board) (log : List Told) (o : Offer)
+pub log-last : (U : Updater) (run : List Offer) (b : Standing) (log : List Told) (o : Offer)
     → logAll U b log (run ++ (o ∷ [])) ≡ enteredAs (answered U (offeredAll U b run) o) (o .bytes) (logAll U b log run)
 log-last U [] b log o = refl
 log-last U (x ∷ run) b log o = log-last U run (offered U b x) (enteredAs (answered U b x) (x .bytes) log) o
@@ -63,10 +63,10 @@ module _ (m : List ℕ) (room n : ℕ) (e : answerOf m room ≡ ReadAs Fpl n) wh
     same-held run q = meets-held U h run ∙ ap heldBy q ∙ sym (meets-held updater demand3 run)
 
     module _ (run : List Offer) (o : Offer) (q : SameLog run) where
-      abbrev theirs : Board
+      abbrev theirs : Standing
       theirs = offeredAll U (filedAs m) run
 
-      abbrev ours : Board
+      abbrev ours : Standing
       ours = offeredAll updater (filedAs m) run
 
       same-update : updateOf (theirs .strip) (theirs .held) (o .bytes) (length (o .lent)) ≡ updateOf (ours .strip) (ours .held) (o .bytes) (length (o .lent))

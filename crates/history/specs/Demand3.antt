@@ -40,7 +40,7 @@ updater = record { answer = λ strip held m out. updateOf strip held m (length o
 
 -- A STRIP AND ITS RECORD, and an offer: the message's bytes, and the output lent for the new strip
 
-pub record Board : Type 0 where
+pub record Standing : Type 0 where
   pub strip : List ℕ
   pub held : Strip
 
@@ -56,7 +56,7 @@ toldAs (NotRead number field place) m = record { type = Fpl; fields = [] }
 abbrev pub told : List ℕ → Told
 told m = toldAs (answerOf m most) m
 
-abbrev pub putAs : Updated → List ℕ → Board → Board
+abbrev pub putAs : Updated → List ℕ → Standing → Standing
 putAs (Accepted held n) out b = record { strip = take n out; held = held }
 putAs (Refused number field place) out b = b
 
@@ -65,22 +65,22 @@ enteredAs (Accepted held n) m log = told m ∷ log
 enteredAs (Refused number field place) m log = log
 
 module _ (U : Updater) where
-  abbrev pub answered : Board → Offer → Updated
+  abbrev pub answered : Standing → Offer → Updated
   answered b o = U .answer (b .strip) (b .held) (o .bytes) (o .lent)
 
-  abbrev pub left : Board → Offer → List ℕ
+  abbrev pub left : Standing → Offer → List ℕ
   left b o = U .output (b .strip) (b .held) (o .bytes) (o .lent)
 
   -- the strip after an offer: an accepted one's is what was written, as many bytes as the answer says
-  abbrev pub offered : Board → Offer → Board
+  abbrev pub offered : Standing → Offer → Standing
   offered b o = putAs (answered b o) (left b o) b
 
   -- after a run of offers, in the order of their coming; and the accepted messages, latest first, on top of a log
-  abbrev pub offeredAll : Board → List Offer → Board
+  abbrev pub offeredAll : Standing → List Offer → Standing
   offeredAll b [] = b
   offeredAll b (o ∷ os) = offeredAll (offered b o) os
 
-  abbrev pub logAll : Board → List Told → List Offer → List Told
+  abbrev pub logAll : Standing → List Told → List Offer → List Told
   logAll b log [] = log
   logAll b log (o ∷ os) = logAll (offered b o) (enteredAs (answered b o) (o .bytes) log) os
 
@@ -179,7 +179,7 @@ pub data Cause (strip : List ℕ) (held : Strip) (m : List ℕ) (room : ℕ) : �
 
 -- THE DEMAND: an FPL was filed with these contents, and its strip was offered a run of messages
 
-pub record Demand3 (U : Updater) (filed : List Word) (start : Board) (run : List Offer) : Type 0 where
+pub record Demand3 (U : Updater) (filed : List Word) (start : Standing) (run : List Offer) : Type 0 where
   pub plan : Plan
   pub departure : Departure
   pub held : Strip
@@ -206,7 +206,7 @@ pub record Demand3 (U : Updater) (filed : List Word) (start : Board) (run : List
       → drop n (left U (offeredAll U start run) o) ≡ drop n (o .lent)
 
 -- an accepted FPL as a strip
-abbrev pub filedAs : List ℕ → Board
+abbrev pub filedAs : List ℕ → Standing
 filedAs m = record { strip = spellingOf Fpl m; held = justFiled }
 
 abbrev pub Meets : Updater → Type 0

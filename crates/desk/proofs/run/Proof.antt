@@ -6,7 +6,7 @@ use native.Mathlib.Omega.{arith}
 use mathlib.Core.Option.{none}
 use lib.ListN.{length, drop}
 use Rattle.pieces.specs.Pieces.{whiteAhead, piecesOf}
-use Rattle.desk.specs.Desk.{boardIn, InRoom, afterAll}
+use Rattle.desk.specs.Desk.{standingIn, InRoom, afterAll}
 use Rattle.pieces.proofs.Walk.{to-front, no-piece}
 use Rattle.desk.proofs.Offers.{one-more}
 use Rattle.desk.proofs.run.Statement.{statement}
@@ -15,7 +15,7 @@ use Rattle.desk.proofs.run.Tie as tie
 abbrev Inv-loop : tie.InvT-loop
 Inv-loop s strip₀ desk₀ at₀ strip desk at =
     (length strip ≡ 1800) × InRoom desk × (whiteAhead (drop at s) ≡ 0)
-    × (afterAll (boardIn desk strip) (piecesOf (drop at s)) ≡ afterAll none (piecesOf s))
+    × (afterAll (standingIn desk strip) (piecesOf (drop at s)) ≡ afterAll none (piecesOf s))
 
 abbrev μ-loop : tie.MeasureT-loop
 μ-loop s strip₀ desk₀ at₀ strip desk at = length s - at
@@ -61,7 +61,7 @@ loop-again c =
       omega (arith, l .inv .0, t .take .kept .1 .1 .0),
       t .take .ensures .1,
       to-front s _ _ w .none-ahead,
-      one-more s (l .at) _ _ (boardIn (l .desk) (l .strip)) _ _ (e .before .loop-test .taken) (l .inv .2) (e .piece-end .ensures) w (t .take .ensures .0)
+      one-more s (l .at) _ _ (standingIn (l .desk) (l .strip)) _ _ (e .before .loop-test .taken) (l .inv .2) (e .piece-end .ensures) w (t .take .ensures .0)
           (l .inv .3),
     )
 
@@ -73,7 +73,7 @@ returns c =
     let looped = c .before in
     let s = looped .before .before .before .before .args .s .now in
     let l = looped .loop in
-    sym (ap (afterAll (boardIn (l .desk) (l .strip))) (no-piece s (l .at) (c .loop-test .left))) ∙ l .inv .3
+    sym (ap (afterAll (standingIn (l .desk) (l .strip))) (no-piece s (l .at) (c .loop-test .left))) ∙ l .inv .3
 
 pub run-spec : {M : Type 1} → statement M
 run-spec =
