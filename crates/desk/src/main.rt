@@ -7,8 +7,6 @@ ghost use mathlib.Core.Option.{none};
 ghost use lib.ListN.{length};
 ghost use Rattle.pieces.specs.Pieces.{piecesOf};
 ghost use Rattle.desk.specs.Desk.{standingIn, standingAfter, afterAll, InRoom, Offering};
-use libc::STDIN_FILENO;
-use libc::STDOUT_FILENO;
 use message::Answer;
 use state::State;
 use state::Strip;
@@ -129,9 +127,9 @@ fn run(s: &[u8], strip: &mut [u8]) -> Held
 // One byte more than may be read shows that there is too much, before anything is printed.
 fn main() {
     let mut buffer = [0u8; 65537];
-    let n = io::read_full(STDIN_FILENO, &mut buffer);
+    let n = say::input(&mut buffer);
     if MOST < n {
-        io::write_all(STDOUT_FILENO, b"TOO LONG\n");
+        say::print(b"TOO LONG\n");
         return;
     }
     let mut strip = [0u8; outer::MOST_BYTES];

@@ -1,6 +1,4 @@
 // Lists messages: each piece of standard input on one line, as `OK`, type and spelling, or as `NO`, number, field and place.
-use libc::STDIN_FILENO;
-use libc::STDOUT_FILENO;
 use message::Answer;
 
 // The most bytes that are read.
@@ -31,9 +29,9 @@ fn each_piece(s: &[u8]) {
 // One byte more than may be read shows that there is too much, before anything is printed.
 fn main() {
     let mut buffer = [0u8; 65537];
-    let n = io::read_full(STDIN_FILENO, &mut buffer);
+    let n = say::input(&mut buffer);
     if MOST < n {
-        io::write_all(STDOUT_FILENO, b"TOO LONG\n");
+        say::print(b"TOO LONG\n");
         return;
     }
     each_piece(&buffer[..n]);

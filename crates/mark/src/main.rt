@@ -8,8 +8,6 @@ ghost use Prim.Native.Nat.{_+_, _≤_};
 ghost use lib.ListN.{length};
 ghost use Rattle.text.specs.Lent.{front};
 ghost use Rattle.mark.specs.Mark.{endsLine, lineStart, lineEnd, shownAs, shownAll, blanks, shownLine, markLine, drawnAt, drawn};
-use libc::STDIN_FILENO;
-use libc::STDOUT_FILENO;
 use message::Answer;
 
 // The most bytes that are read.
@@ -145,7 +143,7 @@ fn point(piece: &[u8], place: usize)
 {
     let mut out = [0u8; 131075];
     let n = draw(piece, place, &mut out);
-    io::write_all(STDOUT_FILENO, &out[..n]);
+    say::print(&out[..n]);
 }
 
 // The line for a piece, and the mark if it is refused.
@@ -180,9 +178,9 @@ fn each_piece(s: &[u8])
 // One byte more than may be read shows that there is too much, before anything is printed.
 fn main() {
     let mut buffer = [0u8; 65537];
-    let n = io::read_full(STDIN_FILENO, &mut buffer);
+    let n = say::input(&mut buffer);
     if MOST < n {
-        io::write_all(STDOUT_FILENO, b"TOO LONG\n");
+        say::print(b"TOO LONG\n");
         return;
     }
     each_piece(&buffer[..n]);

@@ -1,14 +1,57 @@
-// The lines that the programs print. No contract can say what is printed; what a line says of a time is spelled by a function with one.
+// What the programs read and print. No contract can say what is read or printed; what a line says of a time is spelled by a function with one.
+// A program cannot end with a status: what could not be read or written it says on standard error, and ./run ends with status 1 then.
 ghost use mathlib.Core.Path.{_≡_};
 ghost use Prim.Native.Nat.{_+_, _<_};
+ghost use Rattle.io.specs.Counts.{Counts};
 ghost use Rattle.shape.specs.Time.{spellClock};
 use aerodromes::Aerodrome;
 use kinds::MessageType;
+use libc::STDERR_FILENO;
+use libc::STDIN_FILENO;
 use libc::STDOUT_FILENO;
 use shape::Clock;
 use state::Departure;
 use state::State;
 use state::Strip;
+
+// Says what went wrong first, and no more: standard error is then closed.
+fn complain(what: &[u8]) {
+    io::write_all(STDERR_FILENO, what);
+    libc::close(STDERR_FILENO);
+}
+
+// Complains unless standard input has ended.
+fn expect_end() {
+    let mut further = [0u8; 1];
+    if libc::read(STDIN_FILENO, &mut further) != 0 {
+        complain(b"beechdoublet: standard input cannot be read\n");
+    }
+}
+
+// Reads standard input up to its end, or as much as `buf` holds, and gives the count. A read that fails looks like the end; one further tells them apart.
+pub fn input(buf: &mut [u8]) -> usize
+    ensures { λ r. ⌜ Counts r (now (buf .exit)) ⌝ }
+{
+    let n = io::read_full(STDIN_FILENO, buf);
+    if n < buf.len() {
+        expect_end();
+    }
+    n
+}
+
+// Writes to standard output.
+pub fn print(bytes: &[u8]) {
+    if !io::write_all(STDOUT_FILENO, bytes) {
+        complain(b"beechdoublet: standard output cannot be written\n");
+    }
+}
+
+// Writes a number, as decimal digits.
+pub fn decimal(n: u64) {
+    let mut digits = [0u8; 20];
+    let k = io::decimal(n, &mut digits);
+    print(&digits[..k]);
+}
 
 // One digit; from ten on the byte that lies so far behind `0`.
 fn digit(n: u16) -> u8
@@ -33,64 +76,57 @@ pub fn four_digits(t: Clock) -> [u8; 4]
 }
 
 fn time(t: Clock) {
-    io::write_all(STDOUT_FILENO, &four_digits(t));
+    print(&four_digits(t));
 }
 
 fn departure(d: Departure) {
     match d {
         Departure::Known(t) => time(t),
-        Departure::Unknown => {
-            io::write_all(STDOUT_FILENO, b"----");
-        }
+        Departure::Unknown => print(b"----"),
     }
 }
 
 fn arrival(d: Departure, a: Aerodrome, t: Clock) {
-    io::write_all(STDOUT_FILENO, b"OK ARRIVED ");
+    print(b"OK ARRIVED ");
     departure(d);
-    io::write_all(STDOUT_FILENO, b" ");
-    io::write_all(STDOUT_FILENO, &[a.0, a.1, a.2, a.3]);
-    io::write_all(STDOUT_FILENO, b" ");
+    print(b" ");
+    print(&[a.0, a.1, a.2, a.3]);
+    print(b" ");
     time(t);
 }
 
 fn state_of(held: Strip) {
     let s = held.state;
     match s {
-        State::Filed => {
-            io::write_all(STDOUT_FILENO, b"OK FILED");
-        }
+        State::Filed => print(b"OK FILED"),
         State::Departed(t) => {
-            io::write_all(STDOUT_FILENO, b"OK DEPARTED ");
+            print(b"OK DEPARTED ");
             time(t);
         }
         State::Arrived(d, a, t) => arrival(d, a, t),
-        State::Cancelled => {
-            io::write_all(STDOUT_FILENO, b"OK CANCELLED");
-        }
+        State::Cancelled => print(b"OK CANCELLED"),
     }
 }
 
 fn type_of(t: MessageType) {
     match t {
-        MessageType::Fpl => io::write_all(STDOUT_FILENO, b"OK FPL"),
-        MessageType::Chg => io::write_all(STDOUT_FILENO, b"OK CHG"),
-        MessageType::Cnl => io::write_all(STDOUT_FILENO, b"OK CNL"),
-        MessageType::Dla => io::write_all(STDOUT_FILENO, b"OK DLA"),
-        MessageType::Dep => io::write_all(STDOUT_FILENO, b"OK DEP"),
-        MessageType::Arr => io::write_all(STDOUT_FILENO, b"OK ARR"),
-        MessageType::Rqp => io::write_all(STDOUT_FILENO, b"OK RQP"),
-        MessageType::Rqs => io::write_all(STDOUT_FILENO, b"OK RQS"),
-        MessageType::Spl => io::write_all(STDOUT_FILENO, b"OK SPL"),
+        MessageType::Fpl => print(b"OK FPL"),
+        MessageType::Chg => print(b"OK CHG"),
+        MessageType::Cnl => print(b"OK CNL"),
+        MessageType::Dla => print(b"OK DLA"),
+        MessageType::Dep => print(b"OK DEP"),
+        MessageType::Arr => print(b"OK ARR"),
+        MessageType::Rqp => print(b"OK RQP"),
+        MessageType::Rqs => print(b"OK RQS"),
+        MessageType::Spl => print(b"OK SPL"),
     }
-    ;
 }
 
 // The end of a line: a space and the spelling.
 fn spelled(spelling: &[u8]) {
-    io::write_all(STDOUT_FILENO, b" ");
-    io::write_all(STDOUT_FILENO, spelling);
-    io::write_all(STDOUT_FILENO, b"\n");
+    print(b" ");
+    print(spelling);
+    print(b"\n");
 }
 
 // An accepted message: `OK`, its type, its spelling.
@@ -108,11 +144,11 @@ pub fn strip(held: Strip, spelling: &[u8]) {
 
 // A refusal: `NO`, number, field, place.
 pub fn refusal(number: u8, field: u8, place: usize) {
-    io::write_all(STDOUT_FILENO, b"NO ");
-    io::print_decimal(STDOUT_FILENO, number as u64);
-    io::write_all(STDOUT_FILENO, b" ");
-    io::print_decimal(STDOUT_FILENO, field as u64);
-    io::write_all(STDOUT_FILENO, b" ");
-    io::print_decimal(STDOUT_FILENO, place as u64);
-    io::write_all(STDOUT_FILENO, b"\n");
+    print(b"NO ");
+    decimal(number as u64);
+    print(b" ");
+    decimal(field as u64);
+    print(b" ");
+    decimal(place as u64);
+    print(b"\n");
 }

@@ -9,9 +9,8 @@ ghost use Rattle.vectors.specs.Coded.{Within};
 use aerodromes::Aerodrome;
 use asked::Asked;
 use kinds::Form;
-use libc::STDIN_FILENO;
-use libc::STDOUT_FILENO;
 use message::Answer;
+use say::print;
 use shape::Clock;
 use state::Departure;
 use state::State;
@@ -270,10 +269,6 @@ struct Run {
     held: Strip,
 }
 
-fn print(answer: &[u8]) {
-    io::write_all(STDOUT_FILENO, answer);
-}
-
 fn say_bad() {
     print(b"BAD LINE\n");
 }
@@ -327,9 +322,9 @@ fn say_part(place: &[u8], s: &[u8], from: usize, to: usize)
     requires { ⌜ (from ≤ to) × (to ≤ length (now s)) ⌝ }
 {
     print(place);
-    io::print_decimal(STDOUT_FILENO, from as u64);
+    say::decimal(from as u64);
     print(b" ");
-    io::print_decimal(STDOUT_FILENO, to as u64);
+    say::decimal(to as u64);
     print(b" ");
     print(&s[from..to]);
     print(b"\n");
@@ -524,7 +519,7 @@ fn all_lines(line: &mut [u8], plan: &mut [u8]) -> Run
     let mut turns = u64::MAX;
     while turns > 0 {
         let mut block = io::large_buffer();
-        let n = io::read_full(STDIN_FILENO, &mut block);
+        let n = say::input(&mut block);
         run = each_line(&block[..n], line, run, plan);
         if n < 65536 {
             return run;

@@ -3,17 +3,17 @@ use borrow.Author.Needs.{needs}
 use Rattle.mark.proofs.main.Statement.{statement}
 use Rattle.mark.proofs.main.Tie as tie
 
-slice-aggregate-read-full : tie.Need-slice-aggregate-read-full
-slice-aggregate-read-full c = search needs
+slice-aggregate-input : tie.Need-slice-aggregate-input
+slice-aggregate-input c = search needs
 
-read-full-requires : tie.Need-read-full-requires
-read-full-requires c κs = search needs
+input-requires : tie.Need-input-requires
+input-requires c κs = search needs
 
-slice-aggregate-write-all : tie.Need-slice-aggregate-write-all
-slice-aggregate-write-all c = search needs
+slice-aggregate-print : tie.Need-slice-aggregate-print
+slice-aggregate-print c = search needs
 
-write-all-requires : tie.Need-write-all-requires
-write-all-requires c κs = search needs
+print-requires : tie.Need-print-requires
+print-requires c κs = search needs
 
 returns : tie.Need-returns
 returns c = search needs
@@ -34,10 +34,10 @@ pub main-spec : {M : Type 1} → statement M
 main-spec =
     tie.close
     (tie.spec
-    slice-aggregate-read-full
-    read-full-requires
-    slice-aggregate-write-all
-    write-all-requires
+    slice-aggregate-input
+    input-requires
+    slice-aggregate-print
+    print-requires
     returns
     array-share-prefix-buffer
     slice-aggregate-each-piece

@@ -18,11 +18,11 @@ loop-holds c = search needs
 large-buffer-requires : tie.Need-large-buffer-requires Inv-loop μ-loop
 large-buffer-requires c κs = search needs
 
-slice-aggregate-read-full : tie.Need-slice-aggregate-read-full Inv-loop μ-loop
-slice-aggregate-read-full c = search needs
+slice-aggregate-input : tie.Need-slice-aggregate-input Inv-loop μ-loop
+slice-aggregate-input c = search needs
 
-read-full-requires : tie.Need-read-full-requires Inv-loop μ-loop
-read-full-requires c κs = search needs
+input-requires : tie.Need-input-requires Inv-loop μ-loop
+input-requires c κs = search needs
 
 array-share-prefix-block : tie.Need-array-share-prefix-block Inv-loop μ-loop
 array-share-prefix-block c = search needs
@@ -68,8 +68,8 @@ all-lines-spec =
     μ-loop
     loop-holds
     large-buffer-requires
-    slice-aggregate-read-full
-    read-full-requires
+    slice-aggregate-input
+    input-requires
     array-share-prefix-block
     slice-aggregate-each-line
     each-line-requires
