@@ -1,6 +1,7 @@
 //! Beechdoublet for Rust: the functions of include/beechdoublet.h, and a safe function over each.
 //!
-//! What the C caller has to see to, Rust's references see to here: each slice is as long as it says, and what is written overlaps nothing else.
+//! What the C caller has to see to, Rust's references see to here: none is null, each slice is as long as it says, and what is written overlaps
+//! nothing else. So the library's functions are called as they are, and 255, with which the header refuses what is not a call, does not come up.
 
 /// The most bytes of a message and of a strip.
 pub const MOST: usize = 1800;

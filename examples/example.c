@@ -1,6 +1,6 @@
 /*
- * Beechdoublet from C: reads messages, files a strip, keeps it up to date, and asks for a field in force. Every line that it writes stands in
- * examples/expected.txt.
+ * Beechdoublet from C: reads messages, files a strip, keeps it up to date, asks for a field in force, and shows what is not a call. Every line that
+ * it writes stands in examples/expected.txt, and of the last in examples/expected-c.txt.
  */
 #include <inttypes.h>
 #include <stdio.h>
@@ -170,6 +170,43 @@ static void show_flight(strip *held)
     offer(held, CHANGE, BEECHDOUBLET_MOST);
 }
 
+/* Offers a message to a strip and lends the strip's own bytes as the output. That is not a call, and the strip stays as it was. */
+static void offer_in_place(strip *held, const char *message)
+{
+    beechdoublet_updating answer;
+    beechdoublet_update(held->bytes, held->length, &held->state, bytes_of(message), strlen(message), held->bytes, sizeof held->bytes, &answer);
+    tell_refusal(answer.number, answer.field, answer.place);
+}
+
+/* Reads a message into its own bytes: not a call either, and the message stays as it was. */
+static void read_in_place(void)
+{
+    uint8_t message[] = "(CNL-ABC12 -EHAM0930-EDDF-0)";
+    beechdoublet_reading answer;
+    beechdoublet_read(message, sizeof message - 1, message, sizeof message - 1, &answer);
+    tell_refusal(answer.number, answer.field, answer.place);
+    printf("%s\n", (const char *)message);
+}
+
+/* Asks without a state, and then for no answer: the number is given back all the same. */
+static void ask_with_null(const strip *held)
+{
+    beechdoublet_part part;
+    beechdoublet_in_force(held->bytes, held->length, NULL, bytes_of(CHANGE), strlen(CHANGE), 9, &part);
+    tell_refusal(part.number, part.field, part.place);
+    printf("%d\n", beechdoublet_in_force(held->bytes, held->length, &held->state, bytes_of(CHANGE), strlen(CHANGE), 9, NULL));
+    printf("%s\n", beechdoublet_sound(NULL) ? "SOUND" : "NO STATE");
+}
+
+static void show_no_calls(void)
+{
+    strip held = filed(PLAN);
+    offer_in_place(&held, CHANGE);
+    offer(&held, CHANGE, BEECHDOUBLET_MOST);
+    read_in_place();
+    ask_with_null(&held);
+}
+
 int main(void)
 {
     strip held = filed(PLAN);
@@ -177,5 +214,6 @@ int main(void)
     show_parts(&held);
     show_states(&held);
     show_flight(&held);
+    show_no_calls();
     return 0;
 }

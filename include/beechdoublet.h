@@ -1,15 +1,16 @@
 /*
  * Beechdoublet: reads air traffic messages, keeps a strip up to date, and says where a field in force stands.
  *
- * Link with target/staticlib/libbeechdoublet.a (x86-64 Linux). Each function is proved to give the answer that its contract names, for every
- * input; docs/GUIDE.md says what is proved and what the caller has to see to. In short:
+ * Link with target/staticlib/libbeechdoublet.a (x86-64 Linux; gcc or clang, C99 or C++11 and later). Each function of the library is proved to
+ * give the answer that its contract names; docs/GUIDE.md says what is proved and what the caller has to see to. In short:
  *
  * - A pointer that comes before a length points to that many bytes, and every other pointer to a whole structure of the type named. No pointer is
  *   null; one that comes before the length 0 is never followed, and may be any other address.
  * - What a function writes to (no const) overlaps nothing else that is lent to the same call, and nobody else touches any of it meanwhile.
  *
- * Nothing else is asked: any bytes, any numbers and any lengths have an answer. Nothing is kept between calls and nothing is allocated, so calls
- * in several threads do not disturb one another.
+ * A null pointer and an overlap are seen here, before the library is called, and given back as BEECHDOUBLET_NOT_A_CALL; whether memory is there at
+ * all, only the caller knows. Nothing else is asked: any bytes, any numbers and any lengths have an answer. Nothing is kept between calls and
+ * nothing is allocated, so calls in several threads do not disturb one another.
  *
  * Leave 32 KB of stack to a call. The most that was measured is 14 KB, for a strip and a CHG with all keys of field 18. That is a measurement and
  * not proved.
@@ -50,9 +51,15 @@ extern "C" {
 #define BEECHDOUBLET_IN_CHANGE 2
 
 /*
+ * The number of what is not a call: a pointer is null, or what is to be written overlaps something else that is lent. Nothing is written but the
+ * answer, which is this number and zeros; where the answer itself is null or overlaps something, not even that. It is no number of document 01.
+ */
+#define BEECHDOUBLET_NOT_A_CALL 255
+
+/*
  * Every answer begins with number, field and place. The number is 0 where the message was accepted (or the field was found), and then field and
- * place are 0 too; otherwise it says why not (1 to 17, document 01's numbers), and what follows the place is 0. The place of a 7 is that of the
- * first byte, counted from 0, at which no field that fits could go on, or of the one just behind a field that stops too soon.
+ * place are 0 too; otherwise it says why not (1 to 17, document 01's numbers, or 255), and what follows the place is 0. The place of a 7 is that of
+ * the first byte, counted from 0, at which no field that fits could go on, or of the one just behind a field that stops too soon.
  */
 
 /* The answer to reading. */
@@ -96,39 +103,118 @@ typedef struct {
 
 /*
  * Reads a message. Accepted: its spelling stands at the front of out, and the bytes behind it are as they were. Refused (1 to 11): every byte of
- * out is as it was. Gives the number back.
+ * out is as it was. Gives the number back; 255, not a call, where a pointer is null or out or answer overlaps something else.
  */
-uint8_t beechdoublet_read(const uint8_t *message, size_t message_length, uint8_t *out, size_t out_length, beechdoublet_reading *answer);
+static inline uint8_t beechdoublet_read(const uint8_t *message, size_t message_length, uint8_t *out, size_t out_length,
+                                        beechdoublet_reading *answer) __asm__("beechdoublet_seen_read");
 
 /*
  * Offers a message to a strip, which is an accepted FPL's spelling with its state. Accepted: the new strip stands at the front of out, the bytes
  * behind it are as they were, and state is the new state. Refused (1 to 16): every byte of out and the state are as they were. Gives the number
- * back.
+ * back; 255, not a call, where a pointer is null or state, out or answer overlaps something else. So out is never the strip itself.
  */
-uint8_t beechdoublet_update(const uint8_t *strip, size_t strip_length, beechdoublet_state *state, const uint8_t *message, size_t message_length,
-                            uint8_t *out, size_t out_length, beechdoublet_updating *answer);
+static inline uint8_t beechdoublet_update(const uint8_t *strip, size_t strip_length, beechdoublet_state *state, const uint8_t *message,
+                                          size_t message_length, uint8_t *out, size_t out_length,
+                                          beechdoublet_updating *answer) __asm__("beechdoublet_seen_update");
 
 /*
  * Says where the content of a field in force stands: in the CHG if one of its entries names the field, otherwise in the strip. The field is one of
- * 7 8 9 10 13 15 16 18. Refused: 15, 1 to 9, 14, 17, 12, 8; an 8 for the field asked for has
- * that number as its field, however large it is. Gives the number back.
+ * 7 8 9 10 13 15 16 18. Refused: 15, 1 to 9, 14, 17, 12, 8; an 8 for the field asked for has that number as its field, however large it is. Gives
+ * the number back; 255, not a call, where a pointer is null or answer overlaps something else.
  */
-uint8_t beechdoublet_in_force(const uint8_t *strip, size_t strip_length, const beechdoublet_state *state, const uint8_t *change,
-                              size_t change_length, uint64_t field, beechdoublet_part *answer);
+static inline uint8_t beechdoublet_in_force(const uint8_t *strip, size_t strip_length, const beechdoublet_state *state, const uint8_t *change,
+                                            size_t change_length, uint64_t field,
+                                            beechdoublet_part *answer) __asm__("beechdoublet_seen_in_force");
 
-/* Whether a strip may be handed in with this state: its numbers are a state's, each time is one of the day and the aerodrome is four letters. */
-bool beechdoublet_sound(const beechdoublet_state *state);
+/*
+ * Whether a strip may be handed in with this state: its numbers are a state's, each time is one of the day and the aerodrome is four letters.
+ * With none, a null pointer, it may not.
+ */
+static inline bool beechdoublet_sound(const beechdoublet_state *state) __asm__("beechdoublet_seen_sound");
+
+/*
+ * The library's functions, which are what is proved. They look at no pointer: call those above. Since those have the library's names here, these
+ * have others, and the linker knows those above by others too.
+ */
+uint8_t beechdoublet_proved_read(const uint8_t *message, size_t message_length, uint8_t *out, size_t out_length,
+                                 beechdoublet_reading *answer) __asm__("beechdoublet_read");
+uint8_t beechdoublet_proved_update(const uint8_t *strip, size_t strip_length, beechdoublet_state *state, const uint8_t *message,
+                                   size_t message_length, uint8_t *out, size_t out_length,
+                                   beechdoublet_updating *answer) __asm__("beechdoublet_update");
+uint8_t beechdoublet_proved_in_force(const uint8_t *strip, size_t strip_length, const beechdoublet_state *state, const uint8_t *change,
+                                     size_t change_length, uint64_t field, beechdoublet_part *answer) __asm__("beechdoublet_in_force");
+bool beechdoublet_proved_sound(const beechdoublet_state *state) __asm__("beechdoublet_sound");
+
+/* Whether two parts of memory have a byte in common. */
+static inline bool beechdoublet_meet(const void *a, size_t a_length, const void *b, size_t b_length)
+{
+    const uintptr_t at_a = (uintptr_t)a;
+    const uintptr_t at_b = (uintptr_t)b;
+    if (a_length == 0 || b_length == 0) {
+        return false;
+    }
+    return at_a < at_b ? at_b - at_a < a_length : at_a - at_b < b_length;
+}
+
+static inline uint8_t beechdoublet_read(const uint8_t *message, size_t message_length, uint8_t *out, size_t out_length,
+                                        beechdoublet_reading *answer)
+{
+    const beechdoublet_reading not_a_call = {BEECHDOUBLET_NOT_A_CALL, 0, 0, 0, 0};
+    if (answer == NULL || beechdoublet_meet(answer, sizeof *answer, message, message_length) ||
+        beechdoublet_meet(answer, sizeof *answer, out, out_length)) {
+        return BEECHDOUBLET_NOT_A_CALL;
+    }
+    if (message == NULL || out == NULL || beechdoublet_meet(out, out_length, message, message_length)) {
+        *answer = not_a_call;
+        return BEECHDOUBLET_NOT_A_CALL;
+    }
+    return beechdoublet_proved_read(message, message_length, out, out_length, answer);
+}
+
+static inline uint8_t beechdoublet_update(const uint8_t *strip, size_t strip_length, beechdoublet_state *state, const uint8_t *message,
+                                          size_t message_length, uint8_t *out, size_t out_length, beechdoublet_updating *answer)
+{
+    const beechdoublet_updating not_a_call = {BEECHDOUBLET_NOT_A_CALL, 0, 0, 0};
+    if (answer == NULL || beechdoublet_meet(answer, sizeof *answer, strip, strip_length) ||
+        beechdoublet_meet(answer, sizeof *answer, state, sizeof *state) ||
+        beechdoublet_meet(answer, sizeof *answer, message, message_length) || beechdoublet_meet(answer, sizeof *answer, out, out_length)) {
+        return BEECHDOUBLET_NOT_A_CALL;
+    }
+    if (strip == NULL || state == NULL || message == NULL || out == NULL || beechdoublet_meet(out, out_length, strip, strip_length) ||
+        beechdoublet_meet(out, out_length, state, sizeof *state) || beechdoublet_meet(out, out_length, message, message_length) ||
+        beechdoublet_meet(state, sizeof *state, strip, strip_length) || beechdoublet_meet(state, sizeof *state, message, message_length)) {
+        *answer = not_a_call;
+        return BEECHDOUBLET_NOT_A_CALL;
+    }
+    return beechdoublet_proved_update(strip, strip_length, state, message, message_length, out, out_length, answer);
+}
+
+static inline uint8_t beechdoublet_in_force(const uint8_t *strip, size_t strip_length, const beechdoublet_state *state, const uint8_t *change,
+                                            size_t change_length, uint64_t field, beechdoublet_part *answer)
+{
+    const beechdoublet_part not_a_call = {BEECHDOUBLET_NOT_A_CALL, 0, 0, 0, 0, 0};
+    if (answer == NULL || beechdoublet_meet(answer, sizeof *answer, strip, strip_length) ||
+        beechdoublet_meet(answer, sizeof *answer, state, sizeof *state) || beechdoublet_meet(answer, sizeof *answer, change, change_length)) {
+        return BEECHDOUBLET_NOT_A_CALL;
+    }
+    if (strip == NULL || state == NULL || change == NULL) {
+        *answer = not_a_call;
+        return BEECHDOUBLET_NOT_A_CALL;
+    }
+    return beechdoublet_proved_in_force(strip, strip_length, state, change, change_length, field, answer);
+}
+
+static inline bool beechdoublet_sound(const beechdoublet_state *state)
+{
+    return state != NULL && beechdoublet_proved_sound(state);
+}
 
 #ifdef __cplusplus
 }
 #endif
 
-/* The functions see each structure as so many numbers in a row. */
-#if defined(__cplusplus)
-#define BEECHDOUBLET_IN_A_ROW(type, count) static_assert(sizeof(type) == (count) * sizeof(uint64_t), "numbers in a row")
-#else
-#define BEECHDOUBLET_IN_A_ROW(type, count) _Static_assert(sizeof(type) == (count) * sizeof(uint64_t), "numbers in a row")
-#endif
+/* The functions see each structure as so many numbers in a row; where one were not, its array here would have a negative size. */
+#define BEECHDOUBLET_IN_A_ROW(type, count) typedef char type##_in_a_row[sizeof(type) == (count) * sizeof(uint64_t) ? 1 : -1]
 BEECHDOUBLET_IN_A_ROW(beechdoublet_reading, 5);
 BEECHDOUBLET_IN_A_ROW(beechdoublet_updating, 4);
 BEECHDOUBLET_IN_A_ROW(beechdoublet_part, 6);
