@@ -50,7 +50,8 @@ fields-hold =
     (refl, (refl, (refl, (refl, (refl, (refl, (refl, (refl, (refl, (refl, tt))))))))))
 
 messages-hold : AllHold ofMessages
-unfolding answerOf placeOf7 sentPlace sentFrom behindHyphen timePlace countAs faultIn spellingOf outer parens parensFrom lettersFrom inAlphabet white reduced reducedFrom standsForRun opens closes hyphens
+unfolding answerOf placeOf7 sentPlace sentFrom behindHyphen timePlace countAs faultIn spellingOf outer parens parensFrom lettersFrom inAlphabet white
+    reduced reducedFrom standsForRun opens closes hyphens
     upToHyphen placeOfHyphen typeNamed typeRanked typesRead types formsOf briefForms formAt fits3 numbersFit fits7 fourLetters timed timeFits fitsIn
 messages-hold = ((refl, refl), (refl, (refl, (refl, (refl, tt)))))
 

@@ -7,20 +7,18 @@ use lib.ListN.{length, drop}
 use Rattle.outer.specs.Outer.{most}
 use Rattle.sent.specs.Sent.{contents}
 use Rattle.kinds.specs.declared.MessageType.the-variants.{Fpl}
-use Rattle.message.specs.declared.Answer.the-variants.{Accepted as ReadAs}
-use Rattle.message.specs.Reading.{answerOf}
 use Rattle.message.specs.Message.{canonicalMessage, messageFrom}
 use Rattle.message.proofs.Accepted.{accepted-record}
 use Rattle.message.proofs.Canonical.{canonical-valid, spelling-settled}
 use Rattle.state.specs.declared.Strip.{Strip}
 use Rattle.strip.specs.declared.Updated.{Updated}
-use Rattle.strip.specs.declared.Updated.the-variants.{Accepted, Refused}
+use Rattle.strip.specs.declared.Updated.the-variants.{Accepted}
 use Rattle.strip.specs.Updating.{updateOf, outAfter}
 use Rattle.history.specs.Demand3.{Updater, updater, Standing, Offer, Proper, putAs, enteredAs, answered, offered, offeredAll, logAll, Demand3, filedAs}
 use Rattle.history.proofs.Causes.{Verdict, verdict, refused-cause, cause-refused}
 use Rattle.history.proofs.Demand3.{took-behind, refused-stays, stepped-length, demand3}
 use Rattle.history.proofs.Only.{standing-last, log-last}
-use Rattle.demands.specs.Turns.{OnStrip, Updates, Turn, Turns}
+use Rattle.demands.specs.Turns.{OnStrip, Updates, Turns}
 
 -- THE RECORD ON A STRIP
 

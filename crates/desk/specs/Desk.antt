@@ -76,7 +76,8 @@ pub record Offering (before : Held) (buffer piece : List ℕ) (answer : Updated)
 
 -- EXAMPLES, computed
 
-in-front : standingIn (Flight (record { state = Cancelled }) 5) (bytes "(FPL)-0)") ≡ some (record { strip = bytes "(FPL)"; held = record { state = Cancelled } })
+in-front : standingIn (Flight (record { state = Cancelled }) 5) (bytes "(FPL)-0)")
+    ≡ some (record { strip = bytes "(FPL)"; held = record { state = Cancelled } })
 in-front = refl
 
 -- before there is a strip, only an FPL is fit

@@ -45,7 +45,8 @@ unfolding answerOf countAs faultIn spellingOf outer parens parensFrom lettersFro
 cancelled = refl
 
 pub not-a-time : answerOf (bytes "(DLA-ABC12-EHAM2460-EDDF-0)") 100 ≡ Refused 7 13 16
-unfolding answerOf placeOf7 sentPlace sentFrom behindHyphen timePlace countAs faultIn outer parens parensFrom lettersFrom inAlphabet white reduced reducedFrom standsForRun opens closes hyphens
+unfolding answerOf placeOf7 sentPlace sentFrom behindHyphen timePlace countAs faultIn outer parens parensFrom lettersFrom inAlphabet white reduced
+    reducedFrom standsForRun opens closes hyphens
     upToHyphen placeOfHyphen typeNamed typeRanked typesRead types formsOf briefForms formAt fits3 numbersFit fits7 fourLetters timed timeFits
 not-a-time = refl
 

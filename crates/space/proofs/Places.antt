@@ -1,10 +1,9 @@
 -- Bytes that count, at an index. Assumes nothing.
 use Prim.Native.Nat.{ℕ, zero, suc, _+_, _-_, _<_, _≤_}
 use mathlib.Core.Path.{_≡_, refl, sym, ap, _∙_}
-use mathlib.Core.Bool.{Bool, true, false, _&&_, not, cond, false≢true}
-use mathlib.Core.List.{List, [], _∷_}
+use mathlib.Core.Bool.{Bool, true, false, _&&_, false≢true}
+use mathlib.Core.List.{List, _∷_}
 use native.Mathlib.Omega.{arith}
-use lib.Dec.{ltb}
 use lib.ListN.{length, drop, getD}
 use borrow.Author.Tests.{lt-ltb, le-ltb, not-true, not-false}
 use Rattle.alphabet.specs.Alphabet.{white}
@@ -35,7 +34,8 @@ module _ (m : List ℕ) (at i : ℕ) (h : i < length m) (l : at ≤ i) where
   pub count-stop : countsAt m at i ≡ true → sentFrom (inRun m at i) 0 (drop i m) ≡ 0
   count-stop e = rw (drop-here m i h) (stopped (inRun m at i) (getD m i 0) (drop (i + 1) m) (not-true (inRun m at i && white (getD m i 0)) e))
 
-  pub count-next : (n k : ℕ) → n ≡ suc k → countsAt m at i ≡ true → sentFrom (inRun m at i) n (drop i m) ≡ suc (sentFrom (inRun m at (i + 1)) k (drop (i + 1) m))
+  pub count-next : (n k : ℕ) → n ≡ suc k → countsAt m at i ≡ true
+      → sentFrom (inRun m at i) n (drop i m) ≡ suc (sentFrom (inRun m at (i + 1)) k (drop (i + 1) m))
   count-next n k z e =
       ap (λ (x : ℕ). sentFrom (inRun m at i) x (drop i m)) z
       ∙ ap (sentFrom (inRun m at i) (suc k)) (drop-here m i h)

@@ -1,6 +1,6 @@
 -- `message::fault_place` meets its contract. Assumes nothing.
 use Prim.Native.Nat.{ℕ}
-use mathlib.Core.Path.{refl, sym, ap, ap₂, _∙_}
+use mathlib.Core.Path.{ap, ap₂, _∙_}
 use mathlib.Core.List.{List}
 use borrow.Author.Tests.{eq-eqb, ne-eqb}
 use Rattle.text.specs.Words.{before}
@@ -9,18 +9,9 @@ use Rattle.space.specs.Places.{sentPlace}
 use Rattle.kinds.specs.Kinds.{formAt}
 use Rattle.form_places.specs.Places.{placeIn}
 use Rattle.message.specs.Reading.{placeOf7}
-use native.Mathlib.Omega.{arith}
 use borrow.Author.Needs.{needs}
 use Rattle.message.proofs.fault_place.Statement.{statement}
 use Rattle.message.proofs.fault_place.Tie as tie
-use Rattle.message.proofs.fault_place.Reads as reads
-use Rattle.message.proofs.fault_place.Lts as lts
-use Rattle.form_places.proofs.place_in.Reads as place-in-reads
-use Rattle.kinds.proofs.MessageType.form_at.Reads as form-at-reads
-use Rattle.message.proofs.onward.Reads as onward-reads
-use Rattle.space.proofs.place_of_hyphen.Reads as place-of-hyphen-reads
-use Rattle.space.proofs.place_sent.Reads as place-sent-reads
-use Rattle.text.proofs.Cursor.part.Reads as part-reads
 
 place-of-hyphen-requires : tie.Need-place-of-hyphen-requires
 place-of-hyphen-requires c κs = search needs
@@ -46,11 +37,14 @@ place-sent-requires c κs = search needs
 returns-2 : tie.Need-returns-2
 unfolding placeOf7
 returns-2 c =
-    let a = c .before .before .before .before .before .before .before .before .args in
+    let at = c .before .before .before .before in
+    let start = at .before .before .before .before in
+    let a = start .args in
     let m = a .msg .now in
-    let k = c .before .before .before .before .before .before .before .before .pre in
-    let w = c .before .before .part .ensures ∙ ap (before 45) (c .before .before .before .before .onward .ensures .1) ∙ ap (λ (s : List ℕ). before 45 (behindHyphen (a .j) s)) (k .text-is) in
-    rw (eq-eqb (a .number) 7 (c .before .before .before .before .before .if1 .left))
+    let k = start .pre in
+    let part = c .before .before .part .ensures ∙ ap (before 45) (at .onward .ensures .1) in
+    let w = part ∙ ap (λ (s : List ℕ). before 45 (behindHyphen (a .j) s)) (k .text-is) in
+    rw (eq-eqb (a .number) 7 (at .before .if1 .left))
     (c .place-sent .ensures
     ∙ ap (λ (n : ℕ). sentPlace (a .j) n m)
     (c .before .place-in .ensures ∙ ap₂ placeIn (c .before .before .before .form-at .ensures ∙ ap (λ (n : ℕ). formAt (a .t) n (a .j)) (k .count-is)) w))

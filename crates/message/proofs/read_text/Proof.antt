@@ -24,7 +24,9 @@ number-requires : tie.Need-number-requires
 number-requires c κs = search needs
 
 fault-place-requires : tie.Need-fault-place-requires
-fault-place-requires c κs = start (c .before .before .before .before .before) .pre
+fault-place-requires c κs =
+    let n = c .before .before .before in
+    start (n .before .before) .pre
 
 enum-told : tie.Need-enum-told
 enum-told c = search needs

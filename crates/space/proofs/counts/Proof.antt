@@ -1,5 +1,5 @@
 -- `space::counts` meets its contract. Assumes nothing.
-use mathlib.Core.Path.{_≡_, refl, sym, ap, _∙_}
+use mathlib.Core.Path.{refl, sym, ap, _∙_}
 use mathlib.Core.Bool.{false, not}
 use lib.Dec.{ltb}
 use borrow.Author.Tests.{not-true, not-false, lt-ltb, le-ltb}
@@ -8,9 +8,6 @@ use native.Mathlib.Omega.{arith}
 use borrow.Author.Needs.{needs}
 use Rattle.space.proofs.counts.Statement.{statement}
 use Rattle.space.proofs.counts.Tie as tie
-use Rattle.space.proofs.counts.Reads as reads
-use Rattle.space.proofs.counts.Lts as lts
-use Rattle.alphabet.proofs.is_white.Reads as is-white-reads
 
 returns : tie.Need-returns
 returns c = rw (le-ltb (c .before .before .args .at) (c .before .before .args .i) (omega arith))
@@ -25,7 +22,10 @@ is-white-requires : tie.Need-is-white-requires
 is-white-requires c κs = search needs
 
 returns-2 : tie.Need-returns-2
-returns-2 c = rw (sym (c .before .is-white .ensures) ∙ not-true _ (c .if2 .taken), and-false (ltb (c .before .before .before .before .before .args .at) (c .before .before .before .before .before .args .i)) false refl)
+returns-2 c =
+    let w = c .before in
+    let a = w .before .before .before .before .args in
+    rw (sym (w .is-white .ensures) ∙ not-true _ (c .if2 .taken), and-false (ltb (a .at) (a .i)) false refl)
 
 shared-slice-read-is-white-2 : tie.Need-shared-slice-read-is-white-2
 shared-slice-read-is-white-2 c = search needs
@@ -34,7 +34,10 @@ is-white-requires-2 : tie.Need-is-white-requires-2
 is-white-requires-2 c κs = search needs
 
 returns-3 : tie.Need-returns-3
-returns-3 c = rw (lt-ltb (c .before .before .before .before .before .before .before .args .at) (c .before .before .before .before .before .before .before .args .i) (omega arith), sym (c .before .before .before .is-white .ensures) ∙ not-false _ (c .before .before .if2 .left)) (ap not (c .is-white2 .ensures))
+returns-3 c =
+    let w = c .before .before .before in
+    let a = w .before .before .before .before .args in
+    rw (lt-ltb (a .at) (a .i) (omega arith), sym (w .is-white .ensures) ∙ not-false _ (c .before .before .if2 .left)) (ap not (c .is-white2 .ensures))
 
 pub counts-spec : {M : Type 1} → statement M
 counts-spec =
