@@ -32,8 +32,10 @@ use Rattle.asked.specs.declared.Asked.{Asked}
 use Rattle.asked.specs.declared.Asked.the-variants.{InStrip, InChange, Refused}
 use Rattle.asked.specs.Asking.{rankOf, askedOf, shown, StandsAt}
 use Rattle.asked.specs.Parts.{Shows}
+use Rattle.history.specs.Demand3.{Standing, Offer}
 use Rattle.demands.specs.Demands.{Reads}
 use Rattle.demands.specs.Determined.{Determines}
+use Rattle.demands.specs.Turns.{Updates}
 
 -- AN EQUATION: the contract gives the result, `r ≡ v`
 
@@ -174,6 +176,9 @@ open-one strip held m scratch = written Opening (openingOf strip held m) (scratc
 pub update-one : (strip : List ℕ) (held : Strip) (m out : List ℕ)
     → Determines (Updated × List ℕ) (λ r. (r .0 ≡ updateOf strip held m (length out)) × (r .1 ≡ updatedOut strip held m out))
 update-one strip held m out = written Updated (updateOf strip held m (length out)) (updatedOut strip held m out)
+
+pub updates-one : (b : Standing) (o : Offer) (a c : Updated) (after left : List ℕ) → Updates b o a after → Updates b o c left → (a ≡ c) × (after ≡ left)
+updates-one b o a c after left u v = (u .answer-is ∙ sym (v .answer-is), u .output-is ∙ sym (v .output-is))
 
 -- READING: the answer and every byte of the output
 

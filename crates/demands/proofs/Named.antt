@@ -60,7 +60,7 @@ form-listed Field22 = refl
 
 -- what a plan leaves unexplained
 unexplained-listed : (nine thirteen sixteen eighteen : Word) → Listed (unexplained nine thirteen sixteen eighteen)
-unfolding unexplained fieldsNamed
+unfolding unexplained
 unexplained-listed nine thirteen sixteen eighteen =
     go (typeUnexplained nine eighteen) (departureUnexplained thirteen eighteen) (destinationUnexplained sixteen eighteen)
   where

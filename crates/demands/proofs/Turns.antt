@@ -1,22 +1,29 @@
 -- What stands on a strip is a valid record's spelling, whatever updater meets demand 3; and every result of the update is a turn as demand 3
 -- says. Assumes nothing.
 use Prim.Native.Nat.{ℕ}
-use mathlib.Core.Path.{_≡_, refl, sym, ap, ap₂, subst, _∙_}
+use mathlib.Core.Path.{_≡_, refl, sym, ap, ap₂, subst, fun-ext, _∙_}
 use mathlib.Core.List.{List, [], _∷_, _++_}
 use lib.ListN.{length, drop}
 use Rattle.outer.specs.Outer.{most}
 use Rattle.sent.specs.Sent.{contents}
 use Rattle.kinds.specs.declared.MessageType.the-variants.{Fpl}
+use Rattle.message.specs.declared.Answer.the-variants.{Accepted as ReadAs}
+use Rattle.message.specs.Reading.{answerOf}
 use Rattle.message.specs.Message.{canonicalMessage, messageFrom}
 use Rattle.message.proofs.Accepted.{accepted-record}
-use Rattle.message.proofs.Canonical.{canonical-valid, spelling-settled}
+use Rattle.message.proofs.Canonical.{canonical-valid, spelling-settled, spelling-contents}
+use Rattle.message.proofs.Valid.{fitting-length}
 use Rattle.state.specs.declared.Strip.{Strip}
 use Rattle.strip.specs.declared.Updated.{Updated}
 use Rattle.strip.specs.declared.Updated.the-variants.{Accepted}
 use Rattle.strip.specs.Updating.{updateOf, outAfter}
 use Rattle.history.specs.Demand3.{Updater, updater, Standing, Offer, Proper, putAs, enteredAs, answered, offered, offeredAll, logAll, Demand3, filedAs}
+use Rattle.history.specs.History.{planIn, nine, given}
+use Rattle.history.proofs.Strip.{proper-stripped}
+use Rattle.history.proofs.Amended.{nine-plan}
+use Rattle.history.proofs.Latest.{left-latest}
 use Rattle.history.proofs.Causes.{Verdict, verdict, refused-cause, cause-refused}
-use Rattle.history.proofs.Demand3.{took-behind, refused-stays, stepped-length, demand3}
+use Rattle.history.proofs.Demand3.{took-behind, Stands, kept-on, filed-stands, refused-stays, stepped-length, demand3}
 use Rattle.history.proofs.Only.{standing-last, log-last}
 use Rattle.demands.specs.Turns.{OnStrip, Updates, Turns}
 
@@ -32,12 +39,25 @@ proper-record strip held p =
       valid = canonical-valid x (r .valid);
       is-record = record { as-sent = x; valid = r .valid; sent = r .sent; kept = refl };
       spelt = sym (p .canonical) ∙ sym (r .spelled) ∙ sym (spelling-settled x);
+      fields-are = sym (spelling-contents x (r .valid)) ∙ ap contents (r .spelled ∙ p .canonical);
     }
 
 -- after every run, by demand 3 alone
 pub strip-record : (U : Updater) (filed : List (List ℕ)) (start : Standing) (run : List Offer) → Demand3 U filed start run
     → OnStrip (offeredAll U start run .strip)
 strip-record U filed start run d = subst OnStrip (sym (d .strip-is)) (proper-record _ (d .held) (d .stays-proper))
+
+-- and the contents are those of the history's plan
+pub plan-fields : (m : List ℕ) (room n : ℕ) → answerOf m room ≡ ReadAs Fpl n → (run : List Offer) (d : Demand3 updater (contents m) (filedAs m) run)
+    → contents (offeredAll updater (filedAs m) run .strip) ≡ nine (d .plan)
+plan-fields m room n e run d =
+    let filed = planIn (contents m) in
+    let b = offeredAll updater (filedAs m) run in
+    let log = logAll updater (filedAs m) [] run in
+    let h : Stands filed b log = kept-on filed run (filedAs m) [] (filed-stands m room n e) in
+    let fits = proper-stripped (b .strip) (b .held) (h .proper) .fits in
+    sym (nine-plan (contents (b .strip)) (fitting-length Fpl 9 (contents (b .strip)) fits))
+    ∙ ap nine (fun-ext (λ f. h .plan-is f ∙ sym (left-latest (given f) (filed f) log (d .plan f) (d .parts f))))
 
 -- ONE TURN
 

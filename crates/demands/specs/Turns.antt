@@ -9,7 +9,7 @@ use Rattle.sent.specs.Sent.{contents}
 use Rattle.kinds.specs.declared.MessageType.the-variants.{Fpl}
 use Rattle.message.specs.declared.Answer.the-variants.{Accepted as ReadAs}
 use Rattle.message.specs.Reading.{answerOf}
-use Rattle.message.specs.Message.{Message, spelling, validMessage}
+use Rattle.message.specs.Message.{Message, sentContents, spelling, validMessage}
 use Rattle.state.specs.declared.Strip.{Strip}
 use Rattle.strip.specs.declared.Updated.{Updated}
 use Rattle.strip.specs.declared.Updated.the-variants.{Accepted, Refused}
@@ -23,6 +23,8 @@ pub record OnStrip (strip : List ℕ) : Type 0 where
   pub valid : validMessage of ≡ true
   pub is-record : IsRecord of strip
   pub spelt : strip ≡ spelling of
+  -- field by field it has the strip's contents
+  pub fields-are : sentContents of ≡ contents strip
 
 -- the strip and the offer that a call is given
 abbrev pub standing : List ℕ → Strip → Standing
