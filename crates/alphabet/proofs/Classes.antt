@@ -7,6 +7,7 @@ use Prim.Native.Nat.{ℕ, _<_, _≤_}
 use lib.Dec.{T, eqb, eqb→eq, leb}
 use lib.ListN.{getD}
 use borrow.Author.Tests.{le-leb, lt-leb}
+use Rattle.alphabet.specs.Text.{bytes}
 use Rattle.alphabet.specs.Alphabet.{classOf, inAlphabet, innerByte, letter, digit, octal, sign, text, white, oneOf, marks}
 use Rattle.alphabet.proofs.Table.{at, both, both-left, both-right}
 
@@ -94,6 +95,13 @@ text-right b k = Bool·beq (text b) (sign b || oneOf b marks)
 pub text-marks : (b : ℕ) → b < 256 → text b ≡ (sign b || oneOf b marks)
 unfolding inAlphabet text white
 text-marks b h = beq→eq (text b) (sign b || oneOf b marks) (at text-right classes tt b h)
+
+-- an octal digit is one of eight bytes
+abbrev octal-right : ℕ → ℕ → Bool
+octal-right b k = Bool·beq (oneOf b (bytes "01234567")) (octal b)
+
+pub octal-digits : (b : ℕ) → b < 256 → oneOf b (bytes "01234567") ≡ octal b
+octal-digits b h = beq→eq (oneOf b (bytes "01234567")) (octal b) (at octal-right classes tt b h)
 
 pub last-test : (x : Bool) → x ≡ cond x true false
 last-test true = refl

@@ -48,7 +48,7 @@ module _ (plan said : List ℕ) (k : ℕ) where
 
   pub in-change : (from to : ℕ) → FoundIn said k (At from to) → Stood (InChange (from + 1) (to + 1))
   in-change from to h =
-      let c = in-chg {A = ℕ} plan said k 0 0 0 0 from to h .0 in
+      let c = in-chg plan said k from to h in
       let f : suc from ≡ from + 1 = omega arith in
       let t : suc from + length (inForce plan said k) ≡ to + 1 = omega (arith, h .0, long said from to (h .0) (h .1) c) in
       (sym (ap (λ (o : Option ℕ). standsIn o plan said k) (h .3) ∙ ap₂ InChange f t), one-less said from to (h .0) (h .1) c)
@@ -56,7 +56,7 @@ module _ (plan said : List ℕ) (k : ℕ) where
   pub in-strip : (at e : ℕ) → FoundIn said k Nowhere → at ≤ length plan → drop at plan ≡ behindHyphen k plan
       → e ≡ at + upTo 45 (drop at plan) → at ≤ e → e ≤ length plan → Stood (InStrip (at + 1) (e + 1))
   in-strip at e h l d end ae el =
-      let c = in-plan {A = ℕ} plan said k 0 0 0 0 at e h l d end .0 in
+      let c = in-plan plan said k at e h d end in
       let f : suc (placeOf plan k) ≡ at + 1 = omega (arith, place-at k at plan l d) in
       let t : suc (placeOf plan k) + length (inForce plan said k) ≡ e + 1 = omega (arith, place-at k at plan l d, ae, long plan at e ae el c) in
       (sym (ap (λ (o : Option ℕ). standsIn o plan said k) (h .1) ∙ ap₂ InStrip f t), one-less plan at e ae el c)

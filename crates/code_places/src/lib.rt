@@ -1,40 +1,37 @@
 // The place of codes joined without spaces.
 ghost use mathlib.Core.Path.{_≡_};
-ghost use Prim.Native.Nat.{_≤_};
 ghost use mathlib.Core.List.{_∷_, [], _++_};
 ghost use Rattle.text.specs.Words.{cells};
 ghost use Rattle.code_places.specs.Codes.{someCodes, withDigit, goesOn, codesPlace};
 
 // Whether there are one or more codes of the list, in cells of two bytes, none twice, in at most so many bytes.
-fn some_codes(list: &[u8], most: usize, s: &[u8]) -> bool
+fn some_codes(list: &[u8], most: u8, s: &[u8]) -> bool
     ensures { λ r. ⌜ r ≡ someCodes (cells 2 (now (list .entry))) most (now (s .entry)) ⌝ }
 {
     if s.len() < 1 {
         return false;
     }
-    if most < s.len() {
+    if (most as usize) < s.len() {
         return false;
     }
     codes::codes_fit(list, s)
 }
 
 // Whether they fit with one byte more.
-fn with_byte(list: &[u8], most: usize, p: &[u8], d: u8) -> bool
-    requires { ⌜ most ≤ 64 ⌝ }
+fn with_byte(list: &[u8], most: u8, p: &[u8], d: u8) -> bool
     ensures { λ r. ⌜ r ≡ someCodes (cells 2 (now (list .entry))) most (now (p .entry) ++ (d ∷ [])) ⌝ }
 {
-    if most <= p.len() {
+    if most as usize <= p.len() {
         return false;
     }
-    let mut scratch = [0u8; 64];
+    let mut scratch = [0u8; 256];
     let n = text::put(p, &mut scratch);
     scratch[n] = d;
     some_codes(list, most, &scratch[..n + 1])
 }
 
 // Whether they fit with one of these digits behind them.
-fn with_digit(list: &[u8], most: usize, p: &[u8], ds: &[u8]) -> bool
-    requires { ⌜ most ≤ 64 ⌝ }
+fn with_digit(list: &[u8], most: u8, p: &[u8], ds: &[u8]) -> bool
     ensures { λ r. ⌜ r ≡ withDigit (someCodes (cells 2 (now (list .entry))) most) (now (p .entry)) (now (ds .entry)) ⌝ }
 {
     let mut i = 0;
@@ -48,8 +45,7 @@ fn with_digit(list: &[u8], most: usize, p: &[u8], ds: &[u8]) -> bool
 }
 
 // Whether some bytes can go on as codes.
-fn goes_on(list: &[u8], most: usize, p: &[u8]) -> bool
-    requires { ⌜ most ≤ 64 ⌝ }
+fn goes_on(list: &[u8], most: u8, p: &[u8]) -> bool
     ensures { λ r. ⌜ r ≡ goesOn (cells 2 (now (list .entry))) most (now (p .entry)) ⌝ }
 {
     if p.len() == 0 {
@@ -61,9 +57,8 @@ fn goes_on(list: &[u8], most: usize, p: &[u8]) -> bool
     with_digit(list, most, p, b"0123456789")
 }
 
-// The place of codes that do not fit, whatever the bytes and however many; the codes may have at most 64.
-pub fn codes_place(list: &[u8], most: usize, s: &[u8]) -> usize
-    requires { ⌜ most ≤ 64 ⌝ }
+// The place of codes that do not fit, whatever the bytes and however many.
+pub fn codes_place(list: &[u8], most: u8, s: &[u8]) -> usize
     ensures { λ r. ⌜ r ≡ codesPlace (cells 2 (now (list .entry))) most (now (s .entry)) ⌝ }
 {
     let mut i = 0;

@@ -3,7 +3,7 @@
 use Prim.Native.Nat.{ℕ, _+_, _-_, _≤_, _<_}
 use mathlib.Core.Path.{_≡_, refl, sym, ap, ap₂, _∙_}
 use mathlib.Core.List.{List}
-use mathlib.Core.Option.{Option, none, some, Option·some-injective, Option·some-ne-none}
+use mathlib.Core.Option.{Option·some-injective, Option·some-ne-none}
 use native.Mathlib.Omega.{arith}
 use lib.ListN.{length, take, drop, length-drop}
 use lib.Seq.{length-take-le}
@@ -25,7 +25,7 @@ use Rattle.opening.specs.declared.Opening.{Opening}
 use Rattle.opening.specs.Opening.{openingOf, scratchAfter}
 use Rattle.force.specs.declared.Found.{Found}
 use Rattle.force.specs.declared.Found.the-variants.{At, Nowhere}
-use Rattle.force.specs.InForce.{inForce, namedAt, placeOf, Stands, AtEntries, FoundIn}
+use Rattle.force.specs.InForce.{inForce, AtEntries, FoundIn}
 use Rattle.strip.specs.declared.Updated.{Updated}
 use Rattle.strip.specs.Updating.{updateOf, outAfter as updatedOut}
 use Rattle.asked.specs.declared.Asked.{Asked}
@@ -139,15 +139,6 @@ named-one chg k Nowhere Nowhere p q = refl
 
 placed : {A : Type 0} (w v : List ℕ) (a b : A) (i j : ℕ) → w ≡ v → a ≡ b → i ≡ j → _≡_ {A = List ℕ × (A × ℕ)} (w, (a, i)) (v, (b, j))
 placed {A = A} w v a b i j p q r = ap₂ (λ (x : List ℕ) (y : A × ℕ). (x, y)) p (ap₂ (λ (x : A) (y : ℕ). (x, y)) q r)
-
--- `force::in_force`, from two texts
-pub in-force-one : {A : Type 0} (plan chg : List ℕ) (k : ℕ) (pb : A) (pp : ℕ) (cb : A) (cp : ℕ)
-    → Determines (List ℕ × (A × ℕ)) (λ r. (r .0 ≡ inForce plan chg k) × Stands (namedAt chg k) (placeOf plan k) pb pp cb cp (r .1 .0) (r .1 .1))
-in-force-one plan chg k pb pp cb cp x y p q = go (namedAt chg k) (p .1) (q .1)
-  where
-    go : (o : Option ℕ) → Stands o (placeOf plan k) pb pp cb cp (x .1 .0) (x .1 .1) → Stands o (placeOf plan k) pb pp cb cp (y .1 .0) (y .1 .1) → x ≡ y
-    go (some a) u v = placed (x .0) (y .0) (x .1 .0) (y .1 .0) (x .1 .1) (y .1 .1) (p .0 ∙ sym (q .0)) (u .0 ∙ sym (v .0)) (u .1 ∙ sym (v .1))
-    go none u v = placed (x .0) (y .0) (x .1 .0) (y .1 .0) (x .1 .1) (y .1 .1) (p .0 ∙ sym (q .0)) (u .0 ∙ sym (v .0)) (u .1 ∙ sym (v .1))
 
 -- `asked::in_force`, from a strip and a CHG
 pub shown-one : {A : Type 0} (strip : List ℕ) (held : Strip) (chg : List ℕ) (number : ℕ) (sb : A) (sp : ℕ) (cb : A) (cp : ℕ)

@@ -16,7 +16,7 @@ use Rattle.codes.specs.Codes.{concat, codesFit, shaped}
 use Rattle.codes.proofs.Laws.{concat-codes, codes-concat, concat-free, fit-shaped, fit-all}
 use Rattle.shape.specs.Field.{Laws}
 use Rattle.shape.proofs.Fields.{plain}
-use Rattle.equipment.specs.Field10.{Edition, present, soundList, sound, Field10, onlyN, sideFits, valid10, spell10, record10, fits10, field10}
+use Rattle.equipment.specs.Field10.{Edition10, present, soundList, sound, Field10, onlyN, sideFits, valid10, spell10, record10, fits10, field10}
 
 -- A SIDE THAT FITS: its codes can be cut out again, and are of signs
 
@@ -42,7 +42,7 @@ good-side list most a ws e = go (onlyN ws) refl e
         let f : codesFit list ws ≡ true = both (leb (length (concat ws)) most) _ (both (not (null ws)) _ q .1) .1 in
         (fit-shaped list (k .0) ws f, fit-all sign list (k .1) ws f)
 
-module _ (e : Edition) (a : sound e ≡ true) where
+module _ (e : Edition10) (a : sound e ≡ true) where
   good : (r : Field10) → valid10 e r ≡ true → Good (r .left) × Good (r .right)
   unfolding sound valid10
   good r v =

@@ -14,7 +14,7 @@ use Rattle.alphabet.specs.Alphabet.{digit}
 use Rattle.text.specs.Words.{Word, upTo, same}
 use Rattle.codes.specs.Codes.{codes, codesFit}
 use Rattle.codes.proofs.Laws.{concat-codes, null-codes, some-codes}
-use Rattle.equipment.specs.Field10.{Edition, onlyN, sideFits, valid10, fits10}
+use Rattle.equipment.specs.Field10.{Edition10, onlyN, sideFits, valid10, fits10}
 
 -- A SIDE
 
@@ -40,7 +40,7 @@ side-bytes list most s = rw (only-N s, some-codes s, concat-codes s)
 
 -- A CONTENT, its first oblique at o
 
-module _ (e : Edition) (s : List ℕ) (o : ℕ) (found : o ≡ 0 + upTo 47 s) where
+module _ (e : Edition10) (s : List ℕ) (o : ℕ) (found : o ≡ 0 + upTo 47 s) where
   at-o : o ≡ upTo 47 s
   at-o = omega arith
 

@@ -14,18 +14,18 @@ use Rattle.shape.specs.Field.{Field}
 
 -- AN EDITION: the codes of each side, and how many bytes a side may have
 
-pub record Edition : Type 0 where
+pub record Edition10 : Type 0 where
   pub left : List Word
   pub most-left : ℕ
   pub right : List Word
   pub most-right : ℕ
 
-abbrev pub edition : List Word → ℕ → List Word → ℕ → Edition
-edition l m r n = record { left = l; most-left = m; right = r; most-right = n }
+abbrev pub edition10 : List Word → ℕ → List Word → ℕ → Edition10
+edition10 l m r n = record { left = l; most-left = m; right = r; most-right = n }
 
-unfoldable pub present : Edition
+unfoldable pub present : Edition10
 present =
-    edition
+    edition10
     (split 32 (bytes "A B C D E1 E2 E3 F G H I J1 J2 J3 J4 J5 J6 J7 K L M1 M2 M3 O P1 P2 P3 P4 P5 P6 P7 P8 P9 R S T U V W X Y Z")) 64
     (split 32 (bytes "A C E H I L P S X B1 B2 U1 U2 V1 V2 D1 G1")) 20
 
@@ -33,7 +33,7 @@ present =
 abbrev pub soundList : List Word → Bool
 soundList list = all shaped list && all (all sign) list
 
-unfoldable pub sound : Edition → Bool
+unfoldable pub sound : Edition10 → Bool
 sound e = soundList (e .left) && soundList (e .right)
 
 -- THE RECORD: the codes of each side, in the order sent; N alone is the one code N
@@ -50,7 +50,7 @@ onlyN (w ∷ ws) = same w (bytes "N") && null ws
 abbrev pub sideFits : List Word → ℕ → List Word → Bool
 sideFits list most ws = onlyN ws || (not (null ws) && (leb (length (concat ws)) most && codesFit list ws))
 
-unfoldable pub valid10 : Edition → Field10 → Bool
+unfoldable pub valid10 : Edition10 → Field10 → Bool
 valid10 e r =
     sideFits (e .left) (e .most-left) (r .left)
     && sideFits (e .right) (e .most-right) (r .right)
@@ -63,12 +63,12 @@ spell10 r = concat (r .left) ++ (47 ∷ concat (r .right))
 abbrev pub record10 : List ℕ → Field10
 record10 s = record { left = codes (before 47 s); right = codes (behind 47 s) }
 
-unfoldable pub fits10 : Edition → List ℕ → Bool
+unfoldable pub fits10 : Edition10 → List ℕ → Bool
 fits10 e s = holds 47 s && valid10 e (record10 s)
 
 -- THE FORM, of an edition
 
-abbrev pub field10 : Edition → Field
+abbrev pub field10 : Edition10 → Field
 field10 e =
     record {
       Record = Field10;

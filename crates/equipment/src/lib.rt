@@ -2,7 +2,7 @@
 ghost use mathlib.Core.Path.{_≡_};
 ghost use Rattle.text.specs.Words.{cells};
 ghost use Rattle.codes.specs.Codes.{codes};
-ghost use Rattle.equipment.specs.Field10.{edition, present, sideFits, fits10};
+ghost use Rattle.equipment.specs.Field10.{edition10, present, sideFits, fits10};
 
 // Whether a side fits: N alone, or one or more codes of the list, none twice, in at most so many bytes.
 pub fn side(list: &[u8], most: usize, s: &[u8]) -> bool
@@ -22,7 +22,7 @@ pub fn side(list: &[u8], most: usize, s: &[u8]) -> bool
 
 // Whether a content fits the form in an edition: the codes of each side, in cells of two bytes, and how many bytes a side may have.
 fn fits_edition(left: &[u8], most_left: usize, right: &[u8], most_right: usize, s: &[u8]) -> bool
-    ensures { λ r. ⌜ r ≡ fits10 (edition (cells 2 (now (left .entry))) «most_left» (cells 2 (now (right .entry))) «most_right») (now (s .entry)) ⌝ }
+    ensures { λ r. ⌜ r ≡ fits10 (edition10 (cells 2 (now (left .entry))) «most_left» (cells 2 (now (right .entry))) «most_right») (now (s .entry)) ⌝ }
 {
     let o = text::find(s, 0, b'/');
     if o == s.len() {

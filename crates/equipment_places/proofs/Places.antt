@@ -18,7 +18,7 @@ use Rattle.entries.specs.Entries.{matched}
 use Rattle.entries.proofs.Entries.{label-place, same-swap}
 use Rattle.code_places.specs.Codes.{someCodes, codesPlace}
 use Rattle.code_places.proofs.Codes.{codes-place}
-use Rattle.equipment.specs.Field10.{Edition, present, sound, soundList, valid10, fits10}
+use Rattle.equipment.specs.Field10.{Edition10, present, sound, soundList, valid10, fits10}
 use Rattle.equipment.proofs.Laws.{side-bytes}
 use Rattle.equipment.proofs.Field10.{present-sound}
 use Rattle.equipment_places.specs.Places.{sideOf, sidePlace, place10}
@@ -52,7 +52,7 @@ module _ (list : List Word) (most : ℕ) where
 
 -- FIELD 10
 
-pub placed10-in : (e : Edition) → sound e ≡ true → (s : List ℕ) → IsPlace (fits10 e) s (place10 e s)
+pub placed10-in : (e : Edition10) → sound e ≡ true → (s : List ℕ) → IsPlace (fits10 e) s (place10 e s)
 unfolding sound fits10 valid10 place10
 placed10-in e h =
     let left = both (all shaped (e .left)) (all (all sign) (e .left)) (both (soundList (e .left)) (soundList (e .right)) h .0) .0 in

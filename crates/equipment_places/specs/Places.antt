@@ -9,7 +9,7 @@ use Rattle.codes.specs.Codes.{codes}
 use Rattle.places.specs.Parts.{larger, cutPlace}
 use Rattle.entries.specs.Entries.{matched}
 use Rattle.code_places.specs.Codes.{codesPlace}
-use Rattle.equipment.specs.Field10.{Edition, present, sideFits}
+use Rattle.equipment.specs.Field10.{Edition10, present, sideFits}
 
 -- a side's bytes
 abbrev pub sideOf : List Word → ℕ → List ℕ → Bool
@@ -19,7 +19,7 @@ sideOf list most s = sideFits list most (codes s)
 unfoldable pub sidePlace : List Word → ℕ → List ℕ → ℕ
 sidePlace list most s = larger (matched (bytes "N") s) (codesPlace list most s)
 
-unfoldable pub place10 : Edition → List ℕ → ℕ
+unfoldable pub place10 : Edition10 → List ℕ → ℕ
 place10 e s = cutPlace 47 (sideOf (e .left) (e .most-left)) (sidePlace (e .left) (e .most-left)) (sidePlace (e .right) (e .most-right)) s
 
 -- EXAMPLES, computed

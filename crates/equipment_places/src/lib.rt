@@ -1,13 +1,11 @@
 // The place of a content of field 10 that does not fit.
 ghost use mathlib.Core.Path.{_≡_};
-ghost use Prim.Native.Nat.{_≤_};
 ghost use Rattle.text.specs.Words.{cells};
-ghost use Rattle.equipment.specs.Field10.{edition, present};
+ghost use Rattle.equipment.specs.Field10.{edition10, present};
 ghost use Rattle.equipment_places.specs.Places.{sidePlace, place10};
 
-// The place of a side that does not fit, with at most 64 bytes in its codes.
-fn side_place(list: &[u8], most: usize, s: &[u8]) -> usize
-    requires { ⌜ most ≤ 64 ⌝ }
+// The place of a side that does not fit, with at most so many bytes in its codes.
+fn side_place(list: &[u8], most: u8, s: &[u8]) -> usize
     ensures { λ r. ⌜ r ≡ sidePlace (cells 2 (now (list .entry))) most (now (s .entry)) ⌝ }
 {
     places::larger_of(
@@ -17,15 +15,14 @@ fn side_place(list: &[u8], most: usize, s: &[u8]) -> usize
 }
 
 // The place in an edition: the codes of each side, in cells of two bytes, and how many bytes a side may have.
-fn place_edition(left: &[u8], m: usize, right: &[u8], n: usize, s: &[u8]) -> usize
-    requires { ⌜ (m ≤ 64) × (n ≤ 64) ⌝ }
-    ensures { λ r. ⌜ r ≡ place10 (edition (cells 2 (now (left .entry))) m (cells 2 (now (right .entry))) n) (now (s .entry)) ⌝ }
+fn place_edition(left: &[u8], m: u8, right: &[u8], n: u8, s: &[u8]) -> usize
+    ensures { λ r. ⌜ r ≡ place10 (edition10 (cells 2 (now (left .entry))) m (cells 2 (now (right .entry))) n) (now (s .entry)) ⌝ }
 {
     let o = text::find(s, 0, b'/');
     if o == s.len() {
         return side_place(left, m, &s[..o]);
     }
-    if !equipment::side(left, m, &s[..o]) {
+    if !equipment::side(left, m as usize, &s[..o]) {
         return side_place(left, m, &s[..o]);
     }
     o + 1 + side_place(right, n, &s[o + 1..])

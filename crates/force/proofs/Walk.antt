@@ -1,6 +1,6 @@
 -- The walk to a field and over a CHG's entries, hyphen by hyphen, and what is found there. Assumes nothing.
 use Prim.Native.Nat.{ℕ, zero, suc, _+_, _-_, _<_, _≤_}
-use mathlib.Core.Path.{_≡_, refl, sym, ap, subst, _∙_}
+use mathlib.Core.Path.{_≡_, sym, ap, subst, _∙_}
 use mathlib.Core.Bool.{false}
 use mathlib.Core.List.{List, [], _∷_}
 use mathlib.Core.Option.{Option, some, Option·getD}
@@ -18,7 +18,7 @@ use Rattle.kinds.specs.Kinds.{firstEntry}
 use Rattle.forms.specs.Field22.{labels, whichOf}
 use Rattle.force.specs.declared.Found.{Found}
 use Rattle.force.specs.declared.Found.the-variants.{At, Nowhere}
-use Rattle.force.specs.InForce.{entriesOf, lookup, lookupAt, namedBy, namedAt, fieldAt, inForce, placeOf, Stands, FoundIn}
+use Rattle.force.specs.InForce.{entriesOf, lookup, lookupAt, namedBy, namedAt, fieldAt, inForce, placeOf, FoundIn}
 
 -- TO A FIELD
 
@@ -138,18 +138,11 @@ none-named chg k z = (rw (eq-eqb k 0 z), rw (eq-eqb k 0 z))
 pub as-found : (chg : List ℕ) (k : ℕ) {r f : Found} → FoundIn chg k r → r ≡ f → FoundIn chg k f
 as-found chg k h e = subst (FoundIn chg k) e h
 
-module _ {A : Type 0} (plan chg : List ℕ) (k : ℕ) (pb : A) (pp : ℕ) (cb : A) (cp : ℕ) where
-  pub in-chg : (from to : ℕ) → FoundIn chg k (At from to)
-      → (take (to - from) (drop from chg) ≡ inForce plan chg k) × Stands (namedAt chg k) (placeOf plan k) pb pp cb cp cb (from + cp)
-  in-chg from to h = (
-    sym (ap (λ (o : Option Word). Option·getD o (fieldAt plan k)) (h .2)),
-    subst (λ (o : Option ℕ). Stands o (placeOf plan k) pb pp cb cp cb (from + cp)) (sym (h .3)) (refl, refl),
-  )
+module _ (plan chg : List ℕ) (k : ℕ) where
+  pub in-chg : (from to : ℕ) → FoundIn chg k (At from to) → take (to - from) (drop from chg) ≡ inForce plan chg k
+  in-chg from to h = sym (ap (λ (o : Option Word). Option·getD o (fieldAt plan k)) (h .2))
 
-  pub in-plan : (at e : ℕ) → FoundIn chg k Nowhere → at ≤ length plan → drop at plan ≡ behindHyphen k plan → e ≡ at + upTo 45 (drop at plan)
-      → (take (e - at) (drop at plan) ≡ inForce plan chg k) × Stands (namedAt chg k) (placeOf plan k) pb pp cb cp pb (at + pp)
-  in-plan at e h l d end = (
-    piece 45 plan at e end ∙ ap (before 45) d ∙ sym (field-at k plan) ∙ sym (ap (λ (o : Option Word). Option·getD o (fieldAt plan k)) (h .0)),
-    subst (λ (o : Option ℕ). Stands o (placeOf plan k) pb pp cb cp pb (at + pp)) (sym (h .1))
-        (refl, ap (λ (i : ℕ). i + pp) (place-at k at plan l d)),
-  )
+  pub in-plan : (at e : ℕ) → FoundIn chg k Nowhere → drop at plan ≡ behindHyphen k plan → e ≡ at + upTo 45 (drop at plan)
+      → take (e - at) (drop at plan) ≡ inForce plan chg k
+  in-plan at e h d end =
+      piece 45 plan at e end ∙ ap (before 45) d ∙ sym (field-at k plan) ∙ sym (ap (λ (o : Option Word). Option·getD o (fieldAt plan k)) (h .0))

@@ -62,11 +62,6 @@ lookupAt k at (e ∷ es) = cond (eqb (whichOf e) k) (some (at + (length e - leng
 unfoldable pub namedAt : List ℕ → ℕ → Option ℕ
 namedAt chg k = cond (eqb k 0) none (lookupAt k (placeOf chg firstEntry) (entriesOf chg))
 
--- a part begins in the CHG, at the content that names the field, or in the plan; `block` and `place` say where each slice begins
-abbrev pub Stands : {A : Type 0} → Option ℕ → ℕ → (plan-block : A) (plan-place : ℕ) (chg-block : A) (chg-place : ℕ) (block : A) (place : ℕ) → Type 0
-Stands (some a) field pb pp cb cp block place = (block ≡ cb) × (place ≡ a + cp)
-Stands none field pb pp cb cp block place = (block ≡ pb) × (place ≡ field + pp)
-
 -- the entries begin at this place
 abbrev pub AtEntries : List ℕ → ℕ → Type 0
 AtEntries chg at = (at ≤ length chg) × (drop at chg ≡ behindHyphen firstEntry chg)

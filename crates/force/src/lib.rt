@@ -3,7 +3,7 @@ ghost use mathlib.Core.Path.{_≡_};
 ghost use Prim.Native.Nat.{ℕ, _≤_, _<_};
 ghost use lib.ListN.{length, drop};
 ghost use Rattle.space.specs.Hyphens.{behindHyphen};
-ghost use Rattle.force.specs.InForce.{inForce, namedAt, placeOf, Stands, AtEntries, FoundIn};
+ghost use Rattle.force.specs.InForce.{AtEntries, FoundIn};
 use kinds::Form;
 use text::Cursor;
 
@@ -67,21 +67,4 @@ pub fn named(chg: &[u8], k: usize) -> Found
     ensures { λ r. ⌜ FoundIn (now (chg .entry)) k r ⌝ }
 {
     named_from(chg, first_entry(chg), k)
-}
-
-// The content in force of the field of rank k, as a part of the CHG if an entry names the field, otherwise of the plan.
-pub fn in_force<'a>(plan: &'a [u8], chg: &'a [u8], k: usize) -> &'a [u8]
-    ensures { λ r. ⌜ now r ≡ inForce (now (plan .entry)) (now (chg .entry)) k ⌝ }
-    ensures { λ r. ⌜ Stands (namedAt (now (chg .entry)) k) (placeOf (now (plan .entry)) k)
-        (plan .entry .ptr .0) (plan .entry .ptr .1) (chg .entry .ptr .0) (chg .entry .ptr .1) (r .ptr .0) (r .ptr .1) ⌝ }
-{
-    match named(chg, k) {
-        Found::At { from, to } => &chg[from..to],
-        Found::Nowhere => {
-            let c = seek(plan, k);
-            let at = c.at;
-            let e = c.end(plan, b'-');
-            &plan[at..e]
-        }
-    }
 }

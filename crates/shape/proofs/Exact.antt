@@ -1,4 +1,4 @@
--- A shape's numbers and its spelling determine one another, for every shape and every list of shapes. Assumes nothing.
+-- A shape's numbers and its spelling determine one another, for every shape. Assumes nothing.
 use Prim.Native.Nat.{ℕ, zero, suc, _-_, _^_, _<_}
 use mathlib.Core.Path.{_≡_, refl, sym, ap, _∙_}
 use mathlib.Core.Bool.{Bool, true, false, cond, _&&_, _||_, not, false≢true}
@@ -8,10 +8,10 @@ use lib.ListN.{length, take, drop, take-append-drop}
 use lib.Seq.{take-at, drop-at}
 use borrow.Author.Tests.{not-true, ltb-true, lt-ltb}
 use Rattle.alphabet.specs.Alphabet.{digit, oneOf}
-use Rattle.text.specs.Words.{Word, all, same, elem}
-use Rattle.text.proofs.Tests.{both, same-eq, same-self, of-elem, of-one, and-false}
+use Rattle.text.specs.Words.{Word, all}
+use Rattle.text.proofs.Tests.{both, of-one, and-false}
 use Rattle.shape.specs.Numbers.{digits, value}
-use Rattle.shape.specs.Shape.{letters, inClass, fits, copies, wide, values, spells, sized, Form, any, wides, pick, formOf, spellForm, validForm}
+use Rattle.shape.specs.Shape.{letters, inClass, fits, copies, wide, values, spells, sized}
 use Rattle.shape.proofs.Numbers.{value-below, digits-value, digits-length, value-digits, digits-digits}
 
 -- A SHAPE'S NUMBERS
@@ -67,21 +67,7 @@ values-spells (t ∷ ts) (v ∷ vs) e = go (values-spells ts vs) (digit t) refl 
         let i = ih (h .1) in
         (rw (d, h .0, d) (i .0), rw (d, i .1))
 
--- ONE OF A LIST OF SHAPES
-
-pick-fits : (ts : List Word) (w : Word) → any (wides ts) w ≡ true → fits (wide (pick ts w)) w ≡ true
-pick-fits [] w e = absurd (false≢true e)
-pick-fits (t ∷ ts) w e = go (pick-fits ts w) (fits (wide t) w) refl e
-  where
-    go : (any (wides ts) w ≡ true → fits (wide (pick ts w)) w ≡ true)
-        → (b : Bool) → fits (wide t) w ≡ b → cond b true (any (wides ts) w) ≡ true → fits (wide (cond b t (pick ts w))) w ≡ true
-    go ih true p q = p
-    go ih false p q = ih q
-
-pub form-exact : (ts : List Word) (w : Word) → any (wides ts) w ≡ true → spellForm (formOf ts w) ≡ w
-form-exact ts w e = spells-values (pick ts w) w (pick-fits ts w e)
-
--- no word fits two of the shapes: a test that antt computes
+-- NO WORD FITS TWO SHAPES: a test that antt computes
 
 abbrev pub disjoint : ℕ → ℕ → Bool
 disjoint t u = cond (digit t) (cond (digit u) false (all (λ b. not (digit b)) (letters u))) (all (λ b. not (inClass u b)) (letters t))
@@ -91,10 +77,6 @@ clash [] [] = false
 clash [] (u ∷ us) = true
 clash (t ∷ ts) [] = true
 clash (t ∷ ts) (u ∷ us) = cond (disjoint t u) true (clash ts us)
-
-abbrev pub separate : List Word → Bool
-separate [] = true
-separate (u ∷ us) = all (λ t. clash (wide t) (wide u)) us && separate us
 
 disjoint-law : (t u b : ℕ) → disjoint t u ≡ true → inClass t b ≡ true → inClass u b ≡ false
 disjoint-law t u b a e = go (digit t) refl (digit u) refl a e
@@ -126,32 +108,6 @@ clash-law (t ∷ ts) (u ∷ us) (b ∷ w) c e = go (clash-law ts us w) (disjoint
         → (d : Bool) → disjoint t u ≡ d → cond d true (clash ts us) ≡ true → (inClass u b && fits us w) ≡ false
     go ih true p q = rw (disjoint-law t u b p (h .0))
     go ih false p q = and-false (inClass u b) (fits us w) (ih q (h .1))
-
-pick-law : (ts : List Word) → separate ts ≡ true → (t w : Word) → elem t ts ≡ true → fits (wide t) w ≡ true → (any (wides ts) w ≡ true) × (pick ts w ≡ t)
-pick-law [] s t w e f = absurd (false≢true e)
-pick-law (u ∷ us) s t w e f = go (pick-law us (h .1) t w) (same t u) refl e
-  where
-    h : (all (λ t. clash (wide t) (wide u)) us ≡ true) × (separate us ≡ true)
-    h = both (all (λ t. clash (wide t) (wide u)) us) (separate us) s
-
-    go : (elem t us ≡ true → fits (wide t) w ≡ true → (any (wides us) w ≡ true) × (pick us w ≡ t))
-        → (b : Bool) → same t u ≡ b → cond b true (elem t us) ≡ true
-        → (cond (fits (wide u) w) true (any (wides us) w) ≡ true) × (cond (fits (wide u) w) u (pick us w) ≡ t)
-    go ih true p q =
-        let i : t ≡ u = same-eq t u p in
-        let g : fits (wide u) w ≡ true = ap (λ (x : Word). fits (wide x) w) (sym i) ∙ f in
-        (rw g, rw g (sym i))
-    go ih false p q =
-        let g : fits (wide u) w ≡ false = clash-law (wide t) (wide u) w (of-elem (λ t. clash (wide t) (wide u)) us (h .0) t q) f in
-        (rw g (ih q f .0), rw g (ih q f .1))
-
-pub form-complete : (ts : List Word) → separate ts ≡ true → (f : Form) → validForm ts f ≡ true
-    → (any (wides ts) (spellForm f) ≡ true) × (formOf ts (spellForm f) ≡ f)
-form-complete ts s f e =
-    let h = both (elem (f .shape) ts) (sized (f .shape) (f .numbers)) e in
-    let v = values-spells (f .shape) (f .numbers) (h .1) in
-    let p = pick-law ts s (f .shape) (spellForm f) (h .0) (v .0) in
-    (p .0, rw (p .1, v .1))
 
 -- a test that all digits pass, and all letters of a shape, is passed by every byte of a word that fits it
 pub fits-all : (p : ℕ → Bool) → ((b : ℕ) → digit b ≡ true → p b ≡ true)
@@ -196,19 +152,3 @@ sized-values (t ∷ ts) w e = go (sized-values ts) (digit t) refl w e
         let h = both (inClass t x) (fits (wide ts) w) f in
         let l : oneOf x (letters t) ≡ true = rw d at (h .0) in
         rw (d, l, d) (ih w (h .1))
-
-pick-elem : (ts : List Word) (w : Word) → any (wides ts) w ≡ true → elem (pick ts w) ts ≡ true
-pick-elem [] w e = absurd (false≢true e)
-pick-elem (t ∷ ts) w e = go (pick-elem ts w) (fits (wide t) w) e
-  where
-    later : (v : Word) (b : Bool) → elem v ts ≡ true → cond b true (elem v ts) ≡ true
-    later v true q = refl
-    later v false q = q
-
-    go : (any (wides ts) w ≡ true → elem (pick ts w) ts ≡ true)
-        → (b : Bool) → cond b true (any (wides ts) w) ≡ true → elem (cond b t (pick ts w)) (t ∷ ts) ≡ true
-    go ih true q = rw (same-self t)
-    go ih false q = later (pick ts w) (same (pick ts w) t) (ih q)
-
-pub form-valid : (ts : List Word) (w : Word) → any (wides ts) w ≡ true → validForm ts (formOf ts w) ≡ true
-form-valid ts w e = rw (pick-elem ts w e) (sized-values (pick ts w) w (pick-fits ts w e))

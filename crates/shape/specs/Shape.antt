@@ -8,7 +8,7 @@ use lib.Dec.{ltb, eqb}
 use lib.ListN.{take, drop, getD}
 use Rattle.alphabet.specs.Text.{bytes}
 use Rattle.alphabet.specs.Alphabet.{digit, oneOf}
-use Rattle.text.specs.Words.{Word, null, elem}
+use Rattle.text.specs.Words.{Word, null}
 use Rattle.shape.specs.Numbers.{digits, value}
 
 -- ONE BYTE OF A SHAPE: a digit stands for any digit, these small letters for a few bytes each, any other byte for itself
@@ -64,10 +64,6 @@ sized (t ∷ ts) (v ∷ vs) = cond (digit t) (ltb v (10 ^ (t - 48))) (oneOf v (l
 
 -- ONE OF A LIST OF SHAPES
 
-pub record Form : Type 0 where
-  pub shape : Word
-  pub numbers : List ℕ
-
 abbrev pub any : List Word → Word → Bool
 any [] w = false
 any (t ∷ ts) w = cond (fits t w) true (any ts w)
@@ -75,20 +71,6 @@ any (t ∷ ts) w = cond (fits t w) true (any ts w)
 abbrev pub wides : List Word → List Word
 wides [] = []
 wides (t ∷ ts) = wide t ∷ wides ts
-
--- the first shape that a word fits
-abbrev pub pick : List Word → Word → Word
-pick [] w = []
-pick (t ∷ ts) w = cond (fits (wide t) w) t (pick ts w)
-
-abbrev pub formOf : List Word → Word → Form
-formOf ts w = record { shape = pick ts w; numbers = values (pick ts w) w }
-
-abbrev pub spellForm : Form → Word
-spellForm f = spells (f .shape) (f .numbers)
-
-abbrev pub validForm : List Word → Form → Bool
-validForm ts f = elem (f .shape) ts && sized (f .shape) (f .numbers)
 
 -- EXAMPLES, computed
 

@@ -45,7 +45,7 @@ fn in_class(t: u8, b: u8) -> bool
         return one_of(b, b"SM");
     }
     if t == b'o' {
-        return one_of(b, b"01234567");
+        return alphabet::is_octal(b);
     }
     if b == t { true } else { false }
 }

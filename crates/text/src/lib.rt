@@ -27,7 +27,6 @@ pub fn find(s: &[u8], from: usize, c: u8) -> usize
 pub enum Kind {
     Letter,
     Digit,
-    Octal,
     Sign,
     Text,
 }
@@ -38,7 +37,6 @@ pub fn is_kind(k: Kind, b: u8) -> bool
     match k {
         Kind::Letter => alphabet::is_letter(b),
         Kind::Digit => alphabet::is_digit(b),
-        Kind::Octal => alphabet::is_octal(b),
         Kind::Sign => alphabet::is_sign(b),
         Kind::Text => alphabet::is_text(b),
     }

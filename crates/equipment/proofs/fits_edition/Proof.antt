@@ -4,7 +4,7 @@ use borrow.Author.Tests.{not-true, not-false}
 use lib.Seq.{length-take-le}
 use Rattle.text.specs.Words.{cells}
 use Rattle.text.proofs.Index.{rest}
-use Rattle.equipment.specs.Field10.{Edition, edition}
+use Rattle.equipment.specs.Field10.{Edition10, edition10}
 use Rattle.equipment.proofs.Laws.{no-oblique, at-oblique}
 use borrow.Author.Needs.{needs}
 use Rattle.equipment.proofs.fits_edition.Statement.{statement}
@@ -15,8 +15,8 @@ module _ (c : tie.After-find) where
   abbrev start : tie.Start
   start = c .before .before .before .before
 
-  abbrev asked : Edition
-  asked = edition (cells 2 (start .args .left .now)) (start .args .most-left) (cells 2 (start .args .right .now)) (start .args .most-right)
+  abbrev asked : Edition10
+  asked = edition10 (cells 2 (start .args .left .now)) (start .args .most-left) (cells 2 (start .args .right .now)) (start .args .most-right)
 
 find-requires : tie.Need-find-requires
 find-requires c κs = search needs

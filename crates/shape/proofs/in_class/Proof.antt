@@ -3,15 +3,16 @@ use mathlib.Core.Path.{_≡_, sym, _∙_}
 use mathlib.Core.List.{[], _∷_}
 use borrow.Author.Tests.{eq-eqb, ne-eqb}
 use Rattle.alphabet.specs.Alphabet.{oneOf}
+use Rattle.alphabet.proofs.Classes.{octal-digits}
 use Rattle.shape.specs.Shape.{letters, inClass}
 use borrow.Author.Needs.{needs}
 use Rattle.shape.proofs.in_class.Statement.{statement}
 use Rattle.shape.proofs.in_class.Tie as tie
 
--- where t is no digit and none of the letters that stand for a few bytes each
-module _ (c : tie.Else7) where
+-- where t is no digit and none of the first five letters that stand for a few bytes each
+module _ (c : tie.Else6) where
   abbrev past-k : tie.Else4
-  past-k = c .before .before .before
+  past-k = c .before .before
 
   abbrev past-digit : tie.Else1
   past-digit = past-k .before .before .before
@@ -19,18 +20,22 @@ module _ (c : tie.Else7) where
   abbrev start : tie.Start
   start = past-digit .before .before
 
-  itself : inClass (start .args .t) (start .args .b) ≡ oneOf (start .args .b) (start .args .t ∷ [])
-  unfolding letters
-  itself =
-      rw (
-        sym (past-digit .before .is-digit .ensures) ∙ past-digit .if1 .left,
-        ne-eqb _ _ (past-k .before .before .if2 .left),
-        ne-eqb _ _ (past-k .before .if3 .left),
-        ne-eqb _ _ (past-k .if4 .left),
-        ne-eqb _ _ (c .before .before .if5 .left),
-        ne-eqb _ _ (c .before .if6 .left),
-        ne-eqb _ _ (c .if7 .left),
-      )
+-- and not of the sixth
+itself : (c : tie.Else7)
+    → inClass (start (c .before) .args .t) (start (c .before) .args .b) ≡ oneOf (start (c .before) .args .b) (start (c .before) .args .t ∷ [])
+unfolding letters
+itself c =
+    let k = past-k (c .before) in
+    let d = past-digit (c .before) in
+    rw (
+      sym (d .before .is-digit .ensures) ∙ d .if1 .left,
+      ne-eqb _ _ (k .before .before .if2 .left),
+      ne-eqb _ _ (k .before .if3 .left),
+      ne-eqb _ _ (k .if4 .left),
+      ne-eqb _ _ (c .before .before .if5 .left),
+      ne-eqb _ _ (c .before .if6 .left),
+      ne-eqb _ _ (c .if7 .left),
+    )
 
 is-digit-requires : tie.Need-is-digit-requires
 is-digit-requires c κs = search needs
@@ -91,15 +96,13 @@ returns-6 : tie.Need-returns-6
 unfolding letters
 returns-6 c = rw (c .before .before .if6 .taken) (c .one-of5 .ensures)
 
-slice-aggregate-one-of-6 : tie.Need-slice-aggregate-one-of-6
-slice-aggregate-one-of-6 c = search needs
-
-one-of-requires-6 : tie.Need-one-of-requires-6
-one-of-requires-6 c κs = search needs
+is-octal-requires : tie.Need-is-octal-requires
+is-octal-requires c κs = search needs
 
 returns-7 : tie.Need-returns-7
 unfolding letters
-returns-7 c = rw (c .before .before .if7 .taken) (c .one-of6 .ensures)
+returns-7 c =
+    rw (c .before .if7 .taken) (c .is-octal .ensures ∙ sym (octal-digits (start (c .before .before) .args .b) (search needs)))
 
 returns-8 : tie.Need-returns-8
 returns-8 c = rw (itself (c .before), eq-eqb _ _ (c .if8 .taken))
@@ -129,8 +132,7 @@ in-class-spec =
     slice-aggregate-one-of-5
     one-of-requires-5
     returns-6
-    slice-aggregate-one-of-6
-    one-of-requires-6
+    is-octal-requires
     returns-7
     returns-8
     returns-9)

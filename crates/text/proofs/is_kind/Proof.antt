@@ -21,17 +21,11 @@ is-digit-requires c κs = search needs
 enum-told-3 : tie.Need-enum-told-3
 enum-told-3 c = search needs
 
-is-octal-requires : tie.Need-is-octal-requires
-is-octal-requires c κs = search needs
-
-enum-told-4 : tie.Need-enum-told-4
-enum-told-4 c = search needs
-
 is-sign-requires : tie.Need-is-sign-requires
 is-sign-requires c κs = search needs
 
-enum-told-5 : tie.Need-enum-told-5
-enum-told-5 c = search needs
+enum-told-4 : tie.Need-enum-told-4
+enum-told-4 c = search needs
 
 is-text-requires : tie.Need-is-text-requires
 is-text-requires c κs = search needs
@@ -43,13 +37,10 @@ returns-2 : tie.Need-returns-2
 returns-2 c = c .is-digit .ensures ∙ sym (ap (λ (k : Kind). ofKind k (c .before .before .before .args .b)) (c .before .enum-told2 .given .1))
 
 returns-3 : tie.Need-returns-3
-returns-3 c = c .is-octal .ensures ∙ sym (ap (λ (k : Kind). ofKind k (c .before .before .before .args .b)) (c .before .enum-told3 .given .1))
+returns-3 c = c .is-sign .ensures ∙ sym (ap (λ (k : Kind). ofKind k (c .before .before .before .args .b)) (c .before .enum-told3 .given .1))
 
 returns-4 : tie.Need-returns-4
-returns-4 c = c .is-sign .ensures ∙ sym (ap (λ (k : Kind). ofKind k (c .before .before .before .args .b)) (c .before .enum-told4 .given .1))
-
-returns-5 : tie.Need-returns-5
-returns-5 c = c .is-text .ensures ∙ sym (ap (λ (k : Kind). ofKind k (c .before .before .before .args .b)) (c .before .enum-told5 .given .1))
+returns-4 c = c .is-text .ensures ∙ sym (ap (λ (k : Kind). ofKind k (c .before .before .before .args .b)) (c .before .enum-told4 .given .1))
 
 pub is-kind-spec : {M : Type 1} → statement M
 is-kind-spec =
@@ -60,13 +51,10 @@ is-kind-spec =
     enum-told-2
     is-digit-requires
     enum-told-3
-    is-octal-requires
-    enum-told-4
     is-sign-requires
-    enum-told-5
+    enum-told-4
     is-text-requires
     returns
     returns-2
     returns-3
-    returns-4
-    returns-5)
+    returns-4)
