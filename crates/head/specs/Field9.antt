@@ -47,7 +47,8 @@ number s = take (lead true s) s
 abbrev pub aircraft : List ℕ → List ℕ
 aircraft s = drop (lead true s) s
 
--- none, or 2 to 99 without leading zero
+-- the count's rule on the digits as sent: none, or 2 to 99 without leading zero. They are the spellings of 1 to 99: `spelled-count` and `count-back`
+-- in proofs/Field9.antt.
 unfoldable pub countFits : Word → Bool
 countFits [] = true
 countFits (a ∷ []) = leb 50 a

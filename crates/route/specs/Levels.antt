@@ -75,7 +75,8 @@ abbrev pub spellUpper : UpperLevel → Word
 spellUpper plus = bytes "PLUS"
 spellUpper (upper l) = spellLevel l
 
--- WHICH WORDS FIT, as shapes: k is K or N, f is F or A, s is S or M, a digit is a number of so many digits
+-- WHICH WORDS FIT, as shapes: k is K or N, f is F or A, s is S or M, a digit is a number of so many digits. They are the spellings of the valid
+-- records: `start`, `change` and `climb` in proofs/Levels.antt.
 
 unfoldable pub speeds : List Word
 speeds = split 32 (bytes "k4 M3")

@@ -1,4 +1,5 @@
--- What stands between `(` or `-` and the next `-` or `)`, reduced by itself. Assumes nothing.
+-- What stands between `(` or `-` and the next `-` or `)`, reduced by itself. A message is reduced as its fields are: `enclosed` in proofs/Fields.antt
+-- and `framed` in proofs/Frame.antt. Assumes nothing.
 use Prim.Native.Nat.{ℕ, _-_, _≤_}
 use mathlib.Core.Path.{_≡_, refl}
 use mathlib.Core.Bool.{Bool, true, cond}
