@@ -1,5 +1,6 @@
 pub mod Turns
 pub mod Orders
+pub mod Counts
 pub mod Canonical
 pub mod Meaning
 pub mod Written

@@ -1,25 +1,23 @@
 -- The canonical record of field 19 says what the record says; so valid records have one canonical record exactly where they say the same.
 -- Assumes nothing.
-use Prim.Native.Nat.{ℕ, zero, suc, _+_, _-_}
+use Prim.Native.Nat.{ℕ}
 use mathlib.Core.Path.{_≡_, refl, sym, ap, ap₂, subst, _∙_}
-use mathlib.Core.Bool.{Bool, true, false, cond, not, false≢true}
+use mathlib.Core.Bool.{Bool, true, false, cond, not}
 use mathlib.Core.List.{List, [], _∷_}
 use mathlib.Core.Option.{Option, none, some}
 use native.Mathlib.Omega.{arith}
 use lib.Dec.{leb, eqb}
 use lib.ListN.{length}
-use borrow.Author.Tests.{eqb-true, eq-eqb}
+use borrow.Author.Tests.{eq-eqb}
 use Rattle.alphabet.specs.Text.{bytes}
-use Rattle.alphabet.specs.Alphabet.{digit, oneOf}
+use Rattle.alphabet.specs.Alphabet.{oneOf}
 use Rattle.text.specs.Words.{Word, join, all, null}
 use Rattle.text.proofs.Tests.{both, and-both, of-one}
-use Rattle.shape.specs.Numbers.{digits, value}
 use Rattle.shape.specs.declared.Elapsed.{Elapsed}
-use Rattle.shape.proofs.Numbers.{digits-value}
-use Rattle.supplement.specs.Field19.{Part, endurance, persons, radio, survival, jackets, dinghies, aircraft, remarks, pilot, Field19}
-use Rattle.supplement.specs.Field19.{count, someOf, radioLetters, survivalLetters, lightLetters, jacketRadioLetters, pairFits}
+use Rattle.supplement.specs.Field19.{Count, Part, endurance, persons, radio, survival, jackets, dinghies, aircraft, remarks, pilot, Field19}
+use Rattle.supplement.specs.Field19.{someOf, radioLetters, survivalLetters, lightLetters, jacketRadioLetters}
 use Rattle.supplement.specs.Field19.{E, place, keyOf, validPart, inOrder, valid19, spelt}
-use Rattle.canonical.specs.Canonical.{sorted, stripped, canonicalPart, canonical19}
+use Rattle.canonical.specs.Canonical.{sorted, shortest, canonicalPart, canonical19}
 use Rattle.canonical.specs.Meaning.{SameLetters, SameCount, SamePart, Same19, same-none, same-more, Keeps}
 use Rattle.canonical.specs.Meaning.{same-endurance, same-persons, same-radio, same-survival, same-lights, same-jackets, same-colours, same-dinghies}
 use Rattle.canonical.specs.Meaning.{same-aircraft, same-remarks, same-pilot}
@@ -66,60 +64,6 @@ sorted-letters set w e = (
     of-set b i true q = refl
     of-set b i false q = sym (absent set b q w (both (leb 1 (length w)) _ e .1)) ∙ i
 
--- COUNTS
-
-value-zero : (w : Word) → value (48 ∷ w) ≡ value w
-value-zero w = omega arith
-
-stripped-value : (w : Word) → value (stripped w) ≡ value w
-stripped-value [] = refl
-stripped-value (b ∷ []) = refl
-stripped-value (b ∷ (c ∷ w)) = go (stripped-value (c ∷ w)) (eqb b 48) refl
-  where
-    go : value (stripped (c ∷ w)) ≡ value (c ∷ w) → (t : Bool) → eqb b 48 ≡ t → value (cond t (stripped (c ∷ w)) (b ∷ (c ∷ w))) ≡ value (b ∷ (c ∷ w))
-    go ih true e = ih ∙ sym (value-zero (c ∷ w)) ∙ ap (λ (n : ℕ). value (n ∷ (c ∷ w))) (sym (eqb-true b 48 e))
-    go ih false e = refl
-
--- with k zeros before it
-abbrev padded : ℕ → Word → Word
-padded zero w = w
-padded (suc k) w = 48 ∷ padded k w
-
-padded-value : (k : ℕ) (w : Word) → value (padded k w) ≡ value w
-padded-value zero w = refl
-padded-value (suc k) w = value-zero (padded k w) ∙ padded-value k w
-
-padded-length : (k : ℕ) (w : Word) → length (padded k w) ≡ k + length w
-padded-length zero w = omega arith
-padded-length (suc k) w = omega (arith, padded-length k w)
-
-padded-digits : (k : ℕ) (w : Word) → all digit w ≡ true → all digit (padded k w) ≡ true
-padded-digits zero w e = e
-padded-digits (suc k) w e = padded-digits k w e
-
-padded-stripped : (k b : ℕ) (w : Word) → stripped (padded k (b ∷ w)) ≡ stripped (b ∷ w)
-padded-stripped zero b w = refl
-padded-stripped (suc zero) b w = refl
-padded-stripped (suc (suc k)) b w = padded-stripped (suc k) b w
-
-count-digits : (most : ℕ) (w : Word) → count most w ≡ true → all digit w ≡ true
-count-digits most w e = both (leb (length w) most) (all digit w) (both (leb 1 (length w)) _ e .1) .1
-
--- digits of one length and one value are the same
-one-count : (v w : Word) → all digit v ≡ true → all digit w ≡ true → length v ≡ length w → SameCount v w → v ≡ w
-one-count v w d e l s = sym (digits-value v d) ∙ ap₂ digits l s ∙ digits-value w e
-
-stripped-together : (most : ℕ) (v w : Word) → count most v ≡ true → count most w ≡ true → SameCount v w → stripped v ≡ stripped w
-stripped-together most [] w d e s = absurd (false≢true d)
-stripped-together most (a ∷ v) [] d e s = absurd (false≢true e)
-stripped-together most (a ∷ v) (b ∷ w) d e s =
-    let k = length w - length v in
-    let l = length v - length w in
-    let long : length (padded k (a ∷ v)) ≡ length (padded l (b ∷ w)) = omega (arith, padded-length k (a ∷ v), padded-length l (b ∷ w)) in
-    let one = one-count (padded k (a ∷ v)) (padded l (b ∷ w)) (padded-digits k (a ∷ v) (count-digits most (a ∷ v) d))
-    (padded-digits l (b ∷ w) (count-digits most (b ∷ w) e)) long (padded-value k (a ∷ v) ∙ s ∙ sym (padded-value l (b ∷ w))) in
-    sym (padded-stripped k a v) ∙ ap stripped one ∙ padded-stripped l b w
-
 -- SAYING THE SAME goes both ways, and on
 
 part-back : {p q : Part} → SamePart p q → SamePart q p
@@ -160,7 +104,7 @@ same-on (same-more a s) (same-more b t) = same-more (part-on a b) (same-on s t)
 
 part-said : (p : Part) → validPart p ≡ true → SamePart p (canonicalPart p)
 part-said (endurance t) v = same-endurance refl
-part-said (persons w) v = same-persons (sym (stripped-value w))
+part-said (persons c) v = same-persons refl
 part-said (radio w) v = same-radio (sorted-letters radioLetters w v)
 part-said (survival w) v = same-survival (sorted-letters survivalLetters w v)
 part-said (jackets w none) v = same-lights (sorted-letters lightLetters w (both (someOf lightLetters w) true v .0))
@@ -168,7 +112,7 @@ part-said (jackets w (some u)) v =
     let h = both (someOf lightLetters w) (someOf jacketRadioLetters u) v in
     same-jackets (sorted-letters lightLetters w (h .0)) (sorted-letters jacketRadioLetters u (h .1))
 part-said (dinghies none c ws) v = same-colours refl refl
-part-said (dinghies (some p) c ws) v = same-dinghies (sym (stripped-value (p .0))) (sym (stripped-value (p .1))) refl refl
+part-said (dinghies (some p) c ws) v = same-dinghies refl refl refl refl
 part-said (aircraft ws) v = same-aircraft refl
 part-said (remarks ws) v = same-remarks refl
 part-said (pilot ws) v = same-pilot refl
@@ -188,9 +132,12 @@ canonical-said r v = parts-said r (valid-parts r v)
 
 -- ONE CANONICAL RECORD of records that say the same
 
+shortest-together : (c d : Count) → SameCount c d → shortest c ≡ shortest d
+shortest-together c d e = ap (λ (n : ℕ). shortest (record { number = n; width = 0 })) e
+
 part-together : {p q : Part} → SamePart p q → validPart p ≡ true → validPart q ≡ true → canonicalPart p ≡ canonicalPart q
 part-together (same-endurance e) v w = ap endurance e
-part-together (same-persons {v = x} {w = y} e) v w = ap persons (stripped-together 3 x y v w e)
+part-together (same-persons {c} {d} e) v w = ap persons (shortest-together c d e)
 part-together (same-radio {v = x} {w = y} a) v w = ap radio (sorted-together radioLetters x y a)
 part-together (same-survival {v = x} {w = y} a) v w = ap survival (sorted-together survivalLetters x y a)
 part-together (same-lights {v = x} {w = y} a) v w = ap (λ (l : Word). jackets l none) (sorted-together lightLetters x y a)
@@ -198,11 +145,8 @@ part-together (same-jackets {v = k} {w = l} {x} {y} a b) v w =
     ap₂ (λ (lights radios : Word). jackets lights (some radios)) (sorted-together lightLetters k l a) (sorted-together jacketRadioLetters x y b)
 part-together (same-colours c e) v w = ap₂ (λ (x : Bool) (y : List Word). dinghies none x y) c e
 part-together (same-dinghies {p} {q} {c} {d} {vs} {ws} m n i e) v w =
-    let g = both (count 2 (p .0)) (count 3 (p .1)) (both (pairFits p) _ v .0) in
-    let h = both (count 2 (q .0)) (count 3 (q .1)) (both (pairFits q) _ w .0) in
-    ap₂ (λ (x y : Word). dinghies (some (x, y)) c vs)
-    (stripped-together 2 (p .0) (q .0) (g .0) (h .0) m) (stripped-together 3 (p .1) (q .1) (g .1) (h .1) n)
-    ∙ ap₂ (λ (x : Bool) (y : List Word). dinghies (some (stripped (q .0), stripped (q .1))) x y) i e
+    ap₂ (λ (x y : Count). dinghies (some (x, y)) c vs) (shortest-together (p .0) (q .0) m) (shortest-together (p .1) (q .1) n)
+    ∙ ap₂ (λ (x : Bool) (y : List Word). dinghies (some (shortest (q .0), shortest (q .1))) x y) i e
 part-together (same-aircraft e) v w = ap aircraft e
 part-together (same-remarks e) v w = ap remarks e
 part-together (same-pilot e) v w = ap pilot e
@@ -233,6 +177,10 @@ lasting minutes = endurance (record { 0 = minutes }) ∷ []
 abbrev coloured : Word → Field19
 coloured w = dinghies none false (w ∷ []) ∷ []
 
+-- six persons, in so many digits
+abbrev carrying : ℕ → Field19
+carrying k = persons (record { number = 6; width = k }) ∷ []
+
 -- a canonical record that forgets the elapsed time
 pub timeless : (f : Field19 → Field19) → ((t u : Elapsed) (ps : Field19) → f (endurance t ∷ ps) ≡ f (endurance u ∷ ps)) → Keeps f → ⊥
 unfolding valid19
@@ -251,7 +199,7 @@ untimed-refused = timeless untimed (λ t u ps. refl)
 
 -- one that forgets the colours
 pub colourless : (f : Field19 → Field19)
-    → ((o : Option (Word × Word)) (c : Bool) (vs ws : List Word) (ps : Field19) → f (dinghies o c vs ∷ ps) ≡ f (dinghies o c ws ∷ ps)) → Keeps f → ⊥
+    → ((o : Option (Count × Count)) (c : Bool) (vs ws : List Word) (ps : Field19) → f (dinghies o c vs ∷ ps) ≡ f (dinghies o c ws ∷ ps)) → Keeps f → ⊥
 unfolding valid19
 colourless f forgets keeps =
     told (keeps .apart (coloured (bytes "RED")) (coloured (bytes "BLUE")) refl refl (forgets none false (bytes "RED" ∷ []) (bytes "BLUE" ∷ []) []))
@@ -263,6 +211,6 @@ colourless f forgets keeps =
 pub unchanged : Keeps (λ r. r) → ⊥
 unfolding valid19
 unchanged keeps =
-    let e = keeps .together (persons (bytes "006") ∷ []) (persons (bytes "6") ∷ []) refl refl (same-more (same-persons refl) same-none) in
+    let e = keeps .together (carrying 3) (carrying 1) refl refl (same-more (same-persons refl) same-none) in
     let l = ap (λ (r : Field19). length (join 32 (spelt r))) e in
     omega arith

@@ -1,5 +1,4 @@
--- Letters put in the order of their set, and counts without leading zeros: both stay what they are allowed to be, are settled, and are no longer.
--- Assumes nothing.
+-- Letters put in the order of their set: they stay what they are allowed to be, are settled, and are no longer. Assumes nothing.
 use Prim.Native.Nat.{ℕ, suc, _≤_}
 use mathlib.Core.Path.{_≡_, refl, sym, ap, _∙_}
 use mathlib.Core.Bool.{Bool, true, false, cond, _&&_, not, false≢true}
@@ -7,12 +6,12 @@ use mathlib.Core.List.{List, [], _∷_}
 use native.Mathlib.Omega.{arith}
 use lib.Dec.{leb, eqb}
 use lib.ListN.{length}
-use borrow.Author.Tests.{not-true, eqb-true, eqb-false, eq-eqb, ne-eqb, leb-true, le-leb}
-use Rattle.alphabet.specs.Alphabet.{digit, oneOf}
+use borrow.Author.Tests.{not-true, eqb-true, eqb-false, eq-eqb, ne-eqb, le-leb}
+use Rattle.alphabet.specs.Alphabet.{oneOf}
 use Rattle.text.specs.Words.{Word, all}
 use Rattle.text.proofs.Tests.{both, and-both, and-false}
-use Rattle.supplement.specs.Field19.{count, lettersFit, someOf}
-use Rattle.canonical.specs.Canonical.{sorted, stripped}
+use Rattle.supplement.specs.Field19.{lettersFit, someOf}
+use Rattle.canonical.specs.Canonical.{sorted}
 
 -- LETTERS
 
@@ -138,50 +137,3 @@ sorted-more set (x ∷ xs) b w a = go (sorted-more set xs b w (g .1)) (eqb b x) 
 pub sorted-shorter : (set : List ℕ) → lettersFit set set ≡ true → (w : Word) → length (sorted set w) ≤ length w
 sorted-shorter set a [] = omega (arith, ap length (sorted-none set))
 sorted-shorter set a (b ∷ w) = let h = sorted-shorter set a w in omega (arith, sorted-more set set b w a)
-
--- COUNTS
-
-pub stripped-settled : (w : Word) → stripped (stripped w) ≡ stripped w
-stripped-settled [] = refl
-stripped-settled (b ∷ []) = refl
-stripped-settled (b ∷ (c ∷ w)) = go (stripped-settled (c ∷ w)) (eqb b 48) refl
-  where
-    go : stripped (stripped (c ∷ w)) ≡ stripped (c ∷ w)
-        → (t : Bool) → eqb b 48 ≡ t → stripped (cond t (stripped (c ∷ w)) (b ∷ (c ∷ w))) ≡ cond t (stripped (c ∷ w)) (b ∷ (c ∷ w))
-    go ih true e = ih
-    go ih false e = rw e
-
-pub stripped-shorter : (w : Word) → length (stripped w) ≤ length w
-stripped-shorter [] = omega arith
-stripped-shorter (b ∷ []) = omega arith
-stripped-shorter (b ∷ (c ∷ w)) = go (stripped-shorter (c ∷ w)) (eqb b 48)
-  where
-    go : length (stripped (c ∷ w)) ≤ length (c ∷ w) → (t : Bool) → length (cond t (stripped (c ∷ w)) (b ∷ (c ∷ w))) ≤ length (b ∷ (c ∷ w))
-    go ih true = omega arith
-    go ih false = omega arith
-
-stripped-some : (b : ℕ) (w : Word) → leb 1 (length (stripped (b ∷ w))) ≡ true
-stripped-some b [] = refl
-stripped-some b (c ∷ w) = go (stripped-some c w) (eqb b 48)
-  where
-    go : leb 1 (length (stripped (c ∷ w))) ≡ true → (t : Bool) → leb 1 (length (cond t (stripped (c ∷ w)) (b ∷ (c ∷ w)))) ≡ true
-    go ih true = ih
-    go ih false = le-leb 1 (length (b ∷ (c ∷ w))) (omega arith)
-
-stripped-digits : (w : Word) → all digit w ≡ true → all digit (stripped w) ≡ true
-stripped-digits [] e = refl
-stripped-digits (b ∷ []) e = e
-stripped-digits (b ∷ (c ∷ w)) e = go (stripped-digits (c ∷ w) (both (digit b) (all digit (c ∷ w)) e .1)) (eqb b 48)
-  where
-    go : all digit (stripped (c ∷ w)) ≡ true → (t : Bool) → all digit (cond t (stripped (c ∷ w)) (b ∷ (c ∷ w))) ≡ true
-    go ih true = ih
-    go ih false = e
-
-pub stripped-count : (most : ℕ) (w : Word) → count most w ≡ true → count most (stripped w) ≡ true
-stripped-count most [] e = absurd (false≢true e)
-stripped-count most (b ∷ w) e =
-    let h = both (leb (length (b ∷ w)) most) (all digit (b ∷ w)) (both (leb 1 (length (b ∷ w))) _ e .1) in
-    let l = leb-true (length (b ∷ w)) most (h .0) in
-    let m = stripped-shorter (b ∷ w) in
-    and-both (leb 1 (length (stripped (b ∷ w)))) _ (stripped-some b w)
-    (and-both (leb (length (stripped (b ∷ w))) most) _ (le-leb (length (stripped (b ∷ w))) most (omega arith)) (stripped-digits (b ∷ w) (h .1)))

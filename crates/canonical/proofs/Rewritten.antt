@@ -3,6 +3,7 @@ use Prim.Native.Nat.{ℕ, suc}
 use mathlib.Core.Path.{_≡_, refl, sym, ap, ap₂, _∙_}
 use mathlib.Core.Bool.{Bool, true, false, cond, false≢true}
 use mathlib.Core.List.{List, [], _∷_, _++_, append-assoc}
+use native.Mathlib.Omega.{arith}
 use lib.Dec.{ltb, eqb, leb·suc-suc}
 use lib.ListN.{length, take, drop}
 use borrow.Author.Tests.{eqb-true}
@@ -15,15 +16,17 @@ use Rattle.supplement.specs.declared.Stage.{Stage}
 use Rattle.supplement.specs.declared.Stage.the-variants.{Start, Endurance, Persons, Radio, Survival, Lights, JacketRadio, Number, Capacity, Colours}
 use Rattle.supplement.specs.declared.Stage.the-variants.{Aircraft, Remarks, Pilot, Refused}
 use Rattle.supplement.specs.Field19.{keyed, spellKey, place, keyOf, count, someOf, colour, radioLetters, survivalLetters, lightLetters}
+use Rattle.supplement.specs.Field19.{personsDigits, numberDigits, capacityDigits}
 use Rattle.supplement.specs.Field19.{jacketRadioLetters, cover, wordsOf, opened, spelt, spell19, Item, Groups, put, group, afterPair, afterCover}
 use Rattle.supplement.specs.Field19.{itemFits, fits19, partOf, partsOf, record19}
-use Rattle.canonical.specs.Canonical.{sorted, stripped, canonicalPart, canonical19, written19}
+use Rattle.canonical.specs.Canonical.{sorted, canonicalPart, canonical19, written19}
 use Rattle.supplement.specs.Walk.{past, shaded, first, further, opens, step}
-use Rattle.canonical.specs.Rewriting.{letters, changed, rewrite, rewritten, rewrittenText}
+use Rattle.canonical.specs.Rewriting.{letters, stripped, changed, rewrite, rewritten, rewrittenText}
 use Rattle.supplement.proofs.Walk.{goes, first-go, step-go, no-colours}
 use Rattle.supplement.proofs.Parts.{part-read, cover-words}
 use Rattle.supplement.proofs.Items.{key-spelled, above}
 use Rattle.canonical.proofs.Orders.{sorted-by}
+use Rattle.canonical.proofs.Counts.{stripped-shortest}
 use Rattle.canonical.proofs.Canonical.{canonical-key}
 use Rattle.canonical.proofs.Written.{written-fits}
 
@@ -95,7 +98,7 @@ module _ (w : Word) (l : List Word) (is : List Item) where
       others-same (v ∷ l) = refl
   further-kept JacketRadio e = absurd (false≢true e)
   further-kept Number e =
-      tested (count 3 w) Capacity (l, is) (Writes w l (stripped w ∷ l)) e (λ f. ap (λ (k : List Word). stripped w ∷ k) (others-same l))
+      tested (count capacityDigits w) Capacity (l, is) (Writes w l (stripped w ∷ l)) e (λ f. ap (λ (k : List Word). stripped w ∷ k) (others-same l))
     where
       others-same : (l : List Word) → others Capacity l ≡ l
       others-same [] = refl
@@ -120,7 +123,7 @@ abbrev canonicalWords : Key → List Word → List Word
 canonicalWords k ws = wordsOf (canonicalPart (partOf k ws))
 
 -- without a pair
-plain-dinghies : (w : Word) (l : List Word) → count 2 w ≡ false → all colour (afterCover (afterPair (w ∷ l))) ≡ true
+plain-dinghies : (w : Word) (l : List Word) → count numberDigits w ≡ false → all colour (afterCover (afterPair (w ∷ l))) ≡ true
     → Writes w l (canonicalWords D (w ∷ l)) (first D w)
 plain-dinghies w [] q e = rw (q, shaded-colours w [] e) (sym (cover-words (w ∷ [])))
 plain-dinghies w (v ∷ l) q e =
@@ -128,21 +131,24 @@ plain-dinghies w (v ∷ l) q e =
     rw (q, shaded-colours w (v ∷ l) f) (sym (cover-words (w ∷ (v ∷ l))))
 
 -- with one
-paired-dinghies : (w : Word) (l : List Word) → count 2 w ≡ true → all colour (afterCover (afterPair (w ∷ l))) ≡ true
+paired-dinghies : (w : Word) (l : List Word) → count numberDigits w ≡ true → all colour (afterCover (afterPair (w ∷ l))) ≡ true
     → Writes w l (canonicalWords D (w ∷ l)) (first D w)
 paired-dinghies w [] q e = absurd (false≢true (sym (no-colours w [] q) ∙ e))
-paired-dinghies w (v ∷ l) q e = go (count 3 v) refl
+paired-dinghies w (v ∷ l) q e = go (count capacityDigits v) refl
   where
-    go : (b : Bool) → count 3 v ≡ b → Writes w (v ∷ l) (canonicalWords D (w ∷ (v ∷ l))) (first D w)
-    go true r = rw (q, r) (ap (λ (k : List Word). stripped w ∷ (stripped v ∷ k)) (sym (cover-words l)))
+    go : (b : Bool) → count capacityDigits v ≡ b → Writes w (v ∷ l) (canonicalWords D (w ∷ (v ∷ l))) (first D w)
+    go true r =
+        rw (q, r)
+        (ap₂ (λ (x : Word) (k : List Word). x ∷ k) (stripped-shortest numberDigits (omega arith) w q)
+        (ap₂ (λ (y : Word) (k : List Word). y ∷ k) (stripped-shortest capacityDigits (omega arith) v r) (sym (cover-words l))))
     go false r =
         let f : all colour (afterCover (w ∷ (v ∷ l))) ≡ true = rw (q, r) at e in
         absurd (false≢true (sym (no-colours w (v ∷ l) q) ∙ f))
 
 dinghies-kept : (w : Word) (l : List Word) → all colour (afterCover (afterPair (w ∷ l))) ≡ true → Writes w l (canonicalWords D (w ∷ l)) (first D w)
-dinghies-kept w l e = go (count 2 w) refl
+dinghies-kept w l e = go (count numberDigits w) refl
   where
-    go : (b : Bool) → count 2 w ≡ b → Writes w l (canonicalWords D (w ∷ l)) (first D w)
+    go : (b : Bool) → count numberDigits w ≡ b → Writes w l (canonicalWords D (w ∷ l)) (first D w)
     go true q = paired-dinghies w l q e
     go false q = plain-dinghies w l q e
 
@@ -150,7 +156,9 @@ first-kept : (k : Key) (w : Word) (l : List Word) → itemFits k (w ∷ l) ≡ t
 first-kept E w [] e =
     chosen (elapsedFits w) Endurance (Writes w [] (canonicalWords E (w ∷ []))) e (ap (λ (v : Word). v ∷ []) (sym (time-exact elapsedHours w e)))
 first-kept E w (v ∷ l) e = absurd (false≢true e)
-first-kept P w [] e = chosen (count 3 w) Persons (Writes w [] (canonicalWords P (w ∷ []))) e refl
+first-kept P w [] e =
+    chosen (count personsDigits w) Persons (Writes w [] (canonicalWords P (w ∷ []))) e
+    (ap (λ (v : Word). v ∷ []) (stripped-shortest personsDigits (omega arith) w e))
 first-kept P w (v ∷ l) e = absurd (false≢true e)
 first-kept R w [] e =
     chosen (someOf radioLetters w) Radio (Writes w [] (canonicalWords R (w ∷ []))) e (ap (λ (v : Word). v ∷ []) (sorted-by letters radioLetters refl w e))

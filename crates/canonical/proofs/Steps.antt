@@ -15,9 +15,10 @@ use Rattle.supplement.specs.declared.Stage.{Stage}
 use Rattle.supplement.specs.declared.Stage.the-variants.{Start, Endurance, Persons, Radio, Survival, Lights, JacketRadio, Number, Capacity, Colours}
 use Rattle.supplement.specs.declared.Stage.the-variants.{Aircraft, Remarks, Pilot, Refused}
 use Rattle.supplement.proofs.Stages.{number, each, among}
-use Rattle.canonical.specs.Canonical.{sorted, stripped}
-use Rattle.canonical.specs.Rewriting.{letters, changed, lead, rewrite}
-use Rattle.canonical.proofs.Orders.{sorted-shorter, stripped-shorter}
+use Rattle.canonical.specs.Canonical.{sorted}
+use Rattle.canonical.specs.Rewriting.{letters, stripped, changed, lead, rewrite}
+use Rattle.canonical.proofs.Orders.{sorted-shorter}
+use Rattle.canonical.proofs.Counts.{stripped-shorter}
 
 -- LETTERS OF A SET that stand in a word
 

@@ -2,30 +2,33 @@
 -- Assumes nothing.
 use Prim.Native.Nat.{ℕ}
 use mathlib.Core.Path.{_≡_, refl}
-use mathlib.Core.Bool.{cond}
+use mathlib.Core.Bool.{true, cond}
 use mathlib.Core.List.{List, [], _∷_}
 use mathlib.Core.Option.{Option, none, some}
-use lib.Dec.{eqb}
+use lib.Dec.{ltb}
 use Rattle.alphabet.specs.Text.{bytes}
 use Rattle.alphabet.specs.Alphabet.{text, oneOf, inAlphabet, white}
 use Rattle.text.specs.Words.{Word}
 use Rattle.shape.specs.Time.{timeFits}
 use Rattle.shape.specs.Field.{Field}
-use Rattle.supplement.specs.Field19.{Part, endurance, persons, radio, survival, jackets, dinghies, aircraft, remarks, pilot, Field19, keyed}
+use Rattle.supplement.specs.Field19.{Count, Part, endurance, persons, radio, survival, jackets, dinghies, aircraft, remarks, pilot, Field19, keyed}
 use Rattle.supplement.specs.Field19.{radioLetters, survivalLetters, lightLetters, jacketRadioLetters, valid19, spell19, fits19, record19, manual}
 
--- WORDS
+-- LETTERS
 
 -- the letters of the set that stand in w
 abbrev pub sorted : List ℕ → Word → Word
 sorted [] w = []
 sorted (b ∷ set) w = cond (oneOf b w) (b ∷ sorted set w) (sorted set w)
 
--- without leading zeros; zero is one 0
-abbrev pub stripped : Word → Word
-stripped [] = []
-stripped (b ∷ []) = b ∷ []
-stripped (b ∷ (c ∷ w)) = cond (eqb b 48) (stripped (c ∷ w)) (b ∷ (c ∷ w))
+-- COUNTS: without leading zeros; zero is one digit
+
+-- the fewest digits of a number below 1000
+abbrev pub fewest : ℕ → ℕ
+fewest n = cond (ltb n 10) 1 (cond (ltb n 100) 2 3)
+
+abbrev pub shortest : Count → Count
+shortest c = record { number = c .number; width = fewest (c .number) }
 
 -- THE RECORD
 
@@ -33,17 +36,17 @@ abbrev pub sortedIf : Option Word → Option Word
 sortedIf none = none
 sortedIf (some w) = some (sorted jacketRadioLetters w)
 
-abbrev pub strippedIf : Option (Word × Word) → Option (Word × Word)
-strippedIf none = none
-strippedIf (some p) = some (stripped (p .0), stripped (p .1))
+abbrev pub shortestIf : Option (Count × Count) → Option (Count × Count)
+shortestIf none = none
+shortestIf (some p) = some (shortest (p .0), shortest (p .1))
 
 abbrev pub canonicalPart : Part → Part
 canonicalPart (endurance t) = endurance t
-canonicalPart (persons w) = persons (stripped w)
+canonicalPart (persons c) = persons (shortest c)
 canonicalPart (radio w) = radio (sorted radioLetters w)
 canonicalPart (survival w) = survival (sorted survivalLetters w)
 canonicalPart (jackets w o) = jackets (sorted lightLetters w) (sortedIf o)
-canonicalPart (dinghies o c ws) = dinghies (strippedIf o) c ws
+canonicalPart (dinghies o c ws) = dinghies (shortestIf o) c ws
 canonicalPart (aircraft ws) = aircraft ws
 canonicalPart (remarks ws) = remarks ws
 canonicalPart (pilot ws) = pilot ws
@@ -79,6 +82,16 @@ counted : (written19 (bytes "P/006") ≡ bytes "P/6") × (written19 (bytes "P/00
     × (written19 (bytes "D/02 014 C ORANGE") ≡ bytes "D/2 14 C ORANGE")
 unfolding written19 spell19 fits19 record19 keyed timeFits text inAlphabet white
 counted = (refl, refl, refl)
+
+-- the records of two of these
+recorded : (canonical19 (record19 (bytes "P/006")) ≡ persons (record { number = 6; width = 1 }) ∷ [])
+    × (canonical19 (record19 (bytes "D/02 014 C ORANGE"))
+    ≡ dinghies (some (record { number = 2; width = 1 }, record { number = 14; width = 2 })) true (bytes "ORANGE" ∷ []) ∷ [])
+unfolding record19 keyed
+recorded = (refl, refl)
+
+fewest-digits : (fewest 0 ≡ 1) × (fewest 9 ≡ 1) × (fewest 10 ≡ 2) × (fewest 99 ≡ 2) × (fewest 100 ≡ 3)
+fewest-digits = (refl, refl, refl, refl, refl)
 
 lettered : (written19 (bytes "R/EVU") ≡ bytes "R/UVE") × (written19 (bytes "J/FL VU") ≡ bytes "J/LF UV")
 unfolding written19 spell19 fits19 record19 keyed timeFits text inAlphabet white

@@ -1,4 +1,4 @@
--- When two records of field 19 say the same (document 01, "19."): the same items; of a count its value counts, of a letter set its letters, of all else
+-- When two records of field 19 say the same (document 01, "19."): the same items; of a count its number counts, of a letter set its letters, of all else
 -- what was sent. The canonical record is not named here. Assumes nothing.
 use Prim.Native.Nat.{ℕ}
 use mathlib.Core.Path.{_≡_, refl, ap}
@@ -9,21 +9,20 @@ use native.Mathlib.Omega.{arith}
 use Rattle.alphabet.specs.Text.{bytes}
 use Rattle.alphabet.specs.Alphabet.{oneOf}
 use Rattle.text.specs.Words.{Word, all}
-use Rattle.shape.specs.Numbers.{value}
 use Rattle.shape.specs.declared.Elapsed.{Elapsed}
-use Rattle.supplement.specs.Field19.{Part, endurance, persons, radio, survival, jackets, dinghies, aircraft, remarks, pilot, Field19}
+use Rattle.supplement.specs.Field19.{Count, Part, endurance, persons, radio, survival, jackets, dinghies, aircraft, remarks, pilot, Field19}
 use Rattle.supplement.specs.Field19.{keyed, valid19, record19}
 
 -- each letter of one is one of the other
 abbrev pub SameLetters : Word → Word → Type 0
 SameLetters v w = (all (λ b. oneOf b w) v ≡ true) × (all (λ b. oneOf b v) w ≡ true)
 
-abbrev pub SameCount : Word → Word → Type 0
-SameCount v w = value v ≡ value w
+abbrev pub SameCount : Count → Count → Type 0
+SameCount c d = c .number ≡ d .number
 
 pub data SamePart : Part → Part → Type 0 where
   same-endurance : {t u : Elapsed} → t ≡ u → SamePart (endurance t) (endurance u)
-  same-persons : {v w : Word} → SameCount v w → SamePart (persons v) (persons w)
+  same-persons : {c d : Count} → SameCount c d → SamePart (persons c) (persons d)
   same-radio : {v w : Word} → SameLetters v w → SamePart (radio v) (radio w)
   same-survival : {v w : Word} → SameLetters v w → SamePart (survival v) (survival w)
   -- life jackets, without radio and with it
@@ -31,7 +30,7 @@ pub data SamePart : Part → Part → Type 0 where
   same-jackets : {v w x y : Word} → SameLetters v w → SameLetters x y → SamePart (jackets v (some x)) (jackets w (some y))
   -- dinghies, without number and capacity and with them
   same-colours : {c d : Bool} {vs ws : List Word} → c ≡ d → vs ≡ ws → SamePart (dinghies none c vs) (dinghies none d ws)
-  same-dinghies : {p q : Word × Word} {c d : Bool} {vs ws : List Word} → SameCount (p .0) (q .0) → SameCount (p .1) (q .1) → c ≡ d → vs ≡ ws
+  same-dinghies : {p q : Count × Count} {c d : Bool} {vs ws : List Word} → SameCount (p .0) (q .0) → SameCount (p .1) (q .1) → c ≡ d → vs ≡ ws
       → SamePart (dinghies (some p) c vs) (dinghies (some q) d ws)
   same-aircraft : {vs ws : List Word} → vs ≡ ws → SamePart (aircraft vs) (aircraft ws)
   same-remarks : {vs ws : List Word} → vs ≡ ws → SamePart (remarks vs) (remarks ws)

@@ -2,6 +2,7 @@
 use Prim.Native.Nat.{ℕ, suc}
 use mathlib.Core.Bool.{cond}
 use mathlib.Core.List.{List, [], _∷_, _++_}
+use lib.Dec.{eqb}
 use lib.ListN.{take, drop}
 use Rattle.alphabet.specs.Text.{bytes}
 use Rattle.text.specs.Words.{Word, split, join, upTo, holds}
@@ -9,11 +10,17 @@ use Rattle.supplement.specs.declared.Stage.{Stage}
 use Rattle.supplement.specs.declared.Stage.the-variants.{Start, Endurance, Persons, Radio, Survival, Lights, JacketRadio, Number, Capacity, Colours}
 use Rattle.supplement.specs.declared.Stage.the-variants.{Aircraft, Remarks, Pilot, Refused}
 use Rattle.supplement.specs.Walk.{step}
-use Rattle.canonical.specs.Canonical.{sorted, stripped}
+use Rattle.canonical.specs.Canonical.{sorted}
 
 -- the letters of every set, each set's in its order: of a word that fits, those of its own set alone are in it
 abbrev pub letters : List ℕ
 letters = bytes "UVEPDMJLF"
+
+-- a count's digits without leading zeros; zero is one 0: the word of its `shortest` (`stripped-shortest` in proofs/Counts.antt)
+abbrev pub stripped : Word → Word
+stripped [] = []
+stripped (b ∷ []) = b ∷ []
+stripped (b ∷ (c ∷ w)) = cond (eqb b 48) (stripped (c ∷ w)) (b ∷ (c ∷ w))
 
 -- a word, or what of it stands behind an oblique
 abbrev pub changed : Stage → Word → Word

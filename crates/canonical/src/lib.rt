@@ -3,8 +3,8 @@ ghost use mathlib.Core.Path.{_≡_};
 ghost use Prim.Native.Nat.{_≤_};
 ghost use lib.ListN.{length, drop};
 ghost use Rattle.text.specs.Lent.{front};
-ghost use Rattle.canonical.specs.Canonical.{sorted, stripped, written19};
-ghost use Rattle.canonical.specs.Rewriting.{changed, lead as leadOf, rewrite, rewrittenText};
+ghost use Rattle.canonical.specs.Canonical.{sorted, written19};
+ghost use Rattle.canonical.specs.Rewriting.{stripped, changed, lead as leadOf, rewrite, rewrittenText};
 use supplement::Stage;
 
 // How many leading zeros of w are left off: all but the last byte at most.

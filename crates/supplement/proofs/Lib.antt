@@ -1,6 +1,7 @@
 pub mod Steps
 pub mod Walk
 pub mod Words
+pub mod Counts
 pub mod Parts
 pub mod Items
 pub mod Exact

@@ -13,6 +13,7 @@ use Rattle.supplement.specs.declared.Stage.{Stage}
 use Rattle.supplement.specs.declared.Stage.the-variants.{Start, Endurance, Persons, Radio, Survival, Lights, JacketRadio, Number, Capacity, Colours}
 use Rattle.supplement.specs.declared.Stage.the-variants.{Aircraft, Remarks, Pilot, Refused}
 use Rattle.supplement.specs.Field19.{keyed, place, count, someOf, colour, radioLetters, survivalLetters, lightLetters, jacketRadioLetters}
+use Rattle.supplement.specs.Field19.{personsDigits, numberDigits, capacityDigits}
 use Rattle.supplement.specs.Field19.{cover, Item, Groups, put, group, one, afterPair, afterCover, itemFits, itemsFit, groupsFit, fits19}
 use Rattle.supplement.proofs.Words.{no-shade}
 use Rattle.supplement.specs.Walk.{complete, shaded, first, further, opens, step, walked}
@@ -20,7 +21,7 @@ use Rattle.supplement.specs.Walk.{complete, shaded, first, further, open
 -- what may follow a stage: words of its item, and the items behind it
 abbrev pub capacity : List Word → Bool
 capacity [] = false
-capacity (w ∷ ws) = count 3 w && all colour (afterCover ws)
+capacity (w ∷ ws) = count capacityDigits w && all colour (afterCover ws)
 
 abbrev pub goes : Stage → Groups → Bool
 goes Start g = groupsFit g
@@ -71,7 +72,7 @@ further-go Lights w (v ∷ l) is = go (someOf jacketRadioLetters w)
     go true = refl
     go false = refl
 further-go JacketRadio w l is = refl
-further-go Number w l is = go (count 3 w)
+further-go Number w l is = go (count capacityDigits w)
   where
     go : (b : Bool) → goes (cond b Capacity Refused) (l, is) ≡ ((b && all colour (afterCover l)) && itemsFit 6 is)
     go true = refl
@@ -120,30 +121,30 @@ texts-go stage n f w l is = go (textWord w)
     go true = f (l, is)
     go false = refl
 
-pub no-colours : (w : Word) (l : List Word) → count 2 w ≡ true → all colour (afterCover (w ∷ l)) ≡ false
-no-colours w l e = let h = no-shade 2 w e in rw (h .0, h .1)
+pub no-colours : (w : Word) (l : List Word) → count numberDigits w ≡ true → all colour (afterCover (w ∷ l)) ≡ false
+no-colours w l e = let h = no-shade numberDigits w e in rw (h .0, h .1)
 
 dinghies-go : (w : Word) (l : List Word) (is : List Item) → goes (first D w) (l, is) ≡ (all colour (afterCover (afterPair (w ∷ l))) && itemsFit 6 is)
-dinghies-go w [] is = go (count 2 w) refl
+dinghies-go w [] is = go (count numberDigits w) refl
   where
-    go : (b : Bool) → count 2 w ≡ b → goes (cond b Number (shaded w)) ([], is) ≡ (all colour (afterCover (w ∷ [])) && itemsFit 6 is)
+    go : (b : Bool) → count numberDigits w ≡ b → goes (cond b Number (shaded w)) ([], is) ≡ (all colour (afterCover (w ∷ [])) && itemsFit 6 is)
     go true e = rw (no-colours w [] e)
     go false e = shaded-go w [] is
-dinghies-go w (v ∷ l) is = go (count 2 w) refl
+dinghies-go w (v ∷ l) is = go (count numberDigits w) refl
   where
-    paired : count 2 w ≡ true → (c : Bool)
+    paired : count numberDigits w ≡ true → (c : Bool)
         → ((c && all colour (afterCover l)) && itemsFit 6 is) ≡ (all colour (afterCover (cond c l (w ∷ (v ∷ l)))) && itemsFit 6 is)
     paired e true = refl
     paired e false = rw (no-colours w (v ∷ l) e)
 
-    go : (b : Bool) → count 2 w ≡ b
-        → goes (cond b Number (shaded w)) (v ∷ l, is) ≡ (all colour (afterCover (cond (b && count 3 v) l (w ∷ (v ∷ l)))) && itemsFit 6 is)
-    go true e = paired e (count 3 v)
+    go : (b : Bool) → count numberDigits w ≡ b
+        → goes (cond b Number (shaded w)) (v ∷ l, is) ≡ (all colour (afterCover (cond (b && count capacityDigits v) l (w ∷ (v ∷ l)))) && itemsFit 6 is)
+    go true e = paired e (count capacityDigits v)
     go false e = shaded-go w (v ∷ l) is
 
 pub first-go : (k : Key) (w : Word) (l : List Word) (is : List Item) → goes (first k w) (l, is) ≡ (itemFits k (w ∷ l) && itemsFit (place k) is)
 first-go E w l is = one-go Endurance 1 (λ g. refl) elapsedFits w l is
-first-go P w l is = one-go Persons 2 (λ g. refl) (count 3) w l is
+first-go P w l is = one-go Persons 2 (λ g. refl) (count personsDigits) w l is
 first-go R w l is = one-go Radio 3 (λ g. refl) (someOf radioLetters) w l is
 first-go S w l is = one-go Survival 4 (λ g. refl) (someOf survivalLetters) w l is
 first-go J w l is = go (someOf lightLetters w)

@@ -1,5 +1,5 @@
 -- Field 19, supplementary information (document 01, "19."): items of words, read as sent. Assumes nothing.
-use Prim.Native.Nat.{ℕ}
+use Prim.Native.Nat.{ℕ, _^_}
 use mathlib.Core.Path.{_≡_, refl}
 use mathlib.Core.Bool.{Bool, true, false, _&&_, _||_, not, cond}
 use mathlib.Core.List.{List, [], _∷_, _++_}
@@ -9,6 +9,7 @@ use lib.ListN.{length}
 use Rattle.alphabet.specs.Text.{bytes}
 use Rattle.alphabet.specs.Alphabet.{letter, digit, text, oneOf, inAlphabet, white}
 use Rattle.text.specs.Words.{Word, split, join, holds, before, behind, all, null, same, textWord}
+use Rattle.shape.specs.Numbers.{digits, value}
 use Rattle.shape.specs.Time.{timeFits, elapsedFits, elapsedOf, spellElapsed, validElapsed}
 use Rattle.shape.specs.declared.Elapsed.{Elapsed}
 
@@ -65,16 +66,21 @@ place A = 7
 place N = 8
 place C = 9
 
--- THE RECORD, as sent: one or more parts, letters in the order sent, counts as their digits
+-- THE RECORD, as sent: one or more parts, letters in the order sent, counts in the digits sent
+
+-- a number, and in how many digits it was sent
+pub record Count : Type 0 where
+  pub number : ℕ
+  pub width : ℕ
 
 pub data Part : Type 0 where
   endurance : Elapsed → Part
-  persons : (count : Word) → Part
+  persons : Count → Part
   radio : (letters : Word) → Part
   survival : (letters : Word) → Part
   jackets : (lights : Word) (radios : Option Word) → Part
   -- the pair is the number and the capacity
-  dinghies : (pair : Option (Word × Word)) (cover : Bool) (colours : List Word) → Part
+  dinghies : (pair : Option (Count × Count)) (cover : Bool) (colours : List Word) → Part
   aircraft : (texts : List Word) → Part
   remarks : (texts : List Word) → Part
   pilot : (texts : List Word) → Part
@@ -84,7 +90,7 @@ Field19 = List Part
 
 abbrev pub keyOf : Part → Key
 keyOf (endurance t) = E
-keyOf (persons w) = P
+keyOf (persons c) = P
 keyOf (radio w) = R
 keyOf (survival w) = S
 keyOf (jackets w o) = J
@@ -93,11 +99,34 @@ keyOf (aircraft ws) = A
 keyOf (remarks ws) = N
 keyOf (pilot ws) = C
 
--- WHAT A WORD MAY BE
+-- COUNTS AND THEIR WORDS
 
 -- at least one digit and at most so many
 abbrev pub count : ℕ → Word → Bool
 count most w = leb 1 (length w) && (leb (length w) most && all digit w)
+
+abbrev pub countOfWord : Word → Count
+countOfWord w = record { number = value w; width = length w }
+
+abbrev pub wordOfCount : Count → Word
+wordOfCount c = digits (c .width) (c .number)
+
+-- as many digits, and a number that they can hold
+abbrev pub validCount : ℕ → Count → Bool
+validCount most c = leb 1 (c .width) && (leb (c .width) most && ltb (c .number) (10 ^ c .width))
+
+-- the most digits: of the persons; of the dinghies' number and of their capacity
+
+abbrev pub personsDigits : ℕ
+personsDigits = 3
+
+abbrev pub numberDigits : ℕ
+numberDigits = 2
+
+abbrev pub capacityDigits : ℕ
+capacityDigits = 3
+
+-- WHAT OTHER WORDS MAY BE
 
 -- each a letter of a set, none twice
 abbrev pub lettersFit : List ℕ → Word → Bool
@@ -137,8 +166,8 @@ abbrev pub optionally : {X : Type 0} → (X → Bool) → Option X → Bool
 optionally p none = true
 optionally p (some x) = p x
 
-abbrev pub pairFits : Word × Word → Bool
-pairFits p = count 2 (p .0) && count 3 (p .1)
+abbrev pub validPair : Count × Count → Bool
+validPair p = validCount numberDigits (p .0) && validCount capacityDigits (p .1)
 
 -- the words of a part
 
@@ -146,13 +175,13 @@ abbrev pub optional : Option Word → List Word
 optional none = []
 optional (some w) = w ∷ []
 
-abbrev pub pairWords : Option (Word × Word) → List Word
+abbrev pub pairWords : Option (Count × Count) → List Word
 pairWords none = []
-pairWords (some p) = p .0 ∷ (p .1 ∷ [])
+pairWords (some p) = wordOfCount (p .0) ∷ (wordOfCount (p .1) ∷ [])
 
 abbrev pub wordsOf : Part → List Word
 wordsOf (endurance t) = spellElapsed t ∷ []
-wordsOf (persons w) = w ∷ []
+wordsOf (persons c) = wordOfCount c ∷ []
 wordsOf (radio w) = w ∷ []
 wordsOf (survival w) = w ∷ []
 wordsOf (jackets w o) = w ∷ optional o
@@ -163,11 +192,11 @@ wordsOf (pilot ws) = ws
 
 abbrev pub validPart : Part → Bool
 validPart (endurance t) = validElapsed t
-validPart (persons w) = count 3 w
+validPart (persons c) = validCount personsDigits c
 validPart (radio w) = someOf radioLetters w
 validPart (survival w) = someOf survivalLetters w
 validPart (jackets w o) = someOf lightLetters w && optionally (someOf jacketRadioLetters) o
-validPart (dinghies o c ws) = optionally pairFits o && (all colour ws && not (null (wordsOf (dinghies o c ws))))
+validPart (dinghies o c ws) = optionally validPair o && (all colour ws && not (null (wordsOf (dinghies o c ws))))
 validPart (aircraft ws) = texts ws
 validPart (remarks ws) = texts ws
 validPart (pilot ws) = texts ws
@@ -213,7 +242,7 @@ abbrev pub group : List Word → Groups
 group [] = ([], [])
 group (w ∷ ws) = put w (group ws)
 
--- WHICH WORDS MAY STAND UNDER A KEY
+-- WHICH WORDS MAY STAND UNDER A KEY: those of the valid parts (`part-read` and `part-back` in proofs/Parts.antt)
 
 abbrev pub one : (Word → Bool) → List Word → Bool
 one p [] = false
@@ -224,12 +253,15 @@ abbrev pub jacketsFit : List Word → Bool
 jacketsFit [] = false
 jacketsFit (w ∷ ws) = someOf lightLetters w && (null ws || one (someOf jacketRadioLetters) ws)
 
+abbrev pub pairCounts : Word × Word → Bool
+pairCounts p = count numberDigits (p .0) && count capacityDigits (p .1)
+
 -- what is left behind the pair, and behind the cover
 
 abbrev pub afterPair : List Word → List Word
 afterPair [] = []
 afterPair (v ∷ []) = v ∷ []
-afterPair (v ∷ (w ∷ ws)) = cond (pairFits (v, w)) ws (v ∷ (w ∷ ws))
+afterPair (v ∷ (w ∷ ws)) = cond (pairCounts (v, w)) ws (v ∷ (w ∷ ws))
 
 abbrev pub afterCover : List Word → List Word
 afterCover [] = []
@@ -240,7 +272,7 @@ dinghiesFit ws = not (null ws) && all colour (afterCover (afterPair ws))
 
 abbrev pub itemFits : Key → List Word → Bool
 itemFits E ws = one elapsedFits ws
-itemFits P ws = one (count 3) ws
+itemFits P ws = one (count personsDigits) ws
 itemFits R ws = one (someOf radioLetters) ws
 itemFits S ws = one (someOf survivalLetters) ws
 itemFits J ws = jacketsFit ws
@@ -273,10 +305,10 @@ secondOf [] = none
 secondOf (w ∷ []) = none
 secondOf (w ∷ (v ∷ ws)) = some v
 
-abbrev pub pairOf : List Word → Option (Word × Word)
+abbrev pub pairOf : List Word → Option (Count × Count)
 pairOf [] = none
 pairOf (v ∷ []) = none
-pairOf (v ∷ (w ∷ ws)) = cond (pairFits (v, w)) (some (v, w)) none
+pairOf (v ∷ (w ∷ ws)) = cond (pairCounts (v, w)) (some (countOfWord v, countOfWord w)) none
 
 abbrev pub covered : List Word → Bool
 covered [] = false
@@ -284,7 +316,7 @@ covered (w ∷ ws) = same w cover
 
 abbrev pub partOf : Key → List Word → Part
 partOf E ws = endurance (elapsedOf (firstOf ws))
-partOf P ws = persons (firstOf ws)
+partOf P ws = persons (countOfWord (firstOf ws))
 partOf R ws = radio (firstOf ws)
 partOf S ws = survival (firstOf ws)
 partOf J ws = jackets (firstOf ws) (secondOf ws)
@@ -313,6 +345,19 @@ manual-fits = refl
 counted : (fits19 (bytes "P/006") ≡ true) × (fits19 (bytes "P/000") ≡ true) × (fits19 (bytes "P/1234") ≡ false)
 unfolding fits19 keyed timeFits text inAlphabet white
 counted = (refl, refl, refl)
+
+-- a count as sent, and which counts are valid
+sent-counts : (record19 (bytes "P/006") ≡ persons (record { number = 6; width = 3 }) ∷ [])
+    × (record19 (bytes "D/02 014 C ORANGE")
+    ≡ dinghies (some (record { number = 2; width = 2 }, record { number = 14; width = 3 })) true (bytes "ORANGE" ∷ []) ∷ [])
+unfolding record19 keyed
+sent-counts = (refl, refl)
+
+abbrev carried : ℕ → ℕ → Bool
+carried n k = validPart (persons (record { number = n; width = k }))
+
+valid-counts : (carried 6 3 ≡ true) × (carried 999 3 ≡ true) × (carried 0 1 ≡ true) × (carried 10 1 ≡ false) × (carried 6 4 ≡ false) × (carried 0 0 ≡ false)
+valid-counts = (refl, refl, refl, refl, refl, refl)
 
 lettered : (fits19 (bytes "R/EVU") ≡ true) × (fits19 (bytes "R/UU") ≡ false) × (fits19 (bytes "R/") ≡ false)
 unfolding fits19 keyed timeFits text inAlphabet white

@@ -1,4 +1,5 @@
--- Field 19 word by word, as the code walks it: what has been read so far, and what the next word may be. Assumes nothing.
+-- Field 19 word by word, as the code walks it: what has been read so far, and what the next word may be. `walk-fits` (proofs/Walk.antt)
+-- proves that it comes out as `fits19`. Assumes nothing.
 use Prim.Native.Nat.{ℕ}
 use mathlib.Core.Bool.{Bool, true, false, cond}
 use mathlib.Core.List.{List, [], _∷_}
@@ -10,7 +11,7 @@ use Rattle.supplement.specs.declared.Stage.{Stage}
 use Rattle.supplement.specs.declared.Stage.the-variants.{Start, Endurance, Persons, Radio, Survival, Lights, JacketRadio, Number, Capacity, Colours}
 use Rattle.supplement.specs.declared.Stage.the-variants.{Aircraft, Remarks, Pilot, Refused}
 use Rattle.supplement.specs.Field19.{keyed, place, count, someOf, colour, radioLetters, survivalLetters, lightLetters, jacketRadioLetters}
-use Rattle.supplement.specs.Field19.{cover}
+use Rattle.supplement.specs.Field19.{personsDigits, numberDigits, capacityDigits, cover}
 
 -- the place that the next item's key has to be behind; none is behind 9
 abbrev pub past : Stage → ℕ
@@ -53,11 +54,11 @@ shaded w = cond (same w cover) Colours (cond (colour w) Colours Refused)
 -- the first word of an item, behind its oblique
 abbrev pub first : Key → Word → Stage
 first E w = cond (elapsedFits w) Endurance Refused
-first P w = cond (count 3 w) Persons Refused
+first P w = cond (count personsDigits w) Persons Refused
 first R w = cond (someOf radioLetters w) Radio Refused
 first S w = cond (someOf survivalLetters w) Survival Refused
 first J w = cond (someOf lightLetters w) Lights Refused
-first D w = cond (count 2 w) Number (shaded w)
+first D w = cond (count numberDigits w) Number (shaded w)
 first A w = cond (textWord w) Aircraft Refused
 first N w = cond (textWord w) Remarks Refused
 first C w = cond (textWord w) Pilot Refused
@@ -72,7 +73,7 @@ further Radio w = Refused
 further Survival w = Refused
 further Lights w = cond (someOf jacketRadioLetters w) JacketRadio Refused
 further JacketRadio w = Refused
-further Number w = cond (count 3 w) Capacity Refused
+further Number w = cond (count capacityDigits w) Capacity Refused
 further Capacity w = shaded w
 further Colours w = cond (colour w) Colours Refused
 further Aircraft w = cond (textWord w) Aircraft Refused

@@ -4,8 +4,8 @@ use mathlib.Core.Path.{_≡_, sym}
 use mathlib.Core.List.{List}
 use Rattle.text.specs.Words.{Word}
 use Rattle.supplement.specs.declared.Stage.{Stage}
-use Rattle.canonical.specs.Canonical.{sorted, stripped}
-use Rattle.canonical.specs.Rewriting.{letters, changed}
+use Rattle.canonical.specs.Canonical.{sorted}
+use Rattle.canonical.specs.Rewriting.{letters, stripped, changed}
 use Rattle.canonical.proofs.Turns.{put-same, room-same}
 use Rattle.canonical.proofs.Steps.{changed-letters, changed-count, changed-not}
 use borrow.Author.Needs.{needs}

@@ -3,7 +3,7 @@ use Prim.Native.Nat.{_-_, _≤_}
 use mathlib.Core.Path.{_≡_, refl, sym, _∙_}
 use native.Mathlib.Omega.{arith}
 use lib.ListN.{length, drop}
-use Rattle.canonical.specs.Canonical.{stripped}
+use Rattle.canonical.specs.Rewriting.{stripped}
 use Rattle.canonical.proofs.Steps.{stripped-last, stripped-stop, stripped-next, stripped-end}
 use borrow.Author.Needs.{needs}
 use Rattle.canonical.proofs.zeros.Statement.{statement}
