@@ -186,9 +186,9 @@ first-kept Other w l e = absurd (false≢true e)
 -- A WORD
 
 -- the bytes up to the oblique, and it
-lead-seam : (w : Word) → holds 47 w ≡ true → take (suc (upTo 47 w)) w ≡ before 47 w ++ (47 ∷ [])
-lead-seam [] h = absurd (false≢true h)
-lead-seam (b ∷ w) h = go (lead-seam w) (eqb b 47) refl h
+oblique-seam : (w : Word) → holds 47 w ≡ true → take (suc (upTo 47 w)) w ≡ before 47 w ++ (47 ∷ [])
+oblique-seam [] h = absurd (false≢true h)
+oblique-seam (b ∷ w) h = go (oblique-seam w) (eqb b 47) refl h
   where
     go : (holds 47 w ≡ true → take (suc (upTo 47 w)) w ≡ before 47 w ++ (47 ∷ []))
         → (t : Bool) → eqb b 47 ≡ t → ltb (cond t 0 (suc (upTo 47 w))) (suc (length w)) ≡ true
@@ -216,7 +216,7 @@ module _ (stage : Stage) (w : Word) (g : Groups) where
       let v = behind 47 w in
       let f : itemFits k (v ∷ g .0) ≡ true = both (itemFits k (v ∷ g .0)) _ (sym (first-go k v (g .0) (g .1)) ∙ e) .0 in
       let head : take (suc (upTo 47 w)) w ++ changed (first k v) v ≡ spellKey k ++ (47 ∷ changed (first k v) v)
-      = ap (λ (u : Word). u ++ changed (first k v) v) (lead-seam w h)
+      = ap (λ (u : Word). u ++ changed (first k v) v) (oblique-seam w h)
       ∙ append-assoc (before 47 w) (47 ∷ []) (changed (first k v) v)
       ∙ ap (λ (u : Word). u ++ (47 ∷ changed (first k v) v)) (sym (key-spelled (before 47 w) (above (past stage) (place k) p))) in
       ap (λ (u : Word). u ∷ (others (first k v) (g .0) ++ behindIt)) head

@@ -16,7 +16,7 @@ use Rattle.supplement.specs.declared.Stage.the-variants.{Start, Endurance, Pers
 use Rattle.supplement.specs.declared.Stage.the-variants.{Aircraft, Remarks, Pilot, Refused}
 use Rattle.supplement.proofs.Stages.{number, each, among}
 use Rattle.canonical.specs.Canonical.{sorted}
-use Rattle.canonical.specs.Rewriting.{letters, stripped, changed, lead, rewrite}
+use Rattle.canonical.specs.Rewriting.{letters, stripped, changed, upToOblique, rewrite}
 use Rattle.canonical.proofs.Orders.{sorted-shorter}
 use Rattle.canonical.proofs.Counts.{stripped-shorter}
 
@@ -50,11 +50,11 @@ stripped-length w z e = sym (length-drop z w) ∙ ap length e
 -- REWRITING
 
 module _ (w : Word) (o : ℕ) (end : o ≡ 0 + upTo 47 w) where
-  pub lead-none : length w ≤ o → 0 ≡ lead w
-  lead-none h = rw (le-ltb (upTo 47 w) (length w) (omega arith))
+  pub oblique-none : length w ≤ o → 0 ≡ upToOblique w
+  oblique-none h = rw (le-ltb (upTo 47 w) (length w) (omega arith))
 
-  pub lead-some : o < length w → o + 1 ≡ lead w
-  lead-some h = rw (lt-ltb (upTo 47 w) (length w) (omega arith)) (omega arith)
+  pub oblique-some : o < length w → o + 1 ≡ upToOblique w
+  oblique-some h = rw (lt-ltb (upTo 47 w) (length w) (omega arith)) (omega arith)
 
 -- by its stage: letters are sorted, counts stripped, and any other word is as it was sent
 
@@ -93,8 +93,8 @@ changed-shorter Remarks w = omega arith
 changed-shorter Pilot w = omega arith
 changed-shorter Refused w = omega arith
 
--- a word is its lead and what is changed behind it
-module _ (stage : Stage) (w : Word) (o : ℕ) (e : o ≡ lead w) (h : o ≤ length w) where
+-- a word is what stands up to its oblique, and what is changed behind it
+module _ (stage : Stage) (w : Word) (o : ℕ) (e : o ≡ upToOblique w) (h : o ≤ length w) where
   pub rewrite-parts : rewrite stage w ≡ take o w ++ changed stage (drop o w)
   unfolding rewrite
   rewrite-parts = rw (← e)

@@ -40,11 +40,11 @@ changed Pilot w = w
 changed Refused w = w
 
 -- how many bytes stand up to the oblique, and it; none where there is none
-abbrev pub lead : Word → ℕ
-lead w = cond (holds 47 w) (suc (upTo 47 w)) 0
+abbrev pub upToOblique : Word → ℕ
+upToOblique w = cond (holds 47 w) (suc (upTo 47 w)) 0
 
 unfoldable pub rewrite : Stage → Word → Word
-rewrite stage w = take (lead w) w ++ changed stage (drop (lead w) w)
+rewrite stage w = take (upToOblique w) w ++ changed stage (drop (upToOblique w) w)
 
 abbrev pub rewritten : Stage → List Word → List Word
 rewritten stage [] = []

@@ -4,7 +4,7 @@ ghost use Prim.Native.Nat.{_≤_};
 ghost use lib.ListN.{length, drop};
 ghost use Rattle.text.specs.Lent.{front};
 ghost use Rattle.canonical.specs.Canonical.{sorted, written19};
-ghost use Rattle.canonical.specs.Rewriting.{stripped, changed, lead as leadOf, rewrite, rewrittenText};
+ghost use Rattle.canonical.specs.Rewriting.{stripped, changed, upToOblique, rewrite, rewrittenText};
 use supplement::Stage;
 
 // How many leading zeros of w are left off: all but the last byte at most.
@@ -99,8 +99,8 @@ fn put_changed(stage: Stage, w: &[u8], out: &mut [u8]) -> usize
 }
 
 // How many bytes stand up to the oblique, and it; none where there is none.
-fn lead(w: &[u8]) -> usize
-    ensures { λ r. ⌜ (r ≡ leadOf (now (w .entry))) × (r ≤ length (now (w .entry))) ⌝ }
+fn up_to_oblique(w: &[u8]) -> usize
+    ensures { λ r. ⌜ (r ≡ upToOblique (now (w .entry))) × (r ≤ length (now (w .entry))) ⌝ }
 {
     let o = text::find(w, 0, b'/');
     if o == w.len() {
@@ -113,7 +113,7 @@ fn lead(w: &[u8]) -> usize
 fn word_length(stage: Stage, w: &[u8]) -> usize
     ensures { λ r. ⌜ (r ≡ length (rewrite stage (now (w .entry)))) × (r ≤ length (now (w .entry))) ⌝ }
 {
-    let o = lead(w);
+    let o = up_to_oblique(w);
     o + changed_length(stage, &w[o..])
 }
 
@@ -122,7 +122,7 @@ fn put_word(stage: Stage, w: &[u8], out: &mut [u8]) -> usize
     requires { ⌜ length (rewrite stage (now w)) ≤ length (now out) ⌝ }
     ensures { λ r. ⌜ (r ≡ length (rewrite stage (now (w .entry)))) × (now (out .exit) ≡ front (rewrite stage (now (w .entry))) (now (out .entry))) ⌝ }
 {
-    let o = lead(w);
+    let o = up_to_oblique(w);
     let n = text::put(&w[..o], out);
     n + put_changed(stage, &w[o..], &mut out[n..])
 }

@@ -18,7 +18,7 @@ use Rattle.canonical.proofs.put_word.Tie as tie
 
 -- what is put first, and what is put behind it
 
-abbrev Led : tie.After-put → tie.After-lead
+abbrev Led : tie.After-put → tie.After-up-to-oblique
 Led p = p .before .before .before
 
 abbrev W : tie.After-put → List ℕ
@@ -31,7 +31,7 @@ abbrev St : tie.After-put → Stage
 St p = Led p .before .before .before .args .stage
 
 abbrev O : tie.After-put → ℕ
-O p = Led p .lead .result
+O p = Led p .up-to-oblique .result
 
 abbrev behindIt : tie.After-put → List ℕ
 behindIt p = changed (St p) (drop (O p) (W p))
@@ -40,10 +40,10 @@ behind-same : (p : tie.After-put) → changed (St p) (take (length (W p) - O p) 
 behind-same p = ap (changed (St p)) (rest (W p) (O p))
 
 head-length : (p : tie.After-put) → length (take (O p) (W p)) ≡ O p
-head-length p = length-take-le (O p) (W p) (Led p .lead .ensures .1)
+head-length p = length-take-le (O p) (W p) (Led p .up-to-oblique .ensures .1)
 
 whole-length : (p : tie.After-put) → length (rewrite (St p) (W p)) ≡ O p + length (behindIt p)
-whole-length p = rewrite-length (St p) (W p) (O p) (Led p .lead .ensures .0) (Led p .lead .ensures .1)
+whole-length p = rewrite-length (St p) (W p) (O p) (Led p .up-to-oblique .ensures .0) (Led p .up-to-oblique .ensures .1)
 
 middle-length : (p : tie.After-put) → length (p .put .last .1 .0) ≡ length (Out p)
 middle-length p =
@@ -53,8 +53,8 @@ middle-length p =
 inside : (p : tie.After-put) → p .put .result ≤ length (p .put .last .1 .0)
 inside p = omega (arith, p .put .ensures .0, middle-length p, head-length p, whole-length p, Led p .before .before .before .pre)
 
-lead-requires : tie.Need-lead-requires
-lead-requires c κs = search needs
+up-to-oblique-requires : tie.Need-up-to-oblique-requires
+up-to-oblique-requires c κs = search needs
 
 slice-aggregate-put : tie.Need-slice-aggregate-put
 slice-aggregate-put c = sym (length-take-le _ _ (omega arith))
@@ -64,8 +64,8 @@ put-requires c κs =
     let led = c .before .before in
     let a = led .before .before .before in
     let w = a .args .w .now in
-    let o = led .lead .result in
-    let e = led .lead .ensures in
+    let o = led .up-to-oblique .result in
+    let e = led .up-to-oblique .ensures in
     let h : length (take o w) ≤ length (a .args .out .now)
     = omega (arith, length-take-le o w (e .1), rewrite-length (a .args .stage) w o (e .0) (e .1), a .pre) in
     h
@@ -111,7 +111,7 @@ add-result : tie.Need-add-result
 add-result c =
     let written = c .before .before .before in
     let p = written .before .before .before .before in
-    let s = rewrite-shorter (St p) (W p) (O p) (Led p .lead .ensures .0) (Led p .lead .ensures .1) in
+    let s = rewrite-shorter (St p) (W p) (O p) (Led p .up-to-oblique .ensures .0) (Led p .up-to-oblique .ensures .1) in
     omega (arith, c .before .before .put-changed .ensures .0, ap length (behind-same p), p .put .ensures .0, head-length p, whole-length p, s)
 
 same-length : tie.Need-same-length
@@ -128,14 +128,14 @@ returns c =
       lent mid second n _ (c .before .before .put-changed .ensures .1)
           ∙ halves (take (O p) (W p)) second (Out p) mid n (p .put .ensures .0) (p .put .ensures .1)
           ∙ ap (λ (v : List ℕ). front (take (O p) (W p) ++ v) (Out p)) (behind-same p)
-          ∙ ap (λ (v : List ℕ). front v (Out p)) (sym (rewrite-parts (St p) (W p) (O p) (Led p .lead .ensures .0) (Led p .lead .ensures .1))),
+          ∙ ap (λ (v : List ℕ). front v (Out p)) (sym (rewrite-parts (St p) (W p) (O p) (Led p .up-to-oblique .ensures .0) (Led p .up-to-oblique .ensures .1))),
     )
 
 pub put-word-spec : {M : Type 1} → statement M
 put-word-spec =
     tie.close
     (tie.spec
-    lead-requires
+    up-to-oblique-requires
     slice-aggregate-put
     put-requires
     sub-put-changed

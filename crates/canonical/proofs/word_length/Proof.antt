@@ -11,8 +11,8 @@ use borrow.Author.Needs.{needs}
 use Rattle.canonical.proofs.word_length.Statement.{statement}
 use Rattle.canonical.proofs.word_length.Tie as tie
 
-lead-requires : tie.Need-lead-requires
-lead-requires c κs = search needs
+up-to-oblique-requires : tie.Need-up-to-oblique-requires
+up-to-oblique-requires c κs = search needs
 
 sub-changed-length : tie.Need-sub-changed-length
 sub-changed-length c = search needs
@@ -30,15 +30,15 @@ add-result : tie.Need-add-result
 add-result c =
     let a = c .before .before .before .before .args in
     let w = a .w .now in
-    let o = c .before .before .lead .result in
+    let o = c .before .before .up-to-oblique .result in
     let n = c .changed-length .ensures ∙ ap (λ (v : List ℕ). length (changed (a .stage) v)) (rest w o) in
-    omega (arith, n, changed-shorter (a .stage) (drop o w), length-drop o w, c .before .before .lead .ensures .1)
+    omega (arith, n, changed-shorter (a .stage) (drop o w), length-drop o w, c .before .before .up-to-oblique .ensures .1)
 
 returns : tie.Need-returns
 returns c =
     let a = c .before .before .before .before .args in
     let w = a .w .now in
-    let o = c .before .before .lead in
+    let o = c .before .before .up-to-oblique in
     let n = c .changed-length .ensures ∙ ap (λ (v : List ℕ). length (changed (a .stage) v)) (rest w (o .result)) in
     let l = rewrite-length (a .stage) w (o .result) (o .ensures .0) (o .ensures .1) in
     (omega (arith, n, l), omega (arith, n, l, rewrite-shorter (a .stage) w (o .result) (o .ensures .0) (o .ensures .1)))
@@ -47,7 +47,7 @@ pub word-length-spec : {M : Type 1} → statement M
 word-length-spec =
     tie.close
     (tie.spec
-    lead-requires
+    up-to-oblique-requires
     sub-changed-length
     part-changed-length-start
     part-changed-length-end
