@@ -1,4 +1,5 @@
--- Field 19 rewritten word by word, as the code writes it: each word by what it was read as. Assumes nothing.
+-- Field 19 rewritten word by word, as the code writes it: each word by what it was read as. `written-words` (proofs/Rewritten.antt) proves
+-- that it comes out as `written19`. Assumes nothing.
 use Prim.Native.Nat.{ℕ, suc}
 use mathlib.Core.Bool.{cond}
 use mathlib.Core.List.{List, [], _∷_, _++_}

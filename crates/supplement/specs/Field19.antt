@@ -282,7 +282,7 @@ itemFits N ws = texts ws
 itemFits C ws = texts ws
 itemFits Other ws = false
 
--- each key at most once, and in their order
+-- each key at most once, and in their order: as `inOrder` has it of the parts (`items-valid` and `items-fit` in proofs/Items.antt)
 abbrev pub itemsFit : ℕ → List Item → Bool
 itemsFit least [] = true
 itemsFit least (i ∷ is) = ltb least (place (i .key)) && (itemFits (i .key) (i .words) && itemsFit (place (i .key)) is)

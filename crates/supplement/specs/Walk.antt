@@ -13,22 +13,22 @@ use Rattle.supplement.specs.declared.Stage.the-variants.{Aircraft, Remar
 use Rattle.supplement.specs.Field19.{keyed, place, count, someOf, colour, radioLetters, survivalLetters, lightLetters, jacketRadioLetters}
 use Rattle.supplement.specs.Field19.{personsDigits, numberDigits, capacityDigits, cover}
 
--- the place that the next item's key has to be behind; none is behind 9
+-- the place that the next item's key has to be behind; none is behind C's
 abbrev pub past : Stage → ℕ
 past Start = 0
-past Endurance = 1
-past Persons = 2
-past Radio = 3
-past Survival = 4
-past Lights = 5
-past JacketRadio = 5
-past Number = 9
-past Capacity = 6
-past Colours = 6
-past Aircraft = 7
-past Remarks = 8
-past Pilot = 9
-past Refused = 9
+past Endurance = place E
+past Persons = place P
+past Radio = place R
+past Survival = place S
+past Lights = place J
+past JacketRadio = place J
+past Number = place C
+past Capacity = place D
+past Colours = place D
+past Aircraft = place A
+past Remarks = place N
+past Pilot = place C
+past Refused = place C
 
 -- the words may end here
 abbrev pub complete : Stage → Bool

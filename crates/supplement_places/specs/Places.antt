@@ -14,7 +14,7 @@ use Rattle.shape.specs.Time.{timeFits, elapsedHours}
 use Rattle.places.specs.Parts.{larger, front, firstPlace, runPlace, timePlace, passes}
 use Rattle.places.specs.Words.{Words, wordsPlace}
 use Rattle.supplement.specs.Field19.{Key, E, P, R, S, J, D, A, N, C, Other, keyed, byLetter, place, lettersFit}
-use Rattle.supplement.specs.Field19.{radioLetters, survivalLetters, lightLetters, jacketRadioLetters}
+use Rattle.supplement.specs.Field19.{personsDigits, numberDigits, capacityDigits, radioLetters, survivalLetters, lightLetters, jacketRadioLetters}
 use Rattle.supplement.specs.declared.Stage.{Stage}
 use Rattle.supplement.specs.declared.Stage.the-variants.{Start, Endurance, Persons, Radio, Survival, Lights, JacketRadio, Number, Capacity, Colours}
 use Rattle.supplement.specs.declared.Stage.the-variants.{Aircraft, Remarks, Pilot, Refused}
@@ -29,11 +29,11 @@ lettersPlace set w = passes (lettersFit set) [] w
 -- the first word of an item, behind its oblique; under D the number of a pair, or else letters: the cover is one too
 abbrev pub firstWordPlace : Key → Word → ℕ
 firstWordPlace E w = timePlace elapsedHours w
-firstWordPlace P w = runPlace 3 digit w
+firstWordPlace P w = runPlace personsDigits digit w
 firstWordPlace R w = lettersPlace radioLetters w
 firstWordPlace S w = lettersPlace survivalLetters w
 firstWordPlace J w = lettersPlace lightLetters w
-firstWordPlace D w = larger (runPlace 2 digit w) (front letter w)
+firstWordPlace D w = larger (runPlace numberDigits digit w) (front letter w)
 firstWordPlace A w = front text w
 firstWordPlace N w = front text w
 firstWordPlace C w = front text w
@@ -48,7 +48,7 @@ furtherPlace Radio w = 0
 furtherPlace Survival w = 0
 furtherPlace Lights w = lettersPlace jacketRadioLetters w
 furtherPlace JacketRadio w = 0
-furtherPlace Number w = runPlace 3 digit w
+furtherPlace Number w = runPlace capacityDigits digit w
 furtherPlace Capacity w = front letter w
 furtherPlace Colours w = front letter w
 furtherPlace Aircraft w = front text w
