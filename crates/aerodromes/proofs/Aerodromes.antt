@@ -14,7 +14,7 @@ use Rattle.text.proofs.Tests.{both, and-both, all-imp, all-append}
 use Rattle.text.proofs.Index.{split-cut}
 use Rattle.text.proofs.Joined.{join-split, split-join}
 use Rattle.text.proofs.Tidy.{letter-tidy, digit-tidy, tidy-word, word-free}
-use Rattle.shape.specs.Time.{timeFits, minutesOf, spellMinutes, validMinutes}
+use Rattle.shape.specs.Time.{timeFits, timeMinutes, spellTime, validTime}
 use Rattle.shape.proofs.Times.{time-length, time-digits, time-exact, time-valid, time-fits, time-minutes}
 use Rattle.aerodromes.specs.Aerodromes.{fourLetters, aerodromeOf, joinedOf, timed, validTimed, spellTimed, first, others}
 
@@ -70,28 +70,28 @@ module _ (most : ℕ) (w : Word) (e : timed most w ≡ true) where
   timed-length =
       sym (ap length (take-append-drop 4 w)) ∙ simp length-append (omega (arith, four-length (take 4 w) timed-four, time-length most (drop 4 w) timed-time))
 
-  pub timed-spelled : spellTimed (aerodromeOf w) (minutesOf (joinedOf w)) ≡ w
+  pub timed-spelled : spellTimed (aerodromeOf w) (timeMinutes (joinedOf w)) ≡ w
   timed-spelled = ap (λ (t : Word). take 4 w ++ t) (time-exact most (drop 4 w) timed-time) ∙ take-append-drop 4 w
 
-  pub timed-valid : validTimed most (aerodromeOf w) (minutesOf (joinedOf w)) ≡ true
+  pub timed-valid : validTimed most (aerodromeOf w) (timeMinutes (joinedOf w)) ≡ true
   timed-valid =
-      and-both (fourLetters (aerodromeOf w)) (validMinutes most (minutesOf (joinedOf w))) timed-four (time-valid most (drop 4 w) timed-time)
+      and-both (fourLetters (aerodromeOf w)) (validTime most (timeMinutes (joinedOf w))) timed-four (time-valid most (drop 4 w) timed-time)
 
   pub timed-tidy : tidyWord w ≡ true
   timed-tidy = joined-tidy w timed-four (time-digits most (drop 4 w) timed-time)
 
 module _ (most : ℕ) (a : Word) (n : ℕ) (l : most ≤ 99) (v : validTimed most a n ≡ true) where
-  valid-parts : (fourLetters a ≡ true) × (validMinutes most n ≡ true)
-  valid-parts = both (fourLetters a) (validMinutes most n) v
+  valid-parts : (fourLetters a ≡ true) × (validTime most n ≡ true)
+  valid-parts = both (fourLetters a) (validTime most n) v
 
   pub timed-aerodrome : aerodromeOf (spellTimed a n) ≡ a
-  timed-aerodrome = cut-aerodrome a (valid-parts .0) (spellMinutes n)
+  timed-aerodrome = cut-aerodrome a (valid-parts .0) (spellTime n)
 
-  timed-joined : joinedOf (spellTimed a n) ≡ spellMinutes n
-  timed-joined = cut-joined a (valid-parts .0) (spellMinutes n)
+  timed-joined : joinedOf (spellTimed a n) ≡ spellTime n
+  timed-joined = cut-joined a (valid-parts .0) (spellTime n)
 
-  pub timed-minutes : minutesOf (joinedOf (spellTimed a n)) ≡ n
-  timed-minutes = ap minutesOf timed-joined ∙ time-minutes most n l (valid-parts .1)
+  pub timed-minutes : timeMinutes (joinedOf (spellTimed a n)) ≡ n
+  timed-minutes = ap timeMinutes timed-joined ∙ time-minutes most n l (valid-parts .1)
 
   pub timed-fits : timed most (spellTimed a n) ≡ true
   unfolding timed
@@ -111,7 +111,7 @@ tidy-words s p q = ap (all tidyWord) (words s) ∙ and-both (tidyWord (first (sp
 
 -- a content whose first word is an aerodrome and a time
 pub words-spelled : (most : ℕ) (s : List ℕ) → timed most (first (split 32 s)) ≡ true
-    → join 32 (spellTimed (aerodromeOf (first (split 32 s))) (minutesOf (joinedOf (first (split 32 s)))) ∷ others (split 32 s)) ≡ s
+    → join 32 (spellTimed (aerodromeOf (first (split 32 s))) (timeMinutes (joinedOf (first (split 32 s)))) ∷ others (split 32 s)) ≡ s
 words-spelled most s e =
     ap (λ (w : Word). join 32 (w ∷ others (split 32 s))) (timed-spelled most (first (split 32 s)) e) ∙ sym (ap (join 32) (words s)) ∙ join-split 32 s
 

@@ -9,7 +9,7 @@ use lib.ListN.{length}
 use Rattle.text.specs.Words.{Word, all, split, tidyWord, tidy}
 use Rattle.text.proofs.Tests.{both, and-both, all-imp}
 use Rattle.text.proofs.Tidy.{tidy-one}
-use Rattle.shape.specs.Time.{elapsedHours, elapsedOf, minutesOf}
+use Rattle.shape.specs.Time.{elapsedHours, elapsedOf, timeMinutes}
 use Rattle.shape.specs.Field.{Laws}
 use Rattle.shape.proofs.Fields.{Facts, plain}
 use Rattle.aerodromes.specs.Aerodromes.{fourLetters, aerodromeOf, joinedOf, timed, validTimed, spellTimed, first, others}
@@ -39,7 +39,7 @@ module _ (s : List ℕ) (e : fits16plan s ≡ true) where
   held16plan : valid16plan (record16plan s) ≡ true
   held16plan =
       let w = first (split 32 s) in
-      and-both (validTimed elapsedHours (aerodromeOf w) (minutesOf (joinedOf w))) (fewAerodromes mostAlternates (others (split 32 s)))
+      and-both (validTimed elapsedHours (aerodromeOf w) (timeMinutes (joinedOf w))) (fewAerodromes mostAlternates (others (split 32 s)))
       (timed-valid elapsedHours w (plan-parts .0))
       (plan-parts .1)
 

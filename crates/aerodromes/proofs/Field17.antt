@@ -7,7 +7,7 @@ use native.Mathlib.Omega.{arith}
 use Rattle.text.specs.Words.{Word, all, null, same, split, textWord, tidyWord, tidy}
 use Rattle.text.proofs.Tests.{both, and-both, all-imp, null-nil}
 use Rattle.text.proofs.Tidy.{text-word-tidy}
-use Rattle.shape.specs.Time.{clockHours, clockOf, minutesOf}
+use Rattle.shape.specs.Time.{clockHours, clockOf, timeMinutes}
 use Rattle.shape.specs.Field.{Laws}
 use Rattle.shape.proofs.Fields.{Facts, plain}
 use Rattle.aerodromes.specs.Aerodromes.{aerodromeOf, joinedOf, timed, validTimed, spellTimed, first, others}
@@ -30,7 +30,7 @@ module _ (s : List ℕ) (e : fits17 s ≡ true) where
   held17 : valid17 (record17 s) ≡ true
   held17 =
       let w = first (split 32 s) in
-      and-both (validTimed clockHours (aerodromeOf w) (minutesOf (joinedOf w))) (placeFits (aerodromeOf w) (others (split 32 s)))
+      and-both (validTimed clockHours (aerodromeOf w) (timeMinutes (joinedOf w))) (placeFits (aerodromeOf w) (others (split 32 s)))
       (timed-valid clockHours w (landed-parts .0))
       (landed-parts .1)
 

@@ -8,7 +8,7 @@ use lib.ListN.{length, take, drop}
 use Rattle.alphabet.specs.Text.{bytes}
 use Rattle.alphabet.specs.Alphabet.{letter}
 use Rattle.text.specs.Words.{Word, all, split}
-use Rattle.shape.specs.Time.{timeFits, spellMinutes, validMinutes, clockHours}
+use Rattle.shape.specs.Time.{timeFits, spellTime, validTime, clockHours}
 
 -- AN AERODROME: four letters
 
@@ -28,10 +28,10 @@ unfoldable pub timed : ℕ → Word → Bool
 timed most w = fourLetters (aerodromeOf w) && timeFits most (joinedOf w)
 
 abbrev pub validTimed : ℕ → Word → ℕ → Bool
-validTimed most a n = fourLetters a && validMinutes most n
+validTimed most a n = fourLetters a && validTime most n
 
 abbrev pub spellTimed : Word → ℕ → Word
-spellTimed a n = a ++ spellMinutes n
+spellTimed a n = a ++ spellTime n
 
 -- THE WORDS OF A CONTENT: the first, and those behind it, each after one space
 

@@ -1,7 +1,7 @@
 -- Times: four digits and their minutes determine one another, for every greatest hour of at most 99. Assumes nothing.
 use Prim.Native.Nat.{ℕ, _+_, _*_, _/_, _%_, _<_, _≤_}
 use mathlib.Core.Path.{_≡_, refl, ap, ap₂, _∙_}
-use mathlib.Core.Bool.{true, _&&_}
+use mathlib.Core.Bool.{Bool, true, false, _&&_}
 use mathlib.Core.List.{List, [], _∷_, append-nil}
 use native.Mathlib.Omega.{arith}
 use native.Mathlib.Nat.{mul-add-div-right, mul-add-mod-self-right, div-eq-of-lt, mod-eq-of-lt, div-add-mod', mod-lt, add-zero}
@@ -13,7 +13,10 @@ use Rattle.text.specs.Words.{Word, all}
 use Rattle.text.proofs.Tests.{both, and-both}
 use Rattle.shape.specs.Numbers.{digits}
 use Rattle.shape.specs.Shape.{fits, wide, values}
-use Rattle.shape.specs.Time.{hoursMinutes, hours, minutes, timeFits, minutesOf, spellMinutes, validMinutes}
+use Rattle.shape.specs.Time.{hoursMinutes, hours, minutes, timeFits, timeMinutes, spellTime, validTime}
+use Rattle.shape.specs.Time.{pickClock, pickElapsed, isTimeOfDay, isElapsed}
+use Rattle.shape.specs.declared.Clock.{Clock}
+use Rattle.shape.specs.declared.Elapsed.{Elapsed}
 use Rattle.shape.proofs.Index.{fits-lengths}
 use Rattle.shape.proofs.Exact.{spells-values, values-spells, fits-all}
 
@@ -47,42 +50,52 @@ hours-back h m l = mul-add-div-right (omega arith) h m ∙ ap (λ (n : ℕ). h +
 minutes-back : (h m : ℕ) → m ≤ 59 → (h * 60 + m) % 60 ≡ m
 minutes-back h m l = mul-add-mod-self-right h 60 m ∙ mod-eq-of-lt (omega arith)
 
-pub time-exact : (most : ℕ) (w : Word) → timeFits most w ≡ true → spellMinutes (minutesOf w) ≡ w
+pub time-exact : (most : ℕ) (w : Word) → timeFits most w ≡ true → spellTime (timeMinutes w) ≡ w
 time-exact most w e =
     let p = parts most w e in
     rw (hours-back (hours w) (minutes w) (p .minutes-in), minutes-back (hours w) (minutes w) (p .minutes-in), ← append-nil (digits 2 (minutes w)))
     (spells-values hoursMinutes w (p .shaped))
 
-pub time-valid : (most : ℕ) (w : Word) → timeFits most w ≡ true → validMinutes most (minutesOf w) ≡ true
+pub time-valid : (most : ℕ) (w : Word) → timeFits most w ≡ true → validTime most (timeMinutes w) ≡ true
 time-valid most w e =
     let p = parts most w e in
     rw (hours-back (hours w) (minutes w) (p .minutes-in)) (le-leb (hours w) most (p .hours-in))
 
-module _ (most n : ℕ) (l : most ≤ 99) (v : validMinutes most n ≡ true) where
+module _ (most n : ℕ) (l : most ≤ 99) (v : validTime most n ≡ true) where
   few : n / 60 ≤ most
   few = leb-true (n / 60) most v
 
   in-hour : n % 60 < 60
   in-hour = mod-lt n (omega arith)
 
-  back : (fits (wide hoursMinutes) (spellMinutes n) ≡ true) × (values hoursMinutes (spellMinutes n) ≡ n / 60 ∷ (n % 60 ∷ []))
+  back : (fits (wide hoursMinutes) (spellTime n) ≡ true) × (values hoursMinutes (spellTime n) ≡ n / 60 ∷ (n % 60 ∷ []))
   back =
       values-spells hoursMinutes (n / 60 ∷ (n % 60 ∷ []))
       (rw (lt-ltb (n / 60) 100 (omega (arith, few)), lt-ltb (n % 60) 100 (omega (arith, in-hour))))
 
-  hours-are : hours (spellMinutes n) ≡ n / 60
+  hours-are : hours (spellTime n) ≡ n / 60
   hours-are = ap (λ (vs : List ℕ). getD vs 0 0) (back .1)
 
-  minutes-are : minutes (spellMinutes n) ≡ n % 60
+  minutes-are : minutes (spellTime n) ≡ n % 60
   minutes-are = ap (λ (vs : List ℕ). getD vs 1 0) (back .1)
 
-  pub time-fits : timeFits most (spellMinutes n) ≡ true
+  pub time-fits : timeFits most (spellTime n) ≡ true
   unfolding timeFits
   time-fits =
-      and-both (fits (wide hoursMinutes) (spellMinutes n)) _ (back .0)
-      (and-both (leb (hours (spellMinutes n)) most) (leb (minutes (spellMinutes n)) 59)
+      and-both (fits (wide hoursMinutes) (spellTime n)) _ (back .0)
+      (and-both (leb (hours (spellTime n)) most) (leb (minutes (spellTime n)) 59)
       (ap (λ (k : ℕ). leb k most) hours-are ∙ v)
       (ap (λ (k : ℕ). leb k 59) minutes-are ∙ le-leb (n % 60) 59 (omega (arith, in-hour))))
 
-  pub time-minutes : minutesOf (spellMinutes n) ≡ n
+  pub time-minutes : timeMinutes (spellTime n) ≡ n
   time-minutes = ap₂ (λ (h m : ℕ). h * 60 + m) hours-are minutes-are ∙ div-add-mod' n 60
+
+-- WHAT READING GIVES
+
+pub told-clock : (b : Bool) (t : Clock) → isTimeOfDay (pickClock b t) ≡ b
+told-clock true t = refl
+told-clock false t = refl
+
+pub told-elapsed : (b : Bool) (t : Elapsed) → isElapsed (pickElapsed b t) ≡ b
+told-elapsed true t = refl
+told-elapsed false t = refl

@@ -40,14 +40,14 @@ minutes w = value (take 2 (drop 2 w))
 unfoldable pub timeFits : ℕ → Word → Bool
 timeFits most w = fits (wide hoursMinutes) w && (leb (hours w) most && leb (minutes w) 59)
 
-abbrev pub minutesOf : Word → ℕ
-minutesOf w = hours w * 60 + minutes w
+abbrev pub timeMinutes : Word → ℕ
+timeMinutes w = hours w * 60 + minutes w
 
-abbrev pub spellMinutes : ℕ → Word
-spellMinutes n = digits 2 (n / 60) ++ digits 2 (n % 60)
+abbrev pub spellTime : ℕ → Word
+spellTime n = digits 2 (n / 60) ++ digits 2 (n % 60)
 
-abbrev pub validMinutes : ℕ → ℕ → Bool
-validMinutes most n = leb (n / 60) most
+abbrev pub validTime : ℕ → ℕ → Bool
+validTime most n = leb (n / 60) most
 
 -- A TIME OF DAY
 
@@ -55,13 +55,13 @@ abbrev pub clockFits : Word → Bool
 clockFits w = timeFits clockHours w
 
 abbrev pub clockOf : Word → Clock
-clockOf w = record { 0 = minutesOf w }
+clockOf w = record { 0 = timeMinutes w }
 
 abbrev pub spellClock : Clock → Word
-spellClock t = spellMinutes (t .0)
+spellClock t = spellTime (t .0)
 
 abbrev pub validClock : Clock → Bool
-validClock t = validMinutes clockHours (t .0)
+validClock t = validTime clockHours (t .0)
 
 -- AN ELAPSED TIME
 
@@ -69,13 +69,13 @@ abbrev pub elapsedFits : Word → Bool
 elapsedFits w = timeFits elapsedHours w
 
 abbrev pub elapsedOf : Word → Elapsed
-elapsedOf w = record { 0 = minutesOf w }
+elapsedOf w = record { 0 = timeMinutes w }
 
 abbrev pub spellElapsed : Elapsed → Word
-spellElapsed t = spellMinutes (t .0)
+spellElapsed t = spellTime (t .0)
 
 abbrev pub validElapsed : Elapsed → Bool
-validElapsed t = validMinutes elapsedHours (t .0)
+validElapsed t = validTime elapsedHours (t .0)
 
 -- WHAT READING GIVES
 
@@ -93,11 +93,25 @@ pickElapsed false t = NoElapsedTime
 abbrev pub elapsedRead : Word → ElapsedRead
 elapsedRead w = pickElapsed (elapsedFits w) (elapsedOf w)
 
+-- whether there was one
+abbrev pub isTimeOfDay : ClockRead → Bool
+isTimeOfDay (TimeOfDay t) = true
+isTimeOfDay NoTimeOfDay = false
+
+abbrev pub isElapsed : ElapsedRead → Bool
+isElapsed (ElapsedTime t) = true
+isElapsed NoElapsedTime = false
+
 -- EXAMPLES, computed
 
 day : (clockFits (bytes "2359") ≡ true) × (clockFits (bytes "2400") ≡ false) × (clockFits (bytes "2460") ≡ false) × (clockFits (bytes "930") ≡ false)
 unfolding timeFits
 day = (refl, refl, refl, refl)
 
-minute : (minutesOf (bytes "0930") ≡ 570) × (spellMinutes 570 ≡ bytes "0930")
+told : (isTimeOfDay (clockRead (bytes "2359")) ≡ true) × (isTimeOfDay (clockRead (bytes "2400")) ≡ false)
+    × (isElapsed (elapsedRead (bytes "0100")) ≡ true) × (isElapsed (elapsedRead (bytes "0160")) ≡ false)
+unfolding timeFits
+told = (refl, refl, refl, refl)
+
+minute : (timeMinutes (bytes "0930") ≡ 570) × (spellTime 570 ≡ bytes "0930")
 minute = (refl, refl)

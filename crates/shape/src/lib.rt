@@ -6,7 +6,7 @@ ghost use Rattle.alphabet.specs.Alphabet.{oneOf};
 ghost use Rattle.text.specs.Words.{split};
 ghost use Rattle.shape.specs.Numbers.{value};
 ghost use Rattle.shape.specs.Shape.{inClass, fits as fitting, any as anyOf};
-ghost use Rattle.shape.specs.Time.{hours, minutes, timeFits, minutesOf, clockRead, elapsedRead, clockFits, elapsedFits};
+ghost use Rattle.shape.specs.Time.{hours, minutes, timeFits, timeMinutes, clockRead, elapsedRead, isTimeOfDay, isElapsed};
 
 // Whether b is one of the bytes of a set.
 pub fn one_of(b: u8, set: &[u8]) -> bool
@@ -165,7 +165,7 @@ fn is_time(most: usize, w: &[u8]) -> bool
 // The minutes of four digits.
 fn minutes_of(w: &[u8]) -> u16
     requires { ⌜ (length (now w) ≡ 4) × (hours (now w) ≤ 99) × (minutes (now w) ≤ 59) ⌝ }
-    ensures { λ r. ⌜ r ≡ minutesOf (now (w .entry)) ⌝ }
+    ensures { λ r. ⌜ r ≡ timeMinutes (now (w .entry)) ⌝ }
 {
     let hours = two(w, 0);
     let minutes = two(w, 2);
@@ -173,17 +173,11 @@ fn minutes_of(w: &[u8]) -> u16
 }
 
 impl Clock {
-    pub fn fits(w: &[u8]) -> bool
-        ensures { λ r. ⌜ r ≡ clockFits (now (w .entry)) ⌝ }
-    {
-        is_time(CLOCK_HOURS, w)
-    }
-
     // The time of day that w spells, if it does.
     pub fn read(w: &[u8]) -> ClockRead
         ensures { λ r. ⌜ r ≡ clockRead (now (w .entry)) ⌝ }
     {
-        if Clock::fits(w) {
+        if is_time(CLOCK_HOURS, w) {
             ClockRead::TimeOfDay(Clock(minutes_of(w)))
         } else {
             ClockRead::NoTimeOfDay
@@ -192,20 +186,36 @@ impl Clock {
 }
 
 impl Elapsed {
-    pub fn fits(w: &[u8]) -> bool
-        ensures { λ r. ⌜ r ≡ elapsedFits (now (w .entry)) ⌝ }
-    {
-        is_time(ELAPSED_HOURS, w)
-    }
-
     // The elapsed time that w spells, if it does.
     pub fn read(w: &[u8]) -> ElapsedRead
         ensures { λ r. ⌜ r ≡ elapsedRead (now (w .entry)) ⌝ }
     {
-        if Elapsed::fits(w) {
+        if is_time(ELAPSED_HOURS, w) {
             ElapsedRead::ElapsedTime(Elapsed(minutes_of(w)))
         } else {
             ElapsedRead::NoElapsedTime
+        }
+    }
+}
+
+impl ClockRead {
+    pub fn is_time_of_day(self) -> bool
+        ensures { λ r. ⌜ r ≡ isTimeOfDay self ⌝ }
+    {
+        match self {
+            ClockRead::TimeOfDay(_) => true,
+            ClockRead::NoTimeOfDay => false,
+        }
+    }
+}
+
+impl ElapsedRead {
+    pub fn is_elapsed(self) -> bool
+        ensures { λ r. ⌜ r ≡ isElapsed self ⌝ }
+    {
+        match self {
+            ElapsedRead::ElapsedTime(_) => true,
+            ElapsedRead::NoElapsedTime => false,
         }
     }
 }
