@@ -16,7 +16,7 @@ use Rattle.text.proofs.Joined.{join-split, split-join}
 use Rattle.text.proofs.Tidy.{letter-tidy, digit-tidy, tidy-word, word-free}
 use Rattle.shape.specs.Time.{timeFits, timeMinutes, spellTime, validTime}
 use Rattle.shape.proofs.Times.{time-length, time-digits, time-exact, time-valid, time-fits, time-minutes}
-use Rattle.aerodromes.specs.Aerodromes.{fourLetters, aerodromeOf, joinedOf, timed, validTimed, spellTimed, first, others}
+use Rattle.aerodromes.specs.Aerodromes.{fourLetters, aerodromeOf, joinedOf, joined, validJoined, spellJoined, first, others}
 
 -- AN AERODROME
 
@@ -46,8 +46,8 @@ some-word [] h = absurd (omega arith)
 some-word (b ∷ w) h = refl
 
 -- an aerodrome with digits or nothing joined to it
-pub joined-tidy : (w : Word) → fourLetters (aerodromeOf w) ≡ true → all digit (joinedOf w) ≡ true → tidyWord w ≡ true
-joined-tidy w e d =
+pub digits-tidy : (w : Word) → fourLetters (aerodromeOf w) ≡ true → all digit (joinedOf w) ≡ true → tidyWord w ≡ true
+digits-tidy w e d =
     let a = all-imp letter tidyByte letter-tidy (take 4 w) (four-letters (take 4 w) e) in
     let b = all-imp digit tidyByte digit-tidy (drop 4 w) d in
     let t : all tidyByte w ≡ true = sym (ap (all tidyByte) (take-append-drop 4 w)) ∙ all-append tidyByte (take 4 w) (drop 4 w) a b in
@@ -55,50 +55,50 @@ joined-tidy w e d =
 
 -- AN AERODROME AND A TIME
 
-module _ (most : ℕ) (w : Word) (e : timed most w ≡ true) where
-  timed-parts : (fourLetters (aerodromeOf w) ≡ true) × (timeFits most (joinedOf w) ≡ true)
-  unfolding timed
-  timed-parts = both (fourLetters (aerodromeOf w)) (timeFits most (joinedOf w)) e
+module _ (most : ℕ) (w : Word) (e : joined most w ≡ true) where
+  joined-parts : (fourLetters (aerodromeOf w) ≡ true) × (timeFits most (joinedOf w) ≡ true)
+  unfolding joined
+  joined-parts = both (fourLetters (aerodromeOf w)) (timeFits most (joinedOf w)) e
 
-  pub timed-four : fourLetters (aerodromeOf w) ≡ true
-  timed-four = timed-parts .0
+  pub joined-four : fourLetters (aerodromeOf w) ≡ true
+  joined-four = joined-parts .0
 
-  pub timed-time : timeFits most (joinedOf w) ≡ true
-  timed-time = timed-parts .1
+  pub joined-time : timeFits most (joinedOf w) ≡ true
+  joined-time = joined-parts .1
 
-  pub timed-length : length w ≡ 8
-  timed-length =
-      sym (ap length (take-append-drop 4 w)) ∙ simp length-append (omega (arith, four-length (take 4 w) timed-four, time-length most (drop 4 w) timed-time))
+  pub joined-length : length w ≡ 8
+  joined-length =
+      sym (ap length (take-append-drop 4 w)) ∙ simp length-append (omega (arith, four-length (take 4 w) joined-four, time-length most (drop 4 w) joined-time))
 
-  pub timed-spelled : spellTimed (aerodromeOf w) (timeMinutes (joinedOf w)) ≡ w
-  timed-spelled = ap (λ (t : Word). take 4 w ++ t) (time-exact most (drop 4 w) timed-time) ∙ take-append-drop 4 w
+  pub joined-spelled : spellJoined (aerodromeOf w) (timeMinutes (joinedOf w)) ≡ w
+  joined-spelled = ap (λ (t : Word). take 4 w ++ t) (time-exact most (drop 4 w) joined-time) ∙ take-append-drop 4 w
 
-  pub timed-valid : validTimed most (aerodromeOf w) (timeMinutes (joinedOf w)) ≡ true
-  timed-valid =
-      and-both (fourLetters (aerodromeOf w)) (validTime most (timeMinutes (joinedOf w))) timed-four (time-valid most (drop 4 w) timed-time)
+  pub joined-valid : validJoined most (aerodromeOf w) (timeMinutes (joinedOf w)) ≡ true
+  joined-valid =
+      and-both (fourLetters (aerodromeOf w)) (validTime most (timeMinutes (joinedOf w))) joined-four (time-valid most (drop 4 w) joined-time)
 
-  pub timed-tidy : tidyWord w ≡ true
-  timed-tidy = joined-tidy w timed-four (time-digits most (drop 4 w) timed-time)
+  pub joined-tidy : tidyWord w ≡ true
+  joined-tidy = digits-tidy w joined-four (time-digits most (drop 4 w) joined-time)
 
-module _ (most : ℕ) (a : Word) (n : ℕ) (l : most ≤ 99) (v : validTimed most a n ≡ true) where
+module _ (most : ℕ) (a : Word) (n : ℕ) (l : most ≤ 99) (v : validJoined most a n ≡ true) where
   valid-parts : (fourLetters a ≡ true) × (validTime most n ≡ true)
   valid-parts = both (fourLetters a) (validTime most n) v
 
-  pub timed-aerodrome : aerodromeOf (spellTimed a n) ≡ a
-  timed-aerodrome = cut-aerodrome a (valid-parts .0) (spellTime n)
+  pub joined-aerodrome : aerodromeOf (spellJoined a n) ≡ a
+  joined-aerodrome = cut-aerodrome a (valid-parts .0) (spellTime n)
 
-  timed-joined : joinedOf (spellTimed a n) ≡ spellTime n
-  timed-joined = cut-joined a (valid-parts .0) (spellTime n)
+  joined-cut : joinedOf (spellJoined a n) ≡ spellTime n
+  joined-cut = cut-joined a (valid-parts .0) (spellTime n)
 
-  pub timed-minutes : timeMinutes (joinedOf (spellTimed a n)) ≡ n
-  timed-minutes = ap timeMinutes timed-joined ∙ time-minutes most n l (valid-parts .1)
+  pub joined-minutes : timeMinutes (joinedOf (spellJoined a n)) ≡ n
+  joined-minutes = ap timeMinutes joined-cut ∙ time-minutes most n l (valid-parts .1)
 
-  pub timed-fits : timed most (spellTimed a n) ≡ true
-  unfolding timed
-  timed-fits =
-      and-both (fourLetters (aerodromeOf (spellTimed a n))) (timeFits most (joinedOf (spellTimed a n)))
-      (ap fourLetters timed-aerodrome ∙ valid-parts .0)
-      (ap (timeFits most) timed-joined ∙ time-fits most n l (valid-parts .1))
+  pub joined-fits : joined most (spellJoined a n) ≡ true
+  unfolding joined
+  joined-fits =
+      and-both (fourLetters (aerodromeOf (spellJoined a n))) (timeFits most (joinedOf (spellJoined a n)))
+      (ap fourLetters joined-aerodrome ∙ valid-parts .0)
+      (ap (timeFits most) joined-cut ∙ time-fits most n l (valid-parts .1))
 
 -- THE WORDS OF A CONTENT
 
@@ -110,20 +110,20 @@ unfolding tidy
 tidy-words s p q = ap (all tidyWord) (words s) ∙ and-both (tidyWord (first (split 32 s))) (all tidyWord (others (split 32 s))) p q
 
 -- a content whose first word is an aerodrome and a time
-pub words-spelled : (most : ℕ) (s : List ℕ) → timed most (first (split 32 s)) ≡ true
-    → join 32 (spellTimed (aerodromeOf (first (split 32 s))) (timeMinutes (joinedOf (first (split 32 s)))) ∷ others (split 32 s)) ≡ s
+pub words-spelled : (most : ℕ) (s : List ℕ) → joined most (first (split 32 s)) ≡ true
+    → join 32 (spellJoined (aerodromeOf (first (split 32 s))) (timeMinutes (joinedOf (first (split 32 s)))) ∷ others (split 32 s)) ≡ s
 words-spelled most s e =
-    ap (λ (w : Word). join 32 (w ∷ others (split 32 s))) (timed-spelled most (first (split 32 s)) e) ∙ sym (ap (join 32) (words s)) ∙ join-split 32 s
+    ap (λ (w : Word). join 32 (w ∷ others (split 32 s))) (joined-spelled most (first (split 32 s)) e) ∙ sym (ap (join 32) (words s)) ∙ join-split 32 s
 
-module _ (most : ℕ) (a : Word) (n : ℕ) (ws : List Word) (l : most ≤ 99) (v : validTimed most a n ≡ true) (t : all tidyWord ws ≡ true) where
-  words-back : split 32 (join 32 (spellTimed a n ∷ ws)) ≡ spellTimed a n ∷ ws
+module _ (most : ℕ) (a : Word) (n : ℕ) (ws : List Word) (l : most ≤ 99) (v : validJoined most a n ≡ true) (t : all tidyWord ws ≡ true) where
+  words-back : split 32 (join 32 (spellJoined a n ∷ ws)) ≡ spellJoined a n ∷ ws
   words-back =
-      split-join 32 (spellTimed a n) ws
-      (all-imp tidyWord (free 32) word-free (spellTimed a n ∷ ws)
-      (and-both (tidyWord (spellTimed a n)) (all tidyWord ws) (timed-tidy most (spellTimed a n) (timed-fits most a n l v)) t))
+      split-join 32 (spellJoined a n) ws
+      (all-imp tidyWord (free 32) word-free (spellJoined a n ∷ ws)
+      (and-both (tidyWord (spellJoined a n)) (all tidyWord ws) (joined-tidy most (spellJoined a n) (joined-fits most a n l v)) t))
 
-  pub first-back : first (split 32 (join 32 (spellTimed a n ∷ ws))) ≡ spellTimed a n
+  pub first-back : first (split 32 (join 32 (spellJoined a n ∷ ws))) ≡ spellJoined a n
   first-back = ap first words-back
 
-  pub others-back : others (split 32 (join 32 (spellTimed a n ∷ ws))) ≡ ws
+  pub others-back : others (split 32 (join 32 (spellJoined a n ∷ ws))) ≡ ws
   others-back = ap others words-back

@@ -9,15 +9,16 @@ use lib.Seq.{take-all, take-at, take-append-le, drop-append-le}
 use Rattle.alphabet.specs.Alphabet.{letter}
 use Rattle.text.specs.Words.{Word, all, elem, split, upTo}
 use Rattle.shape.specs.declared.ClockRead.the-variants.{TimeOfDay}
-use Rattle.shape.specs.Time.{clockHours, elapsedHours, timeFits, clockFits, clockOf, clockRead}
+use Rattle.shape.specs.declared.ElapsedRead.the-variants.{ElapsedTime}
+use Rattle.shape.specs.Time.{clockHours, elapsedHours, timeFits, clockFits, clockOf, clockRead, elapsedRead}
 use Rattle.shape.proofs.Times.{time-length}
-use Rattle.aerodromes.specs.Aerodromes.{fourLetters, aerodromeOf, joinedOf, timed, first}
+use Rattle.aerodromes.specs.Aerodromes.{fourLetters, aerodromeOf, joinedOf, joined, first}
 use Rattle.aerodromes.specs.Field13.{fits13, record13, fits13open, record13open, clockOrNone, clockIfAny}
 use Rattle.aerodromes.specs.Field16.{fits16, record16, fits16plan, record16plan}
 use Rattle.aerodromes.specs.Field17.{fits17, record17}
 use Rattle.aerodromes.specs.declared.Aerodrome.{Aerodrome}
-use Rattle.aerodromes.specs.Asked.{clockAt, readIfAny, hasAlternate, aerodromeIn, fourBytes, isLetters}
-use Rattle.aerodromes.proofs.Aerodromes.{four-length, four-letters, timed-four, timed-time, timed-length}
+use Rattle.aerodromes.specs.Asked.{clockAt, readIfAny, elapsedAt, hasAlternate, aerodromeIn, fourBytes, isLetters}
+use Rattle.aerodromes.proofs.Aerodromes.{four-length, four-letters, joined-four, joined-time, joined-length}
 use Rattle.aerodromes.proofs.Index.{first-at, clock-short}
 use Rattle.aerodromes.proofs.Field13.{open-parts}
 use Rattle.aerodromes.proofs.Field16.{plan-parts}
@@ -56,12 +57,12 @@ named s a p e =
 whole : (s : List ℕ) → first (split 32 s) ++ drop (0 + upTo 32 s) s ≡ s
 whole s = ap (λ (w : Word). w ++ drop (0 + upTo 32 s) s) (first-at s (0 + upTo 32 s) refl) ∙ take-append-drop (0 + upTo 32 s) s
 
-module _ (most : ℕ) (s : List ℕ) (e : timed most (first (split 32 s)) ≡ true) where
+module _ (most : ℕ) (s : List ℕ) (e : joined most (first (split 32 s)) ≡ true) where
   long : 4 ≤ length (first (split 32 s))
-  long = omega (arith, timed-length most (first (split 32 s)) e)
+  long = omega (arith, joined-length most (first (split 32 s)) e)
 
   time-there : timeFits most (joinedOf (first (split 32 s))) ≡ true
-  time-there = timed-time most (first (split 32 s)) e
+  time-there = joined-time most (first (split 32 s)) e
 
   front-aerodrome : aerodromeOf s ≡ aerodromeOf (first (split 32 s))
   front-aerodrome = sym (ap aerodromeOf (whole s)) ∙ take-append-le 4 (first (split 32 s)) (drop (0 + upTo 32 s) s) long
@@ -75,7 +76,7 @@ module _ (most : ℕ) (s : List ℕ) (e : timed most (first (split 32 s)) ≡ tr
 -- THE AERODROME of each form
 
 pub named13 : (s : List ℕ) → fits13 s ≡ true → Named s (record13 s .aerodrome)
-named13 s e = named s (aerodromeOf s) refl (timed-four clockHours s e)
+named13 s e = named s (aerodromeOf s) refl (joined-four clockHours s e)
 
 pub named13open : (s : List ℕ) → fits13open s ≡ true → Named s (record13open s .aerodrome)
 named13open s e = named s (aerodromeOf s) refl (open-parts s e .0)
@@ -86,12 +87,12 @@ named16 s e = named s s (take-all 4 s (omega (arith, four-length s e))) e
 pub named16plan : (s : List ℕ) → fits16plan s ≡ true → Named s (record16plan s .destination)
 named16plan s e =
     let t = plan-parts s e .0 in
-    named s (aerodromeOf (first (split 32 s))) (front-aerodrome elapsedHours s t) (timed-four elapsedHours (first (split 32 s)) t)
+    named s (aerodromeOf (first (split 32 s))) (front-aerodrome elapsedHours s t) (joined-four elapsedHours (first (split 32 s)) t)
 
 pub named17 : (s : List ℕ) → fits17 s ≡ true → Named s (record17 s .aerodrome)
 named17 s e =
     let t = landed-parts s e .0 in
-    named s (aerodromeOf (first (split 32 s))) (front-aerodrome clockHours s t) (timed-four clockHours (first (split 32 s)) t)
+    named s (aerodromeOf (first (split 32 s))) (front-aerodrome clockHours s t) (joined-four clockHours (first (split 32 s)) t)
 
 -- THE TIME OF DAY
 
@@ -102,7 +103,7 @@ clock-whole : (s : List ℕ) → clockFits (joinedOf s) ≡ true → clockAt s �
 clock-whole s e = clock-is s (joinedOf s) (take-all 4 (joinedOf s) (omega (arith, time-length clockHours (joinedOf s) e))) e
 
 pub clock13 : (s : List ℕ) → fits13 s ≡ true → clockAt s ≡ TimeOfDay (record13 s .time)
-clock13 s e = clock-whole s (timed-time clockHours s e)
+clock13 s e = clock-whole s (joined-time clockHours s e)
 
 pub clock13open : (s : List ℕ) → fits13open s ≡ true → clockAt s ≡ readIfAny (record13open s .time)
 clock13open s e = go (joinedOf s) refl (open-parts s e .1)
@@ -115,7 +116,14 @@ clock13open s e = go (joinedOf s) refl (open-parts s e .1)
 pub clock17 : (s : List ℕ) → fits17 s ≡ true → clockAt s ≡ TimeOfDay (record17 s .time)
 clock17 s e =
     let t = landed-parts s e .0 in
-    clock-is s (joinedOf (first (split 32 s))) (front-joined clockHours s t) (timed-time clockHours (first (split 32 s)) t)
+    clock-is s (joinedOf (first (split 32 s))) (front-joined clockHours s t) (joined-time clockHours (first (split 32 s)) t)
+
+-- THE ELAPSED TIME
+
+pub elapsed16plan : (s : List ℕ) → fits16plan s ≡ true → elapsedAt s ≡ ElapsedTime (record16plan s .elapsed)
+elapsed16plan s e =
+    let t = plan-parts s e .0 in
+    ap elapsedRead (front-joined elapsedHours s t) ∙ rw (time-there elapsedHours s t)
 
 -- THE ALTERNATES
 

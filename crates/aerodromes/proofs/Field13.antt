@@ -19,25 +19,25 @@ use Rattle.aerodromes.specs.Aerodromes.{fourLetters, aerodromeOf, joined
 use Rattle.aerodromes.specs.Field13.{Field13, valid13, spell13, record13, field13}
 use Rattle.aerodromes.specs.Field13.{clockOrNone, clockIfAny, validIfAny, spellIfAny}
 use Rattle.aerodromes.specs.Field13.{Field13Open, valid13open, spell13open, fits13open, record13open, field13open}
-use Rattle.aerodromes.proofs.Aerodromes.{cut-aerodrome, cut-joined, joined-tidy}
-use Rattle.aerodromes.proofs.Aerodromes.{timed-spelled, timed-valid, timed-tidy, timed-aerodrome, timed-minutes, timed-fits}
+use Rattle.aerodromes.proofs.Aerodromes.{cut-aerodrome, cut-joined, digits-tidy}
+use Rattle.aerodromes.proofs.Aerodromes.{joined-spelled, joined-valid, joined-tidy, joined-aerodrome, joined-minutes, joined-fits}
 
 -- FIELD 13
 
 back13 : (r : Field13) → valid13 r ≡ true → record13 (spell13 r) ≡ r
 back13 r v =
     ap₂ (λ (a : Word) (n : ℕ). record { aerodrome = a; time = record { 0 = n } })
-    (timed-aerodrome clockHours (r .aerodrome) (r .time .0) (omega arith) v)
-    (timed-minutes clockHours (r .aerodrome) (r .time .0) (omega arith) v)
+    (joined-aerodrome clockHours (r .aerodrome) (r .time .0) (omega arith) v)
+    (joined-minutes clockHours (r .aerodrome) (r .time .0) (omega arith) v)
 
 facts13 : Facts field13
 facts13 =
     record {
-      spelled = timed-spelled clockHours;
-      held = timed-valid clockHours;
-      taken = λ r v. timed-fits clockHours (r .aerodrome) (r .time .0) (omega arith) v;
+      spelled = joined-spelled clockHours;
+      held = joined-valid clockHours;
+      taken = λ r v. joined-fits clockHours (r .aerodrome) (r .time .0) (omega arith) v;
       back = back13;
-      tidied = λ s e. tidy-one s (timed-tidy clockHours s e);
+      tidied = λ s e. tidy-one s (joined-tidy clockHours s e);
     }
 
 pub field13-laws : Laws field13
@@ -109,7 +109,7 @@ facts13open =
       held = held13open;
       taken = taken13open;
       back = back13open;
-      tidied = λ s e. let h = open-parts s e in tidy-one s (joined-tidy s (h .0) (if-any-digits (joinedOf s) (h .1)));
+      tidied = λ s e. let h = open-parts s e in tidy-one s (digits-tidy s (h .0) (if-any-digits (joinedOf s) (h .1)));
     }
 
 pub field13open-laws : Laws field13open

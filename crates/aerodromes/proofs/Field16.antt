@@ -12,9 +12,9 @@ use Rattle.text.proofs.Tidy.{tidy-one}
 use Rattle.shape.specs.Time.{elapsedHours, elapsedOf, timeMinutes}
 use Rattle.shape.specs.Field.{Laws}
 use Rattle.shape.proofs.Fields.{Facts, plain}
-use Rattle.aerodromes.specs.Aerodromes.{fourLetters, aerodromeOf, joinedOf, timed, validTimed, spellTimed, first, others}
+use Rattle.aerodromes.specs.Aerodromes.{fourLetters, aerodromeOf, joinedOf, joined, validJoined, spellJoined, first, others}
 use Rattle.aerodromes.specs.Field16.{field16, fewAerodromes, mostAlternates, Field16Plan, valid16plan, spell16plan, fits16plan, record16plan, field16plan}
-use Rattle.aerodromes.proofs.Aerodromes.{four-tidy, timed-valid, timed-tidy, timed-aerodrome, timed-minutes, timed-fits}
+use Rattle.aerodromes.proofs.Aerodromes.{four-tidy, joined-valid, joined-tidy, joined-aerodrome, joined-minutes, joined-fits}
 use Rattle.aerodromes.proofs.Aerodromes.{tidy-words, words-spelled, first-back, others-back}
 
 -- FIELD 16 ALONE
@@ -32,25 +32,25 @@ few-tidy : (most : ℕ) (ws : List Word) → fewAerodromes most ws ≡ true → 
 few-tidy most ws e = all-imp fourLetters tidyWord four-tidy ws (both (leb (length ws) most) (all fourLetters ws) e .1)
 
 module _ (s : List ℕ) (e : fits16plan s ≡ true) where
-  pub plan-parts : (timed elapsedHours (first (split 32 s)) ≡ true) × (fewAerodromes mostAlternates (others (split 32 s)) ≡ true)
+  pub plan-parts : (joined elapsedHours (first (split 32 s)) ≡ true) × (fewAerodromes mostAlternates (others (split 32 s)) ≡ true)
   unfolding fits16plan
-  plan-parts = both (timed elapsedHours (first (split 32 s))) (fewAerodromes mostAlternates (others (split 32 s))) e
+  plan-parts = both (joined elapsedHours (first (split 32 s))) (fewAerodromes mostAlternates (others (split 32 s))) e
 
   held16plan : valid16plan (record16plan s) ≡ true
   held16plan =
       let w = first (split 32 s) in
-      and-both (validTimed elapsedHours (aerodromeOf w) (timeMinutes (joinedOf w))) (fewAerodromes mostAlternates (others (split 32 s)))
-      (timed-valid elapsedHours w (plan-parts .0))
+      and-both (validJoined elapsedHours (aerodromeOf w) (timeMinutes (joinedOf w))) (fewAerodromes mostAlternates (others (split 32 s)))
+      (joined-valid elapsedHours w (plan-parts .0))
       (plan-parts .1)
 
   tidied16plan : tidy s ≡ true
-  tidied16plan = tidy-words s (timed-tidy elapsedHours (first (split 32 s)) (plan-parts .0)) (few-tidy mostAlternates (others (split 32 s)) (plan-parts .1))
+  tidied16plan = tidy-words s (joined-tidy elapsedHours (first (split 32 s)) (plan-parts .0)) (few-tidy mostAlternates (others (split 32 s)) (plan-parts .1))
 
 module _ (r : Field16Plan) (v : valid16plan r ≡ true) where
-  parts : (validTimed elapsedHours (r .destination) (r .elapsed .0) ≡ true) × (fewAerodromes mostAlternates (r .alternates) ≡ true)
-  parts = both (validTimed elapsedHours (r .destination) (r .elapsed .0)) (fewAerodromes mostAlternates (r .alternates)) v
+  parts : (validJoined elapsedHours (r .destination) (r .elapsed .0) ≡ true) × (fewAerodromes mostAlternates (r .alternates) ≡ true)
+  parts = both (validJoined elapsedHours (r .destination) (r .elapsed .0)) (fewAerodromes mostAlternates (r .alternates)) v
 
-  first-is : first (split 32 (spell16plan r)) ≡ spellTimed (r .destination) (r .elapsed .0)
+  first-is : first (split 32 (spell16plan r)) ≡ spellJoined (r .destination) (r .elapsed .0)
   first-is =
       first-back elapsedHours (r .destination) (r .elapsed .0) (r .alternates) (omega arith) (parts .0) (few-tidy mostAlternates (r .alternates) (parts .1))
 
@@ -61,16 +61,16 @@ module _ (r : Field16Plan) (v : valid16plan r ≡ true) where
   taken16plan : fits16plan (spell16plan r) ≡ true
   unfolding fits16plan
   taken16plan =
-      and-both (timed elapsedHours (first (split 32 (spell16plan r)))) (fewAerodromes mostAlternates (others (split 32 (spell16plan r))))
-      (ap (timed elapsedHours) first-is ∙ timed-fits elapsedHours (r .destination) (r .elapsed .0) (omega arith) (parts .0))
+      and-both (joined elapsedHours (first (split 32 (spell16plan r)))) (fewAerodromes mostAlternates (others (split 32 (spell16plan r))))
+      (ap (joined elapsedHours) first-is ∙ joined-fits elapsedHours (r .destination) (r .elapsed .0) (omega arith) (parts .0))
       (ap (fewAerodromes mostAlternates) others-are ∙ parts .1)
 
   back16plan : record16plan (spell16plan r) ≡ r
   back16plan =
       ap₂ (λ (w : Word) (ws : List Word). record { destination = aerodromeOf w; elapsed = elapsedOf (joinedOf w); alternates = ws }) first-is others-are
       ∙ ap₂ (λ (a : Word) (n : ℕ). record { destination = a; elapsed = record { 0 = n }; alternates = r .alternates })
-      (timed-aerodrome elapsedHours (r .destination) (r .elapsed .0) (omega arith) (parts .0))
-      (timed-minutes elapsedHours (r .destination) (r .elapsed .0) (omega arith) (parts .0))
+      (joined-aerodrome elapsedHours (r .destination) (r .elapsed .0) (omega arith) (parts .0))
+      (joined-minutes elapsedHours (r .destination) (r .elapsed .0) (omega arith) (parts .0))
 
 facts16plan : Facts field16plan
 facts16plan =

@@ -10,9 +10,9 @@ use Rattle.text.proofs.Tidy.{text-word-tidy}
 use Rattle.shape.specs.Time.{clockHours, clockOf, timeMinutes}
 use Rattle.shape.specs.Field.{Laws}
 use Rattle.shape.proofs.Fields.{Facts, plain}
-use Rattle.aerodromes.specs.Aerodromes.{aerodromeOf, joinedOf, timed, validTimed, spellTimed, first, others}
+use Rattle.aerodromes.specs.Aerodromes.{aerodromeOf, joinedOf, joined, validJoined, spellJoined, first, others}
 use Rattle.aerodromes.specs.Field17.{unlisted, placeFits, Field17, valid17, spell17, fits17, record17, field17}
-use Rattle.aerodromes.proofs.Aerodromes.{timed-valid, timed-tidy, timed-aerodrome, timed-minutes, timed-fits}
+use Rattle.aerodromes.proofs.Aerodromes.{joined-valid, joined-tidy, joined-aerodrome, joined-minutes, joined-fits}
 use Rattle.aerodromes.proofs.Aerodromes.{tidy-words, words-spelled, first-back, others-back}
 
 place-tidy : (a : Word) (ws : List Word) → placeFits a ws ≡ true → all tidyWord ws ≡ true
@@ -23,40 +23,40 @@ place-tidy a ws e = go (same a unlisted) e
     go false q = ap (all tidyWord) (null-nil ws q)
 
 module _ (s : List ℕ) (e : fits17 s ≡ true) where
-  pub landed-parts : (timed clockHours (first (split 32 s)) ≡ true) × (placeFits (aerodromeOf (first (split 32 s))) (others (split 32 s)) ≡ true)
+  pub landed-parts : (joined clockHours (first (split 32 s)) ≡ true) × (placeFits (aerodromeOf (first (split 32 s))) (others (split 32 s)) ≡ true)
   unfolding fits17
-  landed-parts = both (timed clockHours (first (split 32 s))) (placeFits (aerodromeOf (first (split 32 s))) (others (split 32 s))) e
+  landed-parts = both (joined clockHours (first (split 32 s))) (placeFits (aerodromeOf (first (split 32 s))) (others (split 32 s))) e
 
   held17 : valid17 (record17 s) ≡ true
   held17 =
       let w = first (split 32 s) in
-      and-both (validTimed clockHours (aerodromeOf w) (timeMinutes (joinedOf w))) (placeFits (aerodromeOf w) (others (split 32 s)))
-      (timed-valid clockHours w (landed-parts .0))
+      and-both (validJoined clockHours (aerodromeOf w) (timeMinutes (joinedOf w))) (placeFits (aerodromeOf w) (others (split 32 s)))
+      (joined-valid clockHours w (landed-parts .0))
       (landed-parts .1)
 
   tidied17 : tidy s ≡ true
   tidied17 =
       let w = first (split 32 s) in
-      tidy-words s (timed-tidy clockHours w (landed-parts .0)) (place-tidy (aerodromeOf w) (others (split 32 s)) (landed-parts .1))
+      tidy-words s (joined-tidy clockHours w (landed-parts .0)) (place-tidy (aerodromeOf w) (others (split 32 s)) (landed-parts .1))
 
 module _ (r : Field17) (v : valid17 r ≡ true) where
-  parts : (validTimed clockHours (r .aerodrome) (r .time .0) ≡ true) × (placeFits (r .aerodrome) (r .place) ≡ true)
-  parts = both (validTimed clockHours (r .aerodrome) (r .time .0)) (placeFits (r .aerodrome) (r .place)) v
+  parts : (validJoined clockHours (r .aerodrome) (r .time .0) ≡ true) × (placeFits (r .aerodrome) (r .place) ≡ true)
+  parts = both (validJoined clockHours (r .aerodrome) (r .time .0)) (placeFits (r .aerodrome) (r .place)) v
 
-  first-is : first (split 32 (spell17 r)) ≡ spellTimed (r .aerodrome) (r .time .0)
+  first-is : first (split 32 (spell17 r)) ≡ spellJoined (r .aerodrome) (r .time .0)
   first-is = first-back clockHours (r .aerodrome) (r .time .0) (r .place) (omega arith) (parts .0) (place-tidy (r .aerodrome) (r .place) (parts .1))
 
   others-are : others (split 32 (spell17 r)) ≡ r .place
   others-are = others-back clockHours (r .aerodrome) (r .time .0) (r .place) (omega arith) (parts .0) (place-tidy (r .aerodrome) (r .place) (parts .1))
 
-  aerodrome-is : aerodromeOf (spellTimed (r .aerodrome) (r .time .0)) ≡ r .aerodrome
-  aerodrome-is = timed-aerodrome clockHours (r .aerodrome) (r .time .0) (omega arith) (parts .0)
+  aerodrome-is : aerodromeOf (spellJoined (r .aerodrome) (r .time .0)) ≡ r .aerodrome
+  aerodrome-is = joined-aerodrome clockHours (r .aerodrome) (r .time .0) (omega arith) (parts .0)
 
   taken17 : fits17 (spell17 r) ≡ true
   unfolding fits17
   taken17 =
-      and-both (timed clockHours (first (split 32 (spell17 r)))) (placeFits (aerodromeOf (first (split 32 (spell17 r)))) (others (split 32 (spell17 r))))
-      (ap (timed clockHours) first-is ∙ timed-fits clockHours (r .aerodrome) (r .time .0) (omega arith) (parts .0))
+      and-both (joined clockHours (first (split 32 (spell17 r)))) (placeFits (aerodromeOf (first (split 32 (spell17 r)))) (others (split 32 (spell17 r))))
+      (ap (joined clockHours) first-is ∙ joined-fits clockHours (r .aerodrome) (r .time .0) (omega arith) (parts .0))
       (ap₂ placeFits (ap aerodromeOf first-is ∙ aerodrome-is) others-are ∙ parts .1)
 
   back17 : record17 (spell17 r) ≡ r
@@ -64,7 +64,7 @@ module _ (r : Field17) (v : valid17 r ≡ true) where
       ap₂ (λ (w : Word) (ws : List Word). record { aerodrome = aerodromeOf w; time = clockOf (joinedOf w); place = ws }) first-is others-are
       ∙ ap₂ (λ (a : Word) (n : ℕ). record { aerodrome = a; time = record { 0 = n }; place = r .place })
       aerodrome-is
-      (timed-minutes clockHours (r .aerodrome) (r .time .0) (omega arith) (parts .0))
+      (joined-minutes clockHours (r .aerodrome) (r .time .0) (omega arith) (parts .0))
 
 facts17 : Facts field17
 facts17 =

@@ -11,15 +11,18 @@ use borrow.Author.Tests.{le-leb, eqb-true, eqb-false}
 use Rattle.text.specs.Words.{Word, all, null, same, split, upTo, textWord}
 use Rattle.text.proofs.Index.{split-at, after-here, after-end, drop-end, rest, null-split}
 use Rattle.text.proofs.Tests.{and-false}
+use Rattle.shape.specs.declared.ClockRead.{ClockRead}
 use Rattle.shape.specs.declared.ClockRead.the-variants.{NoTimeOfDay}
-use Rattle.shape.specs.Time.{timeFits, clockHours, elapsedHours, clockFits}
-use Rattle.shape.proofs.Times.{time-length}
-use Rattle.aerodromes.specs.Aerodromes.{fourLetters, timed, first, others}
+use Rattle.shape.specs.declared.ElapsedRead.{ElapsedRead}
+use Rattle.shape.specs.declared.ElapsedRead.the-variants.{NoElapsedTime}
+use Rattle.shape.specs.Time.{timeFits, clockHours, clockFits, clockOf, clockRead, isTimeOfDay, elapsedHours, elapsedOf, elapsedRead, isElapsed}
+use Rattle.shape.proofs.Times.{time-length, told-clock, told-elapsed}
+use Rattle.aerodromes.specs.Aerodromes.{fourLetters, joinedOf, joined, atClock, atElapsed, first, others}
 use Rattle.aerodromes.specs.Field13.{clockOrNone, fits13open}
 use Rattle.aerodromes.specs.Field16.{fewAerodromes, mostAlternates, fits16plan}
 use Rattle.aerodromes.specs.Field17.{unlisted, fits17}
-use Rattle.aerodromes.specs.Asked.{clockAt}
-use Rattle.aerodromes.proofs.Aerodromes.{four-length, timed-length}
+use Rattle.aerodromes.specs.Asked.{clockAt, elapsedAt}
+use Rattle.aerodromes.proofs.Aerodromes.{four-length, joined-length}
 
 -- a test that does not hold
 not-so : (b : Bool) → (b ≡ true → ⊥) → b ≡ false
@@ -33,16 +36,30 @@ last-test r false e = e
 
 -- AN AERODROME AND A TIME
 
-pub timed-short : (most : ℕ) (w : Word) → length w < 4 → timed most w ≡ false
-timed-short most w h = not-so (timed most w) (λ e. omega (arith, timed-length most w e))
+pub joined-short : (most : ℕ) (w : Word) → length w < 4 → joined most w ≡ false
+joined-short most w h = not-so (joined most w) (λ e. omega (arith, joined-length most w e))
 
-pub timed-stop : (most : ℕ) (w : Word) → fourLetters (take 4 w) ≡ false → timed most w ≡ false
-unfolding timed
-timed-stop most w e = rw e
+pub joined-stop : (most : ℕ) (w : Word) → fourLetters (take 4 w) ≡ false → joined most w ≡ false
+unfolding joined
+joined-stop most w e = rw e
 
-pub timed-rest : (most : ℕ) (w : Word) → fourLetters (take 4 w) ≡ true → timeFits most (take (length w - 4) (drop 4 w)) ≡ timed most w
-unfolding timed
-timed-rest most w e = rw (e, rest w 4)
+-- what is read behind four letters
+module _ (w : Word) (e : fourLetters (take 4 w) ≡ true) where
+  pub clock-rest : clockRead (take (length w - 4) (drop 4 w)) ≡ atClock w
+  unfolding joined
+  clock-rest = rw (e, rest w 4)
+
+  pub elapsed-rest : elapsedRead (take (length w - 4) (drop 4 w)) ≡ atElapsed w
+  unfolding joined
+  elapsed-rest = rw (e, rest w 4)
+
+-- what the answer tells
+module _ (w : Word) where
+  pub by-clock : {t : ClockRead} {r : Bool} → t ≡ atClock w → r ≡ isTimeOfDay t → r ≡ joined clockHours w
+  by-clock p q = q ∙ ap isTimeOfDay p ∙ told-clock (joined clockHours w) (clockOf (joinedOf w))
+
+  pub by-elapsed : {t : ElapsedRead} {r : Bool} → t ≡ atElapsed w → r ≡ isElapsed t → r ≡ joined elapsedHours w
+  by-elapsed p q = q ∙ ap isElapsed p ∙ told-elapsed (joined elapsedHours w) (elapsedOf (joinedOf w))
 
 -- a time that may be absent
 
@@ -52,23 +69,28 @@ open-alone s e =
     let h : length s ≤ 4 = omega (arith, four-length s e) in
     rw (take-all 4 s h, drop-end s 4 h, e)
 
-pub open-timed : (s : List ℕ) → fourLetters s ≡ false → fits13open s ≡ timed clockHours s
-unfolding fits13open timed
-open-timed s e = go (drop 4 s) refl
+pub open-joined : (s : List ℕ) → fourLetters s ≡ false → fits13open s ≡ joined clockHours s
+unfolding fits13open joined
+open-joined s e = go (drop 4 s) refl
   where
     go : (t : Word) → drop 4 s ≡ t → (fourLetters (take 4 s) && clockOrNone t) ≡ (fourLetters (take 4 s) && clockFits t)
     go [] q = let h : length s ≤ 4 = omega (arith, sym (length-drop 4 s) ∙ ap length q) in rw (take-all 4 s h, e)
     go (b ∷ t) q = refl
 
--- a time of day behind the first four bytes
+-- a time behind the first four bytes
 
-pub clock-short : (s : List ℕ) → length s < 8 → clockAt s ≡ NoTimeOfDay
-clock-short s h =
-    let n : length (drop 4 s) ≤ 4 = simp length-drop (omega arith) in
-    let t : clockFits (take 4 (drop 4 s)) ≡ false
-    = not-so (clockFits (take 4 (drop 4 s)))
-    (λ e. omega (arith, sym (ap length (take-all 4 (drop 4 s) n)) ∙ time-length clockHours (take 4 (drop 4 s)) e, length-drop 4 s)) in
-    rw t
+module _ (s : List ℕ) (h : length s < 8) where
+  time-short : (most : ℕ) → timeFits most (take 4 (drop 4 s)) ≡ false
+  time-short most =
+      let n : length (drop 4 s) ≤ 4 = simp length-drop (omega arith) in
+      not-so (timeFits most (take 4 (drop 4 s)))
+      (λ e. omega (arith, sym (ap length (take-all 4 (drop 4 s) n)) ∙ time-length most (take 4 (drop 4 s)) e, length-drop 4 s))
+
+  pub clock-short : clockAt s ≡ NoTimeOfDay
+  clock-short = rw (time-short clockHours)
+
+  pub elapsed-short : elapsedAt s ≡ NoElapsedTime
+  elapsed-short = rw (time-short elapsedHours)
 
 -- A TEST OF EVERY WORD, and aerodromes at most so many: at a word that ends at e
 
@@ -123,33 +145,33 @@ module _ (s : List ℕ) (e : ℕ) (end : e ≡ 0 + upTo 32 (drop 0 s)) where
 
   -- field 16 in FPL and SPL
 
-  pub plan-stop : timed elapsedHours (take e s) ≡ false → fits16plan s ≡ false
+  pub plan-stop : joined elapsedHours (take e s) ≡ false → fits16plan s ≡ false
   unfolding fits16plan
   plan-stop t = rw (first-at, t)
 
-  pub plan-last : timed elapsedHours (take e s) ≡ true → length s ≤ e → fits16plan s ≡ true
+  pub plan-last : joined elapsedHours (take e s) ≡ true → length s ≤ e → fits16plan s ≡ true
   unfolding fits16plan
   plan-last t l = rw (first-at, t, others-end l)
 
-  pub plan-next : timed elapsedHours (take e s) ≡ true → e < length s → fits16plan s ≡ fewAerodromes mostAlternates (split 32 (drop (e + 1) s))
+  pub plan-next : joined elapsedHours (take e s) ≡ true → e < length s → fits16plan s ≡ fewAerodromes mostAlternates (split 32 (drop (e + 1) s))
   unfolding fits16plan
   plan-next t l = rw (first-at, t, others-here l)
 
   -- field 17
 
-  pub landed-stop : timed clockHours (take e s) ≡ false → fits17 s ≡ false
+  pub landed-stop : joined clockHours (take e s) ≡ false → fits17 s ≡ false
   unfolding fits17
   landed-stop t = rw (first-at, t)
 
-  pub landed-other : e ≤ length s → timed clockHours (take e s) ≡ true → same (take 4 (take e s)) unlisted ≡ false → fits17 s ≡ eqb e (length s)
+  pub landed-other : e ≤ length s → joined clockHours (take e s) ≡ true → same (take 4 (take e s)) unlisted ≡ false → fits17 s ≡ eqb e (length s)
   unfolding fits17
   landed-other l t u = rw (first-at, t, u) (others-null l)
 
-  pub landed-bare : timed clockHours (take e s) ≡ true → same (take 4 (take e s)) unlisted ≡ true → length s ≤ e → fits17 s ≡ false
+  pub landed-bare : joined clockHours (take e s) ≡ true → same (take 4 (take e s)) unlisted ≡ true → length s ≤ e → fits17 s ≡ false
   unfolding fits17
   landed-bare t u l = rw (first-at, t, u, others-end l)
 
-  pub landed-place : timed clockHours (take e s) ≡ true → same (take 4 (take e s)) unlisted ≡ true → e < length s
+  pub landed-place : joined clockHours (take e s) ≡ true → same (take 4 (take e s)) unlisted ≡ true → e < length s
       → fits17 s ≡ all textWord (split 32 (drop (e + 1) s))
   unfolding fits17
   landed-place t u l = rw (first-at, t, u, others-here l, null-split 32 (drop (e + 1) s))

@@ -9,7 +9,7 @@ use Rattle.text.specs.Words.{Word}
 use Rattle.shape.specs.declared.Clock.{Clock}
 use Rattle.shape.specs.Time.{timeFits, clockHours, clockFits, clockOf, spellClock, validClock}
 use Rattle.shape.specs.Field.{Field}
-use Rattle.aerodromes.specs.Aerodromes.{fourLetters, aerodromeOf, joinedOf, timed, validTimed, spellTimed}
+use Rattle.aerodromes.specs.Aerodromes.{fourLetters, aerodromeOf, joinedOf, joined, validJoined, spellJoined}
 
 -- FIELD 13
 
@@ -18,13 +18,13 @@ pub record Field13 : Type 0 where
   pub time : Clock
 
 abbrev pub valid13 : Field13 → Bool
-valid13 r = validTimed clockHours (r .aerodrome) (r .time .0)
+valid13 r = validJoined clockHours (r .aerodrome) (r .time .0)
 
 abbrev pub spell13 : Field13 → List ℕ
-spell13 r = spellTimed (r .aerodrome) (r .time .0)
+spell13 r = spellJoined (r .aerodrome) (r .time .0)
 
 abbrev pub fits13 : List ℕ → Bool
-fits13 s = timed clockHours s
+fits13 s = joined clockHours s
 
 abbrev pub record13 : List ℕ → Field13
 record13 s = record { aerodrome = aerodromeOf s; time = clockOf (joinedOf s) }
@@ -75,12 +75,12 @@ field13open =
 -- EXAMPLES, computed
 
 timed-13 : (fits13 (bytes "EHAM0930") ≡ true) × (record13 (bytes "EHAM0930") ≡ record { aerodrome = bytes "EHAM"; time = record { 0 = 570 } })
-unfolding timed fourLetters timeFits
+unfolding joined fourLetters timeFits
 timed-13 = (refl, refl)
 
 refused-13 : (fits13 (bytes "EHAM2400") ≡ false) × (fits13 (bytes "EHAM2460") ≡ false) × (fits13 (bytes "EHAM930") ≡ false)
     × (fits13 (bytes "EHA10930") ≡ false) × (fits13 (bytes "LHBP") ≡ false) × (fits13 [] ≡ false)
-unfolding timed fourLetters timeFits
+unfolding joined fourLetters timeFits
 refused-13 = (refl, refl, refl, refl, refl, refl)
 
 open-13 : (fits13open (bytes "LHBP") ≡ true) × (record13open (bytes "LHBP") ≡ record { aerodrome = bytes "LHBP"; time = none })

@@ -10,7 +10,7 @@ use Rattle.text.specs.Words.{Word, all, split, join}
 use Rattle.shape.specs.declared.Elapsed.{Elapsed}
 use Rattle.shape.specs.Time.{timeFits, elapsedHours, elapsedOf}
 use Rattle.shape.specs.Field.{Field}
-use Rattle.aerodromes.specs.Aerodromes.{fourLetters, aerodromeOf, joinedOf, timed, validTimed, spellTimed, first, others}
+use Rattle.aerodromes.specs.Aerodromes.{fourLetters, aerodromeOf, joinedOf, joined, validJoined, spellJoined, first, others}
 
 -- FIELD 16 ALONE
 
@@ -47,13 +47,13 @@ pub record Field16Plan : Type 0 where
   pub alternates : List Word
 
 abbrev pub valid16plan : Field16Plan → Bool
-valid16plan r = validTimed elapsedHours (r .destination) (r .elapsed .0) && fewAerodromes mostAlternates (r .alternates)
+valid16plan r = validJoined elapsedHours (r .destination) (r .elapsed .0) && fewAerodromes mostAlternates (r .alternates)
 
 abbrev pub spell16plan : Field16Plan → List ℕ
-spell16plan r = join 32 (spellTimed (r .destination) (r .elapsed .0) ∷ r .alternates)
+spell16plan r = join 32 (spellJoined (r .destination) (r .elapsed .0) ∷ r .alternates)
 
 unfoldable pub fits16plan : List ℕ → Bool
-fits16plan s = timed elapsedHours (first (split 32 s)) && fewAerodromes mostAlternates (others (split 32 s))
+fits16plan s = joined elapsedHours (first (split 32 s)) && fewAerodromes mostAlternates (others (split 32 s))
 
 abbrev pub record16plan : List ℕ → Field16Plan
 record16plan s =
@@ -74,12 +74,12 @@ unfolding fourLetters
 alone-16 = (refl, refl, refl, refl)
 
 planned-16 : (fits16plan (bytes "EDDF0100") ≡ true) × (fits16plan (bytes "EDDF0100 EDDK") ≡ true) × (fits16plan (bytes "EDDF0100 EDDK EDDL") ≡ true)
-unfolding fits16plan timed fourLetters timeFits
+unfolding fits16plan joined fourLetters timeFits
 planned-16 = (refl, refl, refl)
 
 refused-16 : (fits16plan (bytes "EDDF0100 EDDK EDDL EDDM") ≡ false) × (fits16plan (bytes "EDDF0100 ") ≡ false) × (fits16plan (bytes "EDDF 0100") ≡ false)
     × (fits16plan (bytes "EDDF0100 EDD") ≡ false) × (fits16plan (bytes "EDDF2400") ≡ false) × (fits16plan (bytes "EDDF") ≡ false) × (fits16plan [] ≡ false)
-unfolding fits16plan timed fourLetters timeFits
+unfolding fits16plan joined fourLetters timeFits
 refused-16 = (refl, refl, refl, refl, refl, refl, refl)
 
 read-16 : record16plan (bytes "EDDF0100 EDDK EDDL")

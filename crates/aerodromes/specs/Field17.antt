@@ -10,7 +10,7 @@ use Rattle.text.specs.Words.{Word, all, null, same, split, join, textWord}
 use Rattle.shape.specs.declared.Clock.{Clock}
 use Rattle.shape.specs.Time.{timeFits, clockHours, clockOf}
 use Rattle.shape.specs.Field.{Field}
-use Rattle.aerodromes.specs.Aerodromes.{fourLetters, aerodromeOf, joinedOf, timed, validTimed, spellTimed, first, others}
+use Rattle.aerodromes.specs.Aerodromes.{fourLetters, aerodromeOf, joinedOf, joined, validJoined, spellJoined, first, others}
 
 -- ZZZZ: an aerodrome that has no four letters of its own
 unfoldable pub unlisted : Word
@@ -27,13 +27,13 @@ pub record Field17 : Type 0 where
   pub place : List Word
 
 abbrev pub valid17 : Field17 → Bool
-valid17 r = validTimed clockHours (r .aerodrome) (r .time .0) && placeFits (r .aerodrome) (r .place)
+valid17 r = validJoined clockHours (r .aerodrome) (r .time .0) && placeFits (r .aerodrome) (r .place)
 
 abbrev pub spell17 : Field17 → List ℕ
-spell17 r = join 32 (spellTimed (r .aerodrome) (r .time .0) ∷ r .place)
+spell17 r = join 32 (spellJoined (r .aerodrome) (r .time .0) ∷ r .place)
 
 unfoldable pub fits17 : List ℕ → Bool
-fits17 s = timed clockHours (first (split 32 s)) && placeFits (aerodromeOf (first (split 32 s))) (others (split 32 s))
+fits17 s = joined clockHours (first (split 32 s)) && placeFits (aerodromeOf (first (split 32 s))) (others (split 32 s))
 
 abbrev pub record17 : List ℕ → Field17
 record17 s =
@@ -49,13 +49,13 @@ field17 = record { Record = Field17; valid = valid17; spell = spell17; fits = fi
 -- EXAMPLES, computed
 
 landed-17 : (fits17 (bytes "EHAM1433") ≡ true) × (fits17 (bytes "ZZZZ1620 SOBKIVKA") ≡ true) × (fits17 (bytes "ZZZZ1620 A B.1") ≡ true)
-unfolding fits17 timed fourLetters timeFits unlisted text inAlphabet white
+unfolding fits17 joined fourLetters timeFits unlisted text inAlphabet white
 landed-17 = (refl, refl, refl)
 
 refused-17 : (fits17 (bytes "EHAM1433 X") ≡ false) × (fits17 (bytes "EHAM1433 ") ≡ false) × (fits17 (bytes "EHAM") ≡ false) × (fits17 [] ≡ false)
     × (fits17 (bytes "ZZZZ1620") ≡ false) × (fits17 (bytes "ZZZZ1620 ") ≡ false)
     × (fits17 (bytes "ZZZZ1620 A  B") ≡ false) × (fits17 (bytes "ZZZZ1620 A/B") ≡ false)
-unfolding fits17 timed fourLetters timeFits unlisted text inAlphabet white
+unfolding fits17 joined fourLetters timeFits unlisted text inAlphabet white
 refused-17 = (refl, refl, refl, refl, refl, refl, refl, refl)
 
 read-17 : record17 (bytes "ZZZZ1620 A B.1") ≡ record { aerodrome = bytes "ZZZZ"; time = record { 0 = 980 }; place = bytes "A" ∷ (bytes "B.1" ∷ []) }

@@ -3,12 +3,11 @@ ghost use mathlib.Core.Path.{_≡_};
 ghost use Prim.Native.Nat.{ℕ};
 ghost use lib.ListN.{take, getD};
 ghost use Rattle.text.specs.Words.{all, split, textWord};
-ghost use Rattle.shape.specs.Time.{clockHours, elapsedHours};
-ghost use Rattle.aerodromes.specs.Aerodromes.{fourLetters, timed, aerodromeOf};
+ghost use Rattle.aerodromes.specs.Aerodromes.{fourLetters, atClock, atElapsed, aerodromeOf};
 ghost use Rattle.aerodromes.specs.Field13.{fits13, fits13open};
 ghost use Rattle.aerodromes.specs.Field16.{fits16, fits16plan, fewAerodromes, mostAlternates};
 ghost use Rattle.aerodromes.specs.Field17.{fits17};
-ghost use Rattle.aerodromes.specs.Asked.{clockAt, hasAlternate, aerodromeIn, isLetters};
+ghost use Rattle.aerodromes.specs.Asked.{clockAt, elapsedAt, hasAlternate, aerodromeIn, isLetters};
 
 // Whether w is four letters.
 pub fn four_letters(w: &[u8]) -> bool
@@ -20,36 +19,36 @@ pub fn four_letters(w: &[u8]) -> bool
     text::all_of(text::Kind::Letter, w)
 }
 
-// Whether w is an aerodrome joined to a time of day.
-pub fn at_clock(w: &[u8]) -> bool
-    ensures { λ r. ⌜ r ≡ timed clockHours (now (w .entry)) ⌝ }
+// The time of day joined to an aerodrome, if w is the two.
+pub fn at_clock(w: &[u8]) -> shape::ClockRead
+    ensures { λ r. ⌜ r ≡ atClock (now (w .entry)) ⌝ }
 {
     if w.len() < 4 {
-        return false;
+        return shape::ClockRead::NoTimeOfDay;
     }
     if !four_letters(&w[..4]) {
-        return false;
+        return shape::ClockRead::NoTimeOfDay;
     }
-    shape::Clock::fits(&w[4..])
+    shape::Clock::read(&w[4..])
 }
 
-// Whether w is an aerodrome joined to an elapsed time.
-pub fn at_elapsed(w: &[u8]) -> bool
-    ensures { λ r. ⌜ r ≡ timed elapsedHours (now (w .entry)) ⌝ }
+// The elapsed time joined to an aerodrome, if w is the two.
+pub fn at_elapsed(w: &[u8]) -> shape::ElapsedRead
+    ensures { λ r. ⌜ r ≡ atElapsed (now (w .entry)) ⌝ }
 {
     if w.len() < 4 {
-        return false;
+        return shape::ElapsedRead::NoElapsedTime;
     }
     if !four_letters(&w[..4]) {
-        return false;
+        return shape::ElapsedRead::NoElapsedTime;
     }
-    shape::Elapsed::fits(&w[4..])
+    shape::Elapsed::read(&w[4..])
 }
 
 pub fn fits_field13(s: &[u8]) -> bool
     ensures { λ r. ⌜ r ≡ fits13 (now (s .entry)) ⌝ }
 {
-    at_clock(s)
+    at_clock(s).is_time_of_day()
 }
 
 // Field 13 in RQP, where the time may be absent.
@@ -59,7 +58,7 @@ pub fn fits_field13_open(s: &[u8]) -> bool
     if four_letters(s) {
         return true;
     }
-    at_clock(s)
+    at_clock(s).is_time_of_day()
 }
 
 pub fn fits_field16(s: &[u8]) -> bool
@@ -97,7 +96,7 @@ pub fn fits_field16_plan(s: &[u8]) -> bool
     ensures { λ r. ⌜ r ≡ fits16plan (now (s .entry)) ⌝ }
 {
     let e = text::find(s, 0, b' ');
-    if !at_elapsed(&s[..e]) {
+    if !at_elapsed(&s[..e]).is_elapsed() {
         return false;
     }
     if e == s.len() {
@@ -127,7 +126,7 @@ pub fn fits_field17(s: &[u8]) -> bool
     ensures { λ r. ⌜ r ≡ fits17 (now (s .entry)) ⌝ }
 {
     let e = text::find(s, 0, b' ');
-    if !at_clock(&s[..e]) {
+    if !at_clock(&s[..e]).is_time_of_day() {
         return false;
     }
     if !text::same_bytes(aerodrome_of(&s[..e]), b"ZZZZ") {
@@ -157,6 +156,16 @@ pub fn clock(s: &[u8]) -> shape::ClockRead
         return shape::ClockRead::NoTimeOfDay;
     }
     shape::Clock::read(&s[4..8])
+}
+
+// The elapsed time behind the first four bytes, if one stands there.
+pub fn elapsed(s: &[u8]) -> shape::ElapsedRead
+    ensures { λ r. ⌜ r ≡ elapsedAt (now (s .entry)) ⌝ }
+{
+    if s.len() < 8 {
+        return shape::ElapsedRead::NoElapsedTime;
+    }
+    shape::Elapsed::read(&s[4..8])
 }
 
 // Whether an aerodrome of that name is one of the alternates.

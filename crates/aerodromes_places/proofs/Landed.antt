@@ -22,10 +22,10 @@ use Rattle.places.proofs.Given.{given-ended, given-some, given-place, or-some}
 use Rattle.places.proofs.Place.{place-of-language, no-place}
 use Rattle.places.proofs.Texts.{letter-a, text-place, text-free}
 use Rattle.places.proofs.Words.{none-fits, words-place}
-use Rattle.aerodromes.specs.Aerodromes.{timed, aerodromeOf, first, others}
+use Rattle.aerodromes.specs.Aerodromes.{joined, aerodromeOf, first, others}
 use Rattle.aerodromes.specs.Field17.{unlisted, placeFits, fits17}
-use Rattle.aerodromes_places.specs.Places.{timedPlace, landed, landedPlace, landedAfter, place17}
-use Rattle.aerodromes_places.proofs.Places.{timed-right, timed-free, sample-timed}
+use Rattle.aerodromes_places.specs.Places.{joinedPlace, landed, landedPlace, landedAfter, place17}
+use Rattle.aerodromes_places.proofs.Places.{joined-right, joined-free, sample-joined}
 
 -- BY WORDS
 
@@ -36,17 +36,17 @@ landed-right : (n : ℕ) (w : Word) → IsPlace (λ v. ended (landed .after n v)
 landed-right n w = go (eqb n 0) (ltb 1 n)
   where
     go : (x y : Bool)
-        → IsPlace (λ v. ended (cond x (given (timed clockHours v) (which v)) (given (y && textWord v) 3))) w
-        (cond x (timedPlace clockHours w) (cond y (front text w) 0))
-    go true y = given-place (timed clockHours) which w (timedPlace clockHours w) (timed-right clockHours w)
+        → IsPlace (λ v. ended (cond x (given (joined clockHours v) (which v)) (given (y && textWord v) 3))) w
+        (cond x (joinedPlace clockHours w) (cond y (front text w) 0))
+    go true y = given-place (joined clockHours) which w (joinedPlace clockHours w) (joined-right clockHours w)
     go false true = given-place textWord (λ v. 3) w (front text w) (text-place w)
     go false false = no-place w
 
 landed-free : (n : ℕ) (w : Word) → ended (landed .after n w) ≡ true → free 32 w ≡ true
 landed-free n w = go (eqb n 0)
   where
-    go : (x : Bool) → ended (cond x (given (timed clockHours w) (which w)) (given (ltb 1 n && textWord w) 3)) ≡ true → free 32 w ≡ true
-    go true e = timed-free clockHours w (sym (given-ended (timed clockHours w) (which w)) ∙ e)
+    go : (x : Bool) → ended (cond x (given (joined clockHours w) (which w)) (given (ltb 1 n && textWord w) 3)) ≡ true → free 32 w ≡ true
+    go true e = joined-free clockHours w (sym (given-ended (joined clockHours w) (which w)) ∙ e)
     go false e = text-free w (both (ltb 1 n) (textWord w) (sym (given-ended (ltb 1 n && textWord w) 3) ∙ e) .1)
 
 landed-alive : (n j : ℕ) (w : Word) → landed .after n w ≡ some j → (landed .final j || landed .goes j) ≡ true
@@ -56,13 +56,13 @@ landed-alive n j w = go (eqb n 0)
     two true j e = ap (λ (k : ℕ). landed .final k || landed .goes k) (sym e)
     two false j e = ap (λ (k : ℕ). landed .final k || landed .goes k) (sym e)
 
-    go : (x : Bool) → cond x (given (timed clockHours w) (which w)) (given (ltb 1 n && textWord w) 3) ≡ some j → (landed .final j || landed .goes j) ≡ true
-    go true e = two (same (aerodromeOf w) unlisted) j (given-some (timed clockHours w) (which w) j e .1)
+    go : (x : Bool) → cond x (given (joined clockHours w) (which w)) (given (ltb 1 n && textWord w) 3) ≡ some j → (landed .final j || landed .goes j) ≡ true
+    go true e = two (same (aerodromeOf w) unlisted) j (given-some (joined clockHours w) (which w) j e .1)
     go false e = ap (λ (k : ℕ). landed .final k || landed .goes k) (sym (given-some (ltb 1 n && textWord w) 3 j e .1))
 
 landed-more : (n : ℕ) → landed .goes n ≡ true → (w : Word) × (j : ℕ) × (landed .after n w ≡ some j) × (landed .final j ≡ true)
 unfolding unlisted
-landed-more zero e = (bytes "AAAA0000", 1, rw (sample-timed clockHours), refl)
+landed-more zero e = (bytes "AAAA0000", 1, rw (sample-joined clockHours), refl)
 landed-more (suc n) e =
     let l : ltb 1 (suc n) ≡ true = rw (ne-eqb (suc n) 0 (omega arith)) at e in
     (65 ∷ [], 3, rw (ne-eqb (suc n) 0 (omega arith), l, letter-a), refl)
@@ -70,7 +70,7 @@ landed-more (suc n) e =
 landed-closed : (n : ℕ) → landed .goes n ≡ false → (w : Word) → landed .after n w ≡ none
 landed-closed n e w = go (eqb n 0) (ltb 1 n) e
   where
-    go : (x y : Bool) → (x || y) ≡ false → cond x (given (timed clockHours w) (which w)) (given (y && textWord w) 3) ≡ none
+    go : (x y : Bool) → (x || y) ≡ false → cond x (given (joined clockHours w) (which w)) (given (y && textWord w) 3) ≡ none
     go true y q = absurd (true≢false q)
     go false true q = absurd (true≢false q)
     go false false q = refl
@@ -101,9 +101,9 @@ landed-is s = go (split 32 s) (null-split 32 s)
     begun true false vs = behind-other vs
     begun false y vs = none-fits landed vs
 
-    go : (ws : List Word) → null ws ≡ false → wordsFit landed ws (some 0) ≡ (timed clockHours (first ws) && placeFits (aerodromeOf (first ws)) (others ws))
+    go : (ws : List Word) → null ws ≡ false → wordsFit landed ws (some 0) ≡ (joined clockHours (first ws) && placeFits (aerodromeOf (first ws)) (others ws))
     go [] h = absurd (true≢false h)
-    go (w ∷ ws) h = begun (timed clockHours w) (same (aerodromeOf w) unlisted) ws
+    go (w ∷ ws) h = begun (joined clockHours w) (same (aerodromeOf w) unlisted) ws
 
 pub placed17 : (s : List ℕ) → IsPlace fits17 s (place17 s)
 unfolding place17
@@ -117,14 +117,14 @@ pub landed-within : (n : ℕ) (w : Word) → landedPlace n w ≤ length w
 landed-within n w = landed-right n w .within
 
 module _ (n : ℕ) (w : Word) where
-  pub first-off : n ≡ 0 → timed clockHours w ≡ false → 0 ≡ landedAfter n w
+  pub first-off : n ≡ 0 → joined clockHours w ≡ false → 0 ≡ landedAfter n w
   first-off h e = rw (h, e)
 
-  pub first-listed : n ≡ 0 → timed clockHours w ≡ true → same (aerodromeOf w) (bytes "ZZZZ") ≡ false → 1 ≡ landedAfter n w
+  pub first-listed : n ≡ 0 → joined clockHours w ≡ true → same (aerodromeOf w) (bytes "ZZZZ") ≡ false → 1 ≡ landedAfter n w
   unfolding unlisted
   first-listed h e z = rw (h, e, z)
 
-  pub first-unlisted : n ≡ 0 → timed clockHours w ≡ true → same (aerodromeOf w) (bytes "ZZZZ") ≡ true → 2 ≡ landedAfter n w
+  pub first-unlisted : n ≡ 0 → joined clockHours w ≡ true → same (aerodromeOf w) (bytes "ZZZZ") ≡ true → 2 ≡ landedAfter n w
   unfolding unlisted
   first-unlisted h e z = rw (h, e, z)
 
@@ -144,7 +144,7 @@ module _ (n : ℕ) (w : Word) where
     pub place-text : landedPlace n w ≡ front text w
     place-text = rw (ne-eqb n 0 z, lt-ltb 1 n (omega arith))
 
-  pub place-first : n ≡ 0 → landedPlace n w ≡ timedPlace clockHours w
+  pub place-first : n ≡ 0 → landedPlace n w ≡ joinedPlace clockHours w
   place-first h = rw h
 
   pub place-one : n ≡ 1 → landedPlace n w ≡ 0
@@ -161,8 +161,8 @@ module _ (n : ℕ) (w : Word) where
           two true = refl
           two false = refl
 
-          go : (x : Bool) → cond x (given (timed clockHours w) (which w)) (given (ltb 1 n && textWord w) 3) ≡ some j → ltb 0 j ≡ true
-          go true e = ap (ltb 0) (sym (given-some (timed clockHours w) (which w) j e .1)) ∙ two (same (aerodromeOf w) unlisted)
+          go : (x : Bool) → cond x (given (joined clockHours w) (which w)) (given (ltb 1 n && textWord w) 3) ≡ some j → ltb 0 j ≡ true
+          go true e = ap (ltb 0) (sym (given-some (joined clockHours w) (which w) j e .1)) ∙ two (same (aerodromeOf w) unlisted)
           go false e = ap (ltb 0) (sym (given-some (ltb 1 n && textWord w) 3 j e .1))
 
   pub after-none : landedAfter n w ≡ 0 → landed .after n w ≡ none

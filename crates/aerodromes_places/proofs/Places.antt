@@ -25,11 +25,11 @@ use Rattle.places.proofs.Place.{place-of-language, no-place}
 use Rattle.places.proofs.Leaves.{nil-place, maybe-place}
 use Rattle.places.proofs.Fixed.{fixed-place, time-place}
 use Rattle.places.proofs.Words.{none-of, none-fits, words-place}
-use Rattle.aerodromes.specs.Aerodromes.{fourLetters, timed, aerodromeOf, joinedOf, first, others}
+use Rattle.aerodromes.specs.Aerodromes.{fourLetters, joined, aerodromeOf, joinedOf, first, others}
 use Rattle.aerodromes.specs.Field13.{fits13, fits13open, clockOrNone}
 use Rattle.aerodromes.specs.Field16.{fits16, fits16plan, fewAerodromes, mostAlternates}
-use Rattle.aerodromes_places.specs.Places.{aerodromePlace, timedPlace, place13, place16, plan, planPlace, place16plan}
-use Rattle.aerodromes.proofs.Aerodromes.{timed-tidy, four-tidy}
+use Rattle.aerodromes_places.specs.Places.{aerodromePlace, joinedPlace, place13, place16, plan, planPlace, place16plan}
+use Rattle.aerodromes.proofs.Aerodromes.{joined-tidy, four-tidy}
 
 -- FOUR LETTERS, and what follows them
 
@@ -60,12 +60,12 @@ midnight : (most : ℕ) → timeFits most (bytes "0000") ≡ true
 unfolding timeFits
 midnight most = rw (le-leb 0 most (omega arith))
 
-pub timed-right : (most : ℕ) (s : List ℕ) → IsPlace (timed most) s (timedPlace most s)
-unfolding timed
-timed-right most = four-right (timeFits most) (timePlace most) (time-place most) (bytes "0000") (midnight most)
+pub joined-right : (most : ℕ) (s : List ℕ) → IsPlace (joined most) s (joinedPlace most s)
+unfolding joined
+joined-right most = four-right (timeFits most) (timePlace most) (time-place most) (bytes "0000") (midnight most)
 
 pub placed13 : (s : List ℕ) → IsPlace fits13 s (place13 s)
-placed13 = timed-right clockHours
+placed13 = joined-right clockHours
 
 open-is : (w : Word) → (null w || timeFits clockHours w) ≡ clockOrNone w
 open-is [] = refl
@@ -99,8 +99,8 @@ placed16 = aerodrome-right
 
 -- FIELD 16 IN FPL AND SPL
 
-pub timed-free : (most : ℕ) (w : Word) → timed most w ≡ true → free 32 w ≡ true
-timed-free most w e = word-free w (timed-tidy most w e)
+pub joined-free : (most : ℕ) (w : Word) → joined most w ≡ true → free 32 w ≡ true
+joined-free most w e = word-free w (joined-tidy most w e)
 
 four-free : (w : Word) → fourLetters w ≡ true → free 32 w ≡ true
 four-free w e = word-free w (four-tidy w e)
@@ -109,34 +109,34 @@ plan-right : (n : ℕ) (w : Word) → IsPlace (λ v. ended (plan .after n v)) w 
 plan-right n w = go (eqb n 0) (leb n mostAlternates)
   where
     go : (x y : Bool)
-        → IsPlace (λ v. ended (cond x (given (timed elapsedHours v) 1) (given (y && fourLetters v) (suc n)))) w
-        (cond x (timedPlace elapsedHours w) (cond y (aerodromePlace w) 0))
-    go true y = given-place (timed elapsedHours) (λ v. 1) w (timedPlace elapsedHours w) (timed-right elapsedHours w)
+        → IsPlace (λ v. ended (cond x (given (joined elapsedHours v) 1) (given (y && fourLetters v) (suc n)))) w
+        (cond x (joinedPlace elapsedHours w) (cond y (aerodromePlace w) 0))
+    go true y = given-place (joined elapsedHours) (λ v. 1) w (joinedPlace elapsedHours w) (joined-right elapsedHours w)
     go false true = given-place fourLetters (λ v. suc n) w (aerodromePlace w) (aerodrome-right w)
     go false false = no-place w
 
 plan-free : (n : ℕ) (w : Word) → ended (plan .after n w) ≡ true → free 32 w ≡ true
 plan-free n w = go (eqb n 0)
   where
-    go : (x : Bool) → ended (cond x (given (timed elapsedHours w) 1) (given (leb n mostAlternates && fourLetters w) (suc n))) ≡ true → free 32 w ≡ true
-    go true e = timed-free elapsedHours w (sym (given-ended (timed elapsedHours w) 1) ∙ e)
+    go : (x : Bool) → ended (cond x (given (joined elapsedHours w) 1) (given (leb n mostAlternates && fourLetters w) (suc n))) ≡ true → free 32 w ≡ true
+    go true e = joined-free elapsedHours w (sym (given-ended (joined elapsedHours w) 1) ∙ e)
     go false e = four-free w (both (leb n mostAlternates) (fourLetters w) (sym (given-ended (leb n mostAlternates && fourLetters w) (suc n)) ∙ e) .1)
 
 plan-alive : (n j : ℕ) (w : Word) → plan .after n w ≡ some j → (plan .final j || plan .goes j) ≡ true
 plan-alive n j w = go (eqb n 0)
   where
-    go : (x : Bool) → cond x (given (timed elapsedHours w) 1) (given (leb n mostAlternates && fourLetters w) (suc n)) ≡ some j
+    go : (x : Bool) → cond x (given (joined elapsedHours w) 1) (given (leb n mostAlternates && fourLetters w) (suc n)) ≡ some j
         → (leb 1 j || leb j mostAlternates) ≡ true
-    go true e = let h = given-some (timed elapsedHours w) 1 j e in rw (le-leb 1 j (omega arith))
+    go true e = let h = given-some (joined elapsedHours w) 1 j e in rw (le-leb 1 j (omega arith))
     go false e = let h = given-some (leb n mostAlternates && fourLetters w) (suc n) j e in rw (le-leb 1 j (omega arith))
 
-pub sample-timed : (most : ℕ) → timed most (bytes "AAAA0000") ≡ true
-unfolding timed fourLetters
-sample-timed most = midnight most
+pub sample-joined : (most : ℕ) → joined most (bytes "AAAA0000") ≡ true
+unfolding joined fourLetters
+sample-joined most = midnight most
 
 plan-more : (n : ℕ) → plan .goes n ≡ true → (w : Word) × (j : ℕ) × (plan .after n w ≡ some j) × (plan .final j ≡ true)
 unfolding fourLetters
-plan-more zero e = (bytes "AAAA0000", 1, rw (sample-timed elapsedHours), refl)
+plan-more zero e = (bytes "AAAA0000", 1, rw (sample-joined elapsedHours), refl)
 plan-more (suc n) e = (bytes "AAAA", suc (suc n), rw (ne-eqb (suc n) 0 (omega arith), e), le-leb 1 (suc (suc n)) (omega arith))
 
 plan-closed : (n : ℕ) → plan .goes n ≡ false → (w : Word) → plan .after n w ≡ none
@@ -163,9 +163,9 @@ plan-is s = go (split 32 s) (null-split 32 s)
     begun true vs = rest-fit vs 0 (omega arith) ∙ ap (λ (m : ℕ). leb m 2 && all fourLetters vs) (zero-add (length vs))
     begun false vs = none-fits plan vs
 
-    go : (ws : List Word) → null ws ≡ false → wordsFit plan ws (some 0) ≡ (timed elapsedHours (first ws) && fewAerodromes mostAlternates (others ws))
+    go : (ws : List Word) → null ws ≡ false → wordsFit plan ws (some 0) ≡ (joined elapsedHours (first ws) && fewAerodromes mostAlternates (others ws))
     go [] h = absurd (true≢false h)
-    go (w ∷ ws) h = begun (timed elapsedHours w) ws
+    go (w ∷ ws) h = begun (joined elapsedHours w) ws
 
 pub placed16plan : (s : List ℕ) → IsPlace fits16plan s (place16plan s)
 unfolding place16plan
@@ -185,9 +185,9 @@ plan-next n w = go (eqb n 0) refl
     got true m k h e = ap some h
     got false m k h e = absurd (false≢true e)
 
-    go : (x : Bool) → eqb n 0 ≡ x → ended (cond x (given (timed elapsedHours w) 1) (given (leb n mostAlternates && fourLetters w) (suc n))) ≡ true
-        → cond x (given (timed elapsedHours w) 1) (given (leb n mostAlternates && fourLetters w) (suc n)) ≡ some (n + 1)
-    go true q e = let z : n ≡ 0 = eqb-true n 0 q in got (timed elapsedHours w) 1 (n + 1) (omega arith) e
+    go : (x : Bool) → eqb n 0 ≡ x → ended (cond x (given (joined elapsedHours w) 1) (given (leb n mostAlternates && fourLetters w) (suc n))) ≡ true
+        → cond x (given (joined elapsedHours w) 1) (given (leb n mostAlternates && fourLetters w) (suc n)) ≡ some (n + 1)
+    go true q e = let z : n ≡ 0 = eqb-true n 0 q in got (joined elapsedHours w) 1 (n + 1) (omega arith) e
     go false q e = got (leb n mostAlternates && fourLetters w) (suc n) (n + 1) (omega arith) e
 
 pub plan-stuck : (n : ℕ) (w : Word) → ended (plan .after n w) ≡ false → plan .after n w ≡ none

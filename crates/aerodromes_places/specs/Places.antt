@@ -11,7 +11,7 @@ use Rattle.shape.specs.Time.{timeFits, clockHours, elapsedHours}
 use Rattle.places.specs.Parts.{front, noMore, fixedPlace, timePlace}
 use Rattle.places.specs.Given.{given, orZero}
 use Rattle.places.specs.Words.{Words, wordsPlace}
-use Rattle.aerodromes.specs.Aerodromes.{fourLetters, timed, aerodromeOf}
+use Rattle.aerodromes.specs.Aerodromes.{fourLetters, joined, aerodromeOf}
 use Rattle.aerodromes.specs.Field16.{mostAlternates}
 use Rattle.aerodromes.specs.Field17.{unlisted}
 
@@ -20,13 +20,13 @@ use Rattle.aerodromes.specs.Field17.{unlisted}
 abbrev pub aerodromePlace : Word → ℕ
 aerodromePlace w = fixedPlace letter 4 noMore w
 
-abbrev pub timedPlace : ℕ → Word → ℕ
-timedPlace most w = fixedPlace letter 4 (timePlace most) w
+abbrev pub joinedPlace : ℕ → Word → ℕ
+joinedPlace most w = fixedPlace letter 4 (timePlace most) w
 
 -- FIELD 13, also where the time may be absent, and FIELD 16 alone
 
 abbrev pub place13 : List ℕ → ℕ
-place13 s = timedPlace clockHours s
+place13 s = joinedPlace clockHours s
 
 abbrev pub place16 : List ℕ → ℕ
 place16 s = aerodromePlace s
@@ -37,13 +37,13 @@ abbrev pub plan : Words
 plan =
     record {
       K = ℕ;
-      after = λ n w. cond (eqb n 0) (given (timed elapsedHours w) 1) (given (leb n mostAlternates && fourLetters w) (suc n));
+      after = λ n w. cond (eqb n 0) (given (joined elapsedHours w) 1) (given (leb n mostAlternates && fourLetters w) (suc n));
       final = λ n. leb 1 n;
       goes = λ n. leb n mostAlternates;
     }
 
 abbrev pub planPlace : ℕ → Word → ℕ
-planPlace n w = cond (eqb n 0) (timedPlace elapsedHours w) (cond (leb n mostAlternates) (aerodromePlace w) 0)
+planPlace n w = cond (eqb n 0) (joinedPlace elapsedHours w) (cond (leb n mostAlternates) (aerodromePlace w) 0)
 
 unfoldable pub place16plan : List ℕ → ℕ
 place16plan s = wordsPlace plan planPlace 0 (split 32 s)
@@ -55,14 +55,14 @@ landed =
     record {
       K = ℕ;
       after = λ n w.
-          cond (eqb n 0) (given (timed clockHours w) (cond (same (aerodromeOf w) unlisted) 2 1))
+          cond (eqb n 0) (given (joined clockHours w) (cond (same (aerodromeOf w) unlisted) 2 1))
           (given (ltb 1 n && textWord w) 3);
       final = λ n. eqb n 1 || eqb n 3;
       goes = λ n. eqb n 0 || ltb 1 n;
     }
 
 abbrev pub landedPlace : ℕ → Word → ℕ
-landedPlace n w = cond (eqb n 0) (timedPlace clockHours w) (cond (ltb 1 n) (front text w) 0)
+landedPlace n w = cond (eqb n 0) (joinedPlace clockHours w) (cond (ltb 1 n) (front text w) 0)
 
 -- what is known behind a word; 0 where it may not stand there
 abbrev pub landedAfter : ℕ → Word → ℕ
@@ -82,10 +82,10 @@ placed-13 = (refl, refl, refl, refl, refl, refl, refl, refl)
 placed-16 : (place16plan (bytes "EDDF0100 EDDK EDDL EDDM") ≡ 18) × (place16plan (bytes "EDDF0100 ") ≡ 9) × (place16plan (bytes "EDDF 0100") ≡ 4)
     × (place16plan (bytes "EDDF0100 EDD") ≡ 12) × (place16plan (bytes "EDDF2400") ≡ 5) × (place16plan (bytes "EDDF") ≡ 4) × (place16plan [] ≡ 0)
     × (place16plan (bytes "EDDF0100  EDDK") ≡ 9)
-unfolding place16plan timePlace timed fourLetters timeFits
+unfolding place16plan timePlace joined fourLetters timeFits
 placed-16 = (refl, refl, refl, refl, refl, refl, refl, refl)
 
 placed-17 : (place17 (bytes "EHAM1433 X") ≡ 8) × (place17 (bytes "ZZZZ1620") ≡ 8) × (place17 (bytes "ZZZZ1620 ") ≡ 9)
     × (place17 (bytes "ZZZZ1620 A  B") ≡ 11) × (place17 (bytes "ZZZZ1620 A/B") ≡ 10) × (place17 (bytes "EHAM") ≡ 4)
-unfolding place17 timePlace timed fourLetters timeFits unlisted text inAlphabet white
+unfolding place17 timePlace joined fourLetters timeFits unlisted text inAlphabet white
 placed-17 = (refl, refl, refl, refl, refl, refl)

@@ -1,7 +1,7 @@
 // Where a content of field 13, 16 or 17 that does not fit goes wrong.
 ghost use mathlib.Core.Path.{_≡_};
 ghost use Rattle.places.specs.Words.{ended};
-ghost use Rattle.aerodromes_places.specs.Places.{timedPlace, place13, place16, plan, planPlace, place16plan};
+ghost use Rattle.aerodromes_places.specs.Places.{joinedPlace, place13, place16, plan, planPlace, place16plan};
 ghost use Rattle.aerodromes_places.specs.Places.{landedAfter, landedPlace, place17};
 
 // The place of four letters that are none.
@@ -16,8 +16,8 @@ pub fn place_field16(s: &[u8]) -> usize
 }
 
 // The place of four letters and a time, for a greatest hour.
-fn place_timed(most: usize, s: &[u8]) -> usize
-    ensures { λ r. ⌜ r ≡ timedPlace most (now (s .entry)) ⌝ }
+fn place_joined(most: usize, s: &[u8]) -> usize
+    ensures { λ r. ⌜ r ≡ joinedPlace most (now (s .entry)) ⌝ }
 {
     let n = places::front_of(text::Kind::Letter, s);
     if n < 4 {
@@ -30,7 +30,7 @@ fn place_timed(most: usize, s: &[u8]) -> usize
 pub fn place_field13(s: &[u8]) -> usize
     ensures { λ r. ⌜ r ≡ place13 (now (s .entry)) ⌝ }
 {
-    place_timed(shape::CLOCK_HOURS, s)
+    place_joined(shape::CLOCK_HOURS, s)
 }
 
 // Whether a word may stand behind n words of field 16 in FPL and SPL.
@@ -51,7 +51,7 @@ fn plan_place(n: usize, w: &[u8]) -> usize
     ensures { λ r. ⌜ r ≡ planPlace n (now (w .entry)) ⌝ }
 {
     if n == 0 {
-        return place_timed(shape::ELAPSED_HOURS, w);
+        return place_joined(shape::ELAPSED_HOURS, w);
     }
     if n > 2 {
         return 0;
@@ -109,7 +109,7 @@ fn landed_place(n: usize, w: &[u8]) -> usize
     ensures { λ r. ⌜ r ≡ landedPlace n (now (w .entry)) ⌝ }
 {
     if n == 0 {
-        return place_timed(shape::CLOCK_HOURS, w);
+        return place_joined(shape::CLOCK_HOURS, w);
     }
     if n == 1 {
         return 0;

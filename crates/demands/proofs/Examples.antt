@@ -9,7 +9,7 @@ use Rattle.head.specs.Field7.{fits7}
 use Rattle.head.specs.Field8.{fits8}
 use Rattle.head.specs.Field9.{fits9, countFits, aircraftFits}
 use Rattle.equipment.specs.Field10.{fits10, valid10, present}
-use Rattle.aerodromes.specs.Aerodromes.{fourLetters, timed}
+use Rattle.aerodromes.specs.Aerodromes.{fourLetters, joined}
 use Rattle.aerodromes.specs.Field16.{fits16plan}
 use Rattle.aerodromes.specs.Field17.{fits17, unlisted}
 use Rattle.route.specs.Levels.{speedDigits, levelDigits, speeds, levels, starts, changes, climbs}
@@ -41,7 +41,7 @@ both-hold [] ys h k = k
 both-hold (x ∷ xs) ys h k = (h .0, both-hold xs ys (h .1) k)
 
 fields-hold : AllHold ofFields
-unfolding text inAlphabet white letters timeFits fits7 fits9 countFits aircraftFits fits10 valid10 present fourLetters timed fits17 unlisted speedDigits
+unfolding text inAlphabet white letters timeFits fits7 fits9 countFits aircraftFits fits10 valid10 present fourLetters joined fits17 unlisted speedDigits
     levelDigits speeds levels starts changes climbs within radialFits indicators nameFits pointFits pairFits elementFits fits15 statuses approvals
     approved daysIn date timedWord hexadecimal base fitsIn record15
 fields-hold =
@@ -52,14 +52,14 @@ fields-hold =
 messages-hold : AllHold ofMessages
 unfolding answerOf placeOf7 sentPlace sentFrom behindHyphen timePlace countAs faultIn spellingOf outer parens parensFrom lettersFrom inAlphabet white
     reduced reducedFrom standsForRun opens closes hyphens
-    upToHyphen placeOfHyphen typeNamed typeRanked typesRead types formsOf briefForms formAt fits3 numbersFit fits7 fourLetters timed timeFits fitsIn
+    upToHyphen placeOfHyphen typeNamed typeRanked typesRead types formsOf briefForms formAt fits3 numbersFit fits7 fourLetters joined timeFits fitsIn
 messages-hold = ((refl, refl), (refl, (refl, (refl, (refl, tt)))))
 
 strips-hold : AllHold ofStrips
 unfolding answerOf countAs faultIn spellingOf outer parens parensFrom lettersFrom inAlphabet white text reduced reducedFrom standsForRun opens closes
     hyphens typeNamed typeRanked typesRead types formsOf planForms briefForms fits3 numbersFit fits7 fits8 fits9 countFits aircraftFits fits10
     valid10 present fits16plan fits15 starts speeds levels speedDigits levelDigits elementFits letters within radialFits indicators nameFits
-    pointFits fourLetters timed timeFits fitsIn unexplained hasKey labels fits22 fault22 canonicalPlan openingOf offeredAs newStrip updateOf outAfter front
+    pointFits fourLetters joined timeFits fitsIn unexplained hasKey labels fits22 fault22 canonicalPlan openingOf offeredAs newStrip updateOf outAfter front
     namedBy namedAt behindHyphen typeAs askedOf
 strips-hold = ((refl, refl), (refl, (refl, tt)))
 

@@ -25,7 +25,7 @@ use Rattle.head.specs.Field7.{fits7}
 use Rattle.head.specs.Field8.{fits8}
 use Rattle.head.specs.Field9.{fits9, countFits, aircraftFits}
 use Rattle.equipment.specs.Field10.{fits10, valid10, present}
-use Rattle.aerodromes.specs.Aerodromes.{fourLetters, timed}
+use Rattle.aerodromes.specs.Aerodromes.{fourLetters, joined}
 use Rattle.aerodromes.specs.Field16.{fits16plan}
 use Rattle.route.specs.Levels.{speeds, levels, starts}
 use Rattle.route.specs.Points.{within, radialFits, indicators, nameFits, pointFits}
@@ -110,7 +110,7 @@ entries-are s =
 -- EACH OF THE EIGHT has its place, a content that fits, and no oblique in its number
 
 all-right : AllRight entriesNamed
-unfolding labels letters fits7 fits8 fits9 countFits aircraftFits fits10 valid10 present fourLetters timed timeFits fits16plan fits15 starts speeds levels
+unfolding labels letters fits7 fits8 fits9 countFits aircraftFits fits10 valid10 present fourLetters joined timeFits fits16plan fits15 starts speeds levels
     elementFits pairFits within radialFits indicators nameFits pointFits fitsIn
 all-right =
     and-then (record { right = placed7; one = (bytes "AB", refl); plain = refl })

@@ -14,7 +14,7 @@ use Rattle.entries.specs.Entries.{anyOf}
 use Rattle.head_places.specs.Places.{place3, place7, place8, place9}
 use Rattle.equipment.specs.Field10.{present}
 use Rattle.equipment_places.specs.Places.{place10}
-use Rattle.aerodromes.specs.Aerodromes.{fourLetters, timed}
+use Rattle.aerodromes.specs.Aerodromes.{fourLetters, joined}
 use Rattle.aerodromes_places.specs.Places.{place13, place16, place16plan, place17}
 use Rattle.route_places.specs.Places.{place15}
 use Rattle.supplement_places.specs.Places.{place19}
@@ -64,5 +64,5 @@ placeIn Field22 s = place22 s
 entered : (place22 [] ≡ 0) × (place22 (bytes "/IN") ≡ 0) × (place22 (bytes "123/X") ≡ 1) × (place22 (bytes "1") ≡ 1) × (place22 (bytes "8 /IN") ≡ 1)
     × (place22 (bytes "8") ≡ 1) × (place22 (bytes "8/II") ≡ 3) × (place22 (bytes "8/I") ≡ 3) × (place22 (bytes "13/EHAM2460") ≡ 8)
     × (place22 (bytes "16/EDDN") ≡ 7) × (place22 (bytes "7/ABC12/A7780") ≡ 11)
-unfolding place22 labels letters place7 place8 place16plan timePlace fourLetters timed timeFits
+unfolding place22 labels letters place7 place8 place16plan timePlace fourLetters joined timeFits
 entered = (refl, refl, refl, refl, refl, refl, refl, refl, refl, refl, refl)

@@ -16,7 +16,7 @@ use Rattle.head.specs.Field9.{field9, fits9, countFits, aircraftFits}
 use Rattle.equipment.specs.Field10.{field10, present}
 use Rattle.aerodromes.specs.Field13.{field13}
 use Rattle.aerodromes.specs.Field16.{field16plan, fits16plan}
-use Rattle.aerodromes.specs.Aerodromes.{fourLetters, timed}
+use Rattle.aerodromes.specs.Aerodromes.{fourLetters, joined}
 use Rattle.route.specs.Field15.{field15}
 use Rattle.other.specs.Field18.{field18, fitsIn}
 
@@ -89,12 +89,12 @@ unfolding fault22 labels fits8
 tried = (refl, refl, refl, refl, refl, refl, refl, refl)
 
 accepted : (fits22 (bytes "9/B39M/M") ≡ true) × (fits22 (bytes "16/EDDN0100 EDDF") ≡ true) × (fits22 (bytes "18/0") ≡ true) × (fits22 (bytes "8/IN") ≡ true)
-unfolding fits22 labels fits8 fits9 countFits aircraftFits fits16plan timed fourLetters timeFits fitsIn
+unfolding fits22 labels fits8 fits9 countFits aircraftFits fits16plan joined fourLetters timeFits fitsIn
 accepted = (refl, refl, refl, refl)
 
 -- an entry has field 16 as an FPL has it
 refused : (fits22 (bytes "16/EDDN") ≡ false) × (fits22 (bytes "8/ ") ≡ false) × (fits22 (bytes "8/") ≡ false) × (fits22 (bytes "17/EDDN0100") ≡ false)
-unfolding fits22 labels fits8 fits16plan timed fourLetters timeFits
+unfolding fits22 labels fits8 fits16plan joined fourLetters timeFits
 refused = (refl, refl, refl, refl)
 
 spelt : spell22 (record22 (bytes "9/2FK27/M")) ≡ bytes "9/2FK27/M"

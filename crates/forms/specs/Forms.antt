@@ -12,7 +12,7 @@ use Rattle.head.specs.Field7.{field7}
 use Rattle.head.specs.Field8.{field8, fits8}
 use Rattle.head.specs.Field9.{field9}
 use Rattle.equipment.specs.Field10.{field10, present}
-use Rattle.aerodromes.specs.Aerodromes.{fourLetters, timed}
+use Rattle.aerodromes.specs.Aerodromes.{fourLetters, joined}
 use Rattle.aerodromes.specs.Field13.{field13, field13open, fits13open}
 use Rattle.aerodromes.specs.Field16.{field16, field16plan, fits16plan}
 use Rattle.aerodromes.specs.Field17.{field17}
@@ -63,7 +63,7 @@ writtenOf f s = cond (eqb (numberOf f) 19) (written19 s) s
 -- in RQP the time may be absent; in FPL and SPL the elapsed time may not
 formed : (faultOf false Field13 (bytes "EHAM") ≡ 7) × (faultOf false Field13Open (bytes "EHAM") ≡ 0)
     × (faultOf false Field16 (bytes "EDDF") ≡ 0) × (faultOf false Field16Plan (bytes "EDDF") ≡ 7) × (faultOf true Field16 (bytes "EDDF") ≡ 0)
-unfolding fits13open fits16plan timed fourLetters timeFits
+unfolding fits13open fits16plan joined fourLetters timeFits
 formed = (refl, refl, refl, refl, refl)
 
 entered : (faultOf false Field22 (bytes "8/IN") ≡ 0) × (faultOf true Field22 (bytes "8/IN") ≡ 9) × (faultOf false Field22 (bytes "14/X") ≡ 8)

@@ -14,9 +14,9 @@ use Rattle.text.proofs.Tests.{both, and-both, same-eq, same-self}
 use Rattle.shape.specs.Field.{Field}
 use Rattle.shape.specs.Time.{clockHours, timeFits}
 use Rattle.head.specs.Field3.{field3}
-use Rattle.aerodromes.specs.Aerodromes.{fourLetters, timed}
+use Rattle.aerodromes.specs.Aerodromes.{fourLetters, joined}
 use Rattle.aerodromes.specs.Field13.{fits13}
-use Rattle.aerodromes.proofs.Aerodromes.{timed-four, timed-time, cut-aerodrome, cut-joined}
+use Rattle.aerodromes.proofs.Aerodromes.{joined-four, joined-time, cut-aerodrome, cut-joined}
 use Rattle.other.specs.Field18.{field18}
 use Rattle.records.specs.Records.{fitAll}
 use Rattle.kinds.specs.declared.MessageType.{MessageType}
@@ -175,17 +175,17 @@ changed-part other es a c = sym (lookup-named other 8 refl (omega arith) (omega 
 
 module _ (a b : Word) (p : fits13 a ≡ true) (q : fits13 b ≡ true) where
   retimed-aerodrome : take 4 (take 4 a ++ drop 4 b) ≡ take 4 a
-  retimed-aerodrome = cut-aerodrome (take 4 a) (timed-four clockHours a p) (drop 4 b)
+  retimed-aerodrome = cut-aerodrome (take 4 a) (joined-four clockHours a p) (drop 4 b)
 
   retimed-time : drop 4 (take 4 a ++ drop 4 b) ≡ drop 4 b
-  retimed-time = cut-joined (take 4 a) (timed-four clockHours a p) (drop 4 b)
+  retimed-time = cut-joined (take 4 a) (joined-four clockHours a p) (drop 4 b)
 
   retimed-fits : fits13 (take 4 a ++ drop 4 b) ≡ true
-  unfolding timed
+  unfolding joined
   retimed-fits =
       and-both (fourLetters (take 4 (take 4 a ++ drop 4 b))) (timeFits clockHours (drop 4 (take 4 a ++ drop 4 b)))
-      (ap fourLetters retimed-aerodrome ∙ timed-four clockHours a p)
-      (ap (timeFits clockHours) retimed-time ∙ timed-time clockHours b q)
+      (ap fourLetters retimed-aerodrome ∙ joined-four clockHours a p)
+      (ap (timeFits clockHours) retimed-time ∙ joined-time clockHours b q)
 
 -- THE FIELDS AFTER A MESSAGE of contents ds, by their places
 

@@ -14,7 +14,7 @@ use Rattle.head.specs.Field7.{fits7}
 use Rattle.head.specs.Field8.{fits8}
 use Rattle.head.specs.Field9.{fits9, countFits, aircraftFits}
 use Rattle.equipment.specs.Field10.{fits10, valid10, present}
-use Rattle.aerodromes.specs.Aerodromes.{fourLetters, timed}
+use Rattle.aerodromes.specs.Aerodromes.{fourLetters, joined}
 use Rattle.aerodromes.specs.Field16.{fits16plan}
 use Rattle.route.specs.Levels.{speedDigits, levelDigits, speeds, levels, starts}
 use Rattle.route.specs.Points.{within, radialFits, indicators, nameFits, pointFits}
@@ -37,6 +37,6 @@ pub filing-read : answerOf filing 1800 ≡ ReadAs Fpl 75
 unfolding answerOf countAs faultIn spellingOf outer parens parensFrom lettersFrom inAlphabet white text reduced reducedFrom standsForRun opens closes
     hyphens typeNamed typeRanked typesRead types formsOf planForms briefForms fits3
     numbersFit fits7 fits8 fits9 countFits aircraftFits fits10 valid10 present fits16plan fits15 starts speeds levels
-    speedDigits levelDigits elementFits letters within radialFits indicators nameFits pointFits fourLetters timed timeFits fitsIn unexplained
+    speedDigits levelDigits elementFits letters within radialFits indicators nameFits pointFits fourLetters joined timeFits fitsIn unexplained
     hasKey labels fits22 fault22
 filing-read = refl

@@ -37,7 +37,7 @@ use Rattle.head.specs.Field7.{fits7}
 use Rattle.head.specs.Field8.{fits8}
 use Rattle.head.specs.Field9.{fits9, countFits, aircraftFits}
 use Rattle.equipment.specs.Field10.{fits10, valid10, present}
-use Rattle.aerodromes.specs.Aerodromes.{fourLetters, timed}
+use Rattle.aerodromes.specs.Aerodromes.{fourLetters, joined}
 use Rattle.aerodromes.specs.Field16.{fits16plan}
 use Rattle.route.specs.Levels.{speedDigits, levelDigits, speeds, levels, starts, changes}
 use Rattle.route.specs.Points.{within, radialFits, indicators, nameFits, pointFits}
@@ -86,7 +86,7 @@ change-taken : accepts (updateOf (filedAs filing .strip) justFiled change 75) �
 unfolding answerOf countAs faultIn spellingOf outer parens parensFrom lettersFrom inAlphabet white text reduced reducedFrom standsForRun opens closes
     hyphens typeNamed typeRanked typesRead types formsOf planForms briefForms fits3 numbersFit fits7 fits8 fits9 countFits aircraftFits fits10
     valid10 present fits16plan fits15 starts speeds levels speedDigits levelDigits elementFits letters within radialFits indicators nameFits
-    pointFits fourLetters timed timeFits fitsIn unexplained hasKey labels fits22 fault22 canonicalPlan openingOf offeredAs updateOf namedBy newStrip outAfter
+    pointFits fourLetters joined timeFits fitsIn unexplained hasKey labels fits22 fault22 canonicalPlan openingOf offeredAs updateOf namedBy newStrip outAfter
     front
 change-taken = refl
 
@@ -101,7 +101,7 @@ nothing-left : getD (offeredAll doesNothing (filedAs filing) (changing ∷ []) .
 unfolding answerOf countAs faultIn spellingOf outer parens parensFrom lettersFrom inAlphabet white text reduced reducedFrom standsForRun opens closes
     hyphens typeNamed typeRanked typesRead types formsOf planForms briefForms fits3 numbersFit fits7 fits8 fits9 countFits aircraftFits fits10
     valid10 present fits16plan fits15 starts speeds levels speedDigits levelDigits elementFits letters within radialFits indicators nameFits
-    pointFits fourLetters timed timeFits fitsIn unexplained hasKey labels fits22 fault22 canonicalPlan openingOf offeredAs updateOf namedBy newStrip outAfter
+    pointFits fourLetters joined timeFits fitsIn unexplained hasKey labels fits22 fault22 canonicalPlan openingOf offeredAs updateOf namedBy newStrip outAfter
     front
 nothing-left = refl
 
@@ -117,7 +117,7 @@ copied-byte : (getD (offeredAll copies (filedAs filing) (changing ∷ []) .strip
 unfolding answerOf countAs faultIn spellingOf outer parens parensFrom lettersFrom inAlphabet white text reduced reducedFrom standsForRun opens closes
     hyphens typeNamed typeRanked typesRead types formsOf planForms briefForms fits3 numbersFit fits7 fits8 fits9 countFits aircraftFits fits10
     valid10 present fits16plan fits15 starts speeds levels speedDigits levelDigits elementFits letters within radialFits indicators nameFits
-    pointFits fourLetters timed timeFits fitsIn unexplained hasKey labels fits22 fault22 canonicalPlan openingOf offeredAs updateOf namedBy newStrip outAfter
+    pointFits fourLetters joined timeFits fitsIn unexplained hasKey labels fits22 fault22 canonicalPlan openingOf offeredAs updateOf namedBy newStrip outAfter
     front
 copied-byte = (refl, refl)
 
@@ -134,7 +134,7 @@ entry-byte : (getD (offeredAll firstEntry (filedAs filing) (changing ∷ []) .st
 unfolding answerOf countAs faultIn spellingOf outer parens parensFrom lettersFrom inAlphabet white text reduced reducedFrom standsForRun opens closes
     hyphens typeNamed typeRanked typesRead types formsOf planForms briefForms fits3 numbersFit fits7 fits8 fits9 countFits aircraftFits fits10
     valid10 present fits16plan fits15 starts speeds levels speedDigits levelDigits elementFits letters within radialFits indicators nameFits
-    pointFits fourLetters timed timeFits fitsIn unexplained hasKey labels fits22 fault22 canonicalPlan openingOf offeredAs updateOf namedBy newStrip outAfter
+    pointFits fourLetters joined timeFits fitsIn unexplained hasKey labels fits22 fault22 canonicalPlan openingOf offeredAs updateOf namedBy newStrip outAfter
     front
 entry-byte = (refl, refl)
 
@@ -151,7 +151,7 @@ message-byte : (getD (offeredAll (firstMessage filing) (filedAs filing) (changin
 unfolding answerOf countAs faultIn spellingOf outer parens parensFrom lettersFrom inAlphabet white text reduced reducedFrom standsForRun opens closes
     hyphens typeNamed typeRanked typesRead types formsOf planForms briefForms fits3 numbersFit fits7 fits8 fits9 countFits aircraftFits fits10
     valid10 present fits16plan fits15 starts speeds levels speedDigits levelDigits elementFits letters within radialFits indicators nameFits
-    pointFits fourLetters timed timeFits fitsIn unexplained hasKey labels fits22 fault22 canonicalPlan openingOf offeredAs updateOf namedBy newStrip outAfter
+    pointFits fourLetters joined timeFits fitsIn unexplained hasKey labels fits22 fault22 canonicalPlan openingOf offeredAs updateOf namedBy newStrip outAfter
     front
 message-byte = (refl, refl)
 
@@ -171,7 +171,7 @@ retiming-taken : (accepts (updateOf (filedAs filing .strip) justFiled (retiming 
 unfolding answerOf countAs faultIn spellingOf outer parens parensFrom lettersFrom inAlphabet white text reduced reducedFrom standsForRun opens closes
     hyphens typeNamed typeRanked typesRead types formsOf planForms briefForms fits3 numbersFit fits7 fits8 fits9 countFits aircraftFits fits10
     valid10 present fits16plan fits15 starts speeds levels speedDigits levelDigits elementFits letters within radialFits indicators nameFits
-    pointFits fourLetters timed timeFits fitsIn unexplained hasKey labels fits22 fault22 canonicalPlan openingOf offeredAs updateOf namedBy newStrip outAfter
+    pointFits fourLetters joined timeFits fitsIn unexplained hasKey labels fits22 fault22 canonicalPlan openingOf offeredAs updateOf namedBy newStrip outAfter
     front
 retiming-taken = (refl, refl)
 
@@ -190,7 +190,7 @@ time-byte : (getD (offeredAll depOverwrites (filedAs filing) (departing ∷ []) 
 unfolding answerOf countAs faultIn spellingOf outer parens parensFrom lettersFrom inAlphabet white text reduced reducedFrom standsForRun opens closes
     hyphens typeNamed typeRanked typesRead types formsOf planForms briefForms fits3 numbersFit fits7 fits8 fits9 countFits aircraftFits fits10
     valid10 present fits16plan fits15 starts speeds levels speedDigits levelDigits elementFits letters within radialFits indicators nameFits
-    pointFits fourLetters timed timeFits fitsIn unexplained hasKey labels fits22 fault22 canonicalPlan openingOf offeredAs updateOf namedBy newStrip outAfter
+    pointFits fourLetters joined timeFits fitsIn unexplained hasKey labels fits22 fault22 canonicalPlan openingOf offeredAs updateOf namedBy newStrip outAfter
     front
 time-byte = (refl, refl)
 
@@ -210,7 +210,7 @@ found-byte : (getD (offeredAll searches (filedAs filing) (rerouting ∷ []) .str
 unfolding answerOf countAs faultIn spellingOf outer parens parensFrom lettersFrom inAlphabet white text reduced reducedFrom standsForRun opens closes
     hyphens typeNamed typeRanked typesRead types formsOf planForms briefForms fits3 numbersFit fits7 fits8 fits9 countFits aircraftFits fits10
     valid10 present fits16plan fits15 starts speeds levels speedDigits levelDigits elementFits letters within radialFits indicators nameFits
-    pointFits fourLetters timed timeFits fitsIn unexplained hasKey labels fits22 fault22 canonicalPlan openingOf offeredAs updateOf namedBy newStrip outAfter
+    pointFits fourLetters joined timeFits fitsIn unexplained hasKey labels fits22 fault22 canonicalPlan openingOf offeredAs updateOf namedBy newStrip outAfter
     front
     pairFits changes
 found-byte = (refl, refl)

@@ -19,7 +19,7 @@ use Rattle.head.specs.Field7.{fits7}
 use Rattle.head.specs.Field8.{fits8}
 use Rattle.head.specs.Field9.{fits9, countFits, aircraftFits}
 use Rattle.equipment.specs.Field10.{fits10, valid10, present}
-use Rattle.aerodromes.specs.Aerodromes.{fourLetters, timed}
+use Rattle.aerodromes.specs.Aerodromes.{fourLetters, joined}
 use Rattle.aerodromes.specs.Field13.{fits13open}
 use Rattle.aerodromes.specs.Field16.{fits16plan}
 use Rattle.aerodromes.specs.Field17.{fits17, unlisted}
@@ -41,13 +41,13 @@ use Rattle.message.specs.Reading.{placeOf7, spellingOf, faultIn, countAs
 
 pub cancelled : answerOf (bytes "(CNL-ABC12-EHAM0930-EDDF-0)") 100 ≡ Accepted Cnl 27
 unfolding answerOf countAs faultIn spellingOf outer parens parensFrom lettersFrom inAlphabet white reduced reducedFrom standsForRun opens closes
-    hyphens typeNamed typeRanked typesRead types formsOf briefForms fits3 numbersFit fits7 fourLetters timed timeFits fitsIn
+    hyphens typeNamed typeRanked typesRead types formsOf briefForms fits3 numbersFit fits7 fourLetters joined timeFits fitsIn
 cancelled = refl
 
 pub not-a-time : answerOf (bytes "(DLA-ABC12-EHAM2460-EDDF-0)") 100 ≡ Refused 7 13 16
 unfolding answerOf placeOf7 sentPlace sentFrom behindHyphen timePlace countAs faultIn outer parens parensFrom lettersFrom inAlphabet white reduced
     reducedFrom standsForRun opens closes hyphens
-    upToHyphen placeOfHyphen typeNamed typeRanked typesRead types formsOf briefForms formAt fits3 numbersFit fits7 fourLetters timed timeFits
+    upToHyphen placeOfHyphen typeNamed typeRanked typesRead types formsOf briefForms formAt fits3 numbersFit fits7 fourLetters joined timeFits
 not-a-time = refl
 
 pub not-read : answerOf (bytes "(ACP-ABC12)") 100 ≡ Refused 5 3 0
@@ -70,7 +70,7 @@ pub accepted-types :
 unfolding answerOf countAs faultIn spellingOf outer parens parensFrom lettersFrom inAlphabet white text reduced reducedFrom standsForRun opens closes
     hyphens typeNamed typeRanked typesRead types formsOf planForms briefForms requestForms arrivalForms divertedForms supplementForms fits3
     numbersFit fits7 fits8 fits9 countFits aircraftFits fits10 valid10 present fits13open fits16plan fits17 unlisted fits15 starts speeds levels
-    speedDigits levelDigits elementFits letters within radialFits indicators nameFits pointFits fourLetters timed timeFits fitsIn unexplained
+    speedDigits levelDigits elementFits letters within radialFits indicators nameFits pointFits fourLetters joined timeFits fitsIn unexplained
     hasKey labels fits22 fault22 written19 fits19 spell19 record19 keyed
 accepted-types = (refl, refl, refl, refl, refl, refl, refl, refl, refl, refl)
 
@@ -99,7 +99,7 @@ unfolding answerOf placeOf7 sentPlace sentFrom behindHyphen place9 aircraftPlace
     inAlphabet white reduced reducedFrom standsForRun opens closes
     hyphens upToHyphen placeOfHyphen typeNamed typeRanked typesRead types formsOf planForms briefForms formAt fits3 numbersFit fits7 fits8 fits9
     countFits aircraftFits fits10 valid10 present fits16plan fits15 starts speeds levels speedDigits levelDigits elementFits letters within
-    radialFits indicators nameFits pointFits fourLetters timed timeFits fitsIn unexplained hasKey labels fits22 fault22
+    radialFits indicators nameFits pointFits fourLetters joined timeFits fitsIn unexplained hasKey labels fits22 fault22
 refused-fields = (refl, refl, refl, refl, refl, refl, refl)
 
 -- THE OUTPUT: the spelling at its front and the bytes behind it as they were; after a refusal all of them
@@ -110,7 +110,7 @@ pub written-out :
     × (outAfter (bytes "(DLA-ABC12-EHAM2460-EDDF-0)") (replicate 100 46) ≡ replicate 100 46)
 unfolding outAfter front answerOf countAs faultIn spellingOf outer parens parensFrom lettersFrom inAlphabet white reduced reducedFrom standsForRun
     opens closes hyphens upToHyphen placeOfHyphen typeNamed typeRanked typesRead types formsOf briefForms formAt fits3 numbersFit fits7
-    fourLetters timed timeFits fitsIn
+    fourLetters joined timeFits fitsIn
 written-out = (refl, refl, refl)
 
 -- POINTING AT THE BYTE: a run where no space may stand has its first byte, a content that stops too soon before white space that drops out has
@@ -122,5 +122,5 @@ pub pointed :
     × (answerOf (bytes "(CNL-ABC12-EHAM0930- EDDF-0)") 100 ≡ Refused 7 16 20)
 unfolding answerOf placeOf7 sentPlace sentFrom behindHyphen timePlace place7 letters countAs faultIn outer parens parensFrom lettersFrom inAlphabet white
     reduced reducedFrom standsForRun opens closes hyphens upToHyphen placeOfHyphen typeNamed typeRanked typesRead types formsOf briefForms formAt
-    fits3 numbersFit fits7 fourLetters timed timeFits
+    fits3 numbersFit fits7 fourLetters joined timeFits
 pointed = (refl, refl, refl, refl)

@@ -17,7 +17,7 @@ use Rattle.aerodromes.specs.Aerodromes.{joinedOf, first}
 use Rattle.aerodromes.specs.Field13.{fits13, record13}
 use Rattle.aerodromes.specs.Field17.{fits17, record17}
 use Rattle.aerodromes.specs.Asked.{aerodromeIn, isLetters}
-use Rattle.aerodromes.proofs.Aerodromes.{timed-time}
+use Rattle.aerodromes.proofs.Aerodromes.{joined-time}
 use Rattle.aerodromes.proofs.Field17.{landed-parts}
 use Rattle.aerodromes.proofs.Asked.{named17}
 use Rattle.state.specs.declared.Departure.{Departure}
@@ -83,9 +83,9 @@ time-sound : (w : Word) → clockFits w ≡ true → soundClock (clockOf w) ≡ 
 time-sound w e = sym (clock-sound (clockOf w)) ∙ time-valid clockHours w e
 
 pub depart-sound : (s : List ℕ) → fits13 s ≡ true → soundEvent (Depart (record13 s .time)) ≡ true
-depart-sound s e = time-sound (joinedOf s) (timed-time clockHours s e)
+depart-sound s e = time-sound (joinedOf s) (joined-time clockHours s e)
 
 pub arrive-sound : (s : List ℕ) → fits17 s ≡ true → soundEvent (Arrive (aerodromeIn s) (record17 s .time)) ≡ true
 arrive-sound s e =
     and-both (isLetters (aerodromeIn s)) (soundClock (record17 s .time)) (named17 s e .lettered)
-    (time-sound (joinedOf (first (split 32 s))) (timed-time clockHours (first (split 32 s)) (landed-parts s e .0)))
+    (time-sound (joinedOf (first (split 32 s))) (joined-time clockHours (first (split 32 s)) (landed-parts s e .0)))

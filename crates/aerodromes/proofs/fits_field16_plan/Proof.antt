@@ -1,25 +1,31 @@
 -- `aerodromes::fits_field16_plan` meets its contract. Assumes nothing.
 use Prim.Native.Nat.{ℕ, _+_}
-use mathlib.Core.Path.{sym, ap, _∙_}
+use mathlib.Core.Path.{_≡_, sym, ap, _∙_}
 use mathlib.Core.List.{List}
+use lib.ListN.{take}
 use lib.Seq.{length-take-le}
 use borrow.Author.Tests.{not-true, not-false}
 use Rattle.text.specs.Words.{split}
 use Rattle.text.proofs.Index.{rest}
+use Rattle.shape.specs.Time.{elapsedHours}
+use Rattle.aerodromes.specs.Aerodromes.{joined}
 use Rattle.aerodromes.specs.Field16.{fewAerodromes, mostAlternates}
-use Rattle.aerodromes.proofs.Index.{plan-stop, plan-last, plan-next}
+use Rattle.aerodromes.proofs.Index.{by-elapsed, plan-stop, plan-last, plan-next}
 use native.Mathlib.Omega.{arith}
 use borrow.Author.Needs.{needs}
 use Rattle.aerodromes.proofs.fits_field16_plan.Statement.{statement}
 use Rattle.aerodromes.proofs.fits_field16_plan.Tie as tie
 
 -- where the first word was tried
-module _ (c : tie.After-at-elapsed) where
+module _ (c : tie.After-is-elapsed) where
   abbrev ended : tie.After-find
-  ended = c .before .before
+  ended = c .before .before .before
 
-  abbrev start : tie.Start
-  start = ended .before .before
+  abbrev content : List ℕ
+  content = ended .before .before .args .s .now
+
+  tried : c .is-elapsed .result ≡ joined elapsedHours (take (ended .find .result) content)
+  tried = by-elapsed (take (ended .find .result) content) (c .before .at-elapsed .ensures) (c .is-elapsed .ensures)
 
 find-requires : tie.Need-find-requires
 find-requires c κs = search needs
@@ -30,17 +36,18 @@ slice-aggregate-at-elapsed c = sym (length-take-le _ _ (c .before .find .ensures
 at-elapsed-requires : tie.Need-at-elapsed-requires
 at-elapsed-requires c κs = search needs
 
+is-elapsed-requires : tie.Need-is-elapsed-requires
+is-elapsed-requires c κs = search needs
+
 returns : tie.Need-returns
 returns c =
     let r = c .before in
-    let first = sym (r .at-elapsed .ensures) ∙ not-true _ (c .if1 .taken) in
-    sym (plan-stop (start r .args .s .now) _ (ended r .find .ensures .0) first)
+    sym (plan-stop (content r) _ (ended r .find .ensures .0) (sym (tried r) ∙ not-true _ (c .if1 .taken)))
 
 returns-2 : tie.Need-returns-2
 returns-2 c =
     let r = c .before .before in
-    let first = sym (r .at-elapsed .ensures) ∙ not-false _ (c .before .if1 .left) in
-    sym (plan-last (start r .args .s .now) _ (ended r .find .ensures .0) first (omega arith))
+    sym (plan-last (content r) _ (ended r .find .ensures .0) (sym (tried r) ∙ not-false _ (c .before .if1 .left)) (omega arith))
 
 add-alternates : tie.Need-add-alternates
 add-alternates c = search needs
@@ -59,13 +66,12 @@ alternates-requires c κs = search needs
 
 returns-3 : tie.Need-returns-3
 returns-3 c =
-    let r = c .before .before .before .before in
-    let s = start r .args .s .now in
+    let l = c .before .before .before in
+    let r = l .before in
     let f = ended r .find in
-    let first = sym (r .at-elapsed .ensures) ∙ not-false _ (c .before .before .before .if1 .left) in
     c .alternates .ensures
-    ∙ ap (λ (t : List ℕ). fewAerodromes mostAlternates (split 32 t)) (rest s (f .result + 1))
-    ∙ sym (plan-next s (f .result) (f .ensures .0) first (omega arith))
+    ∙ ap (λ (t : List ℕ). fewAerodromes mostAlternates (split 32 t)) (rest (content r) (f .result + 1))
+    ∙ sym (plan-next (content r) (f .result) (f .ensures .0) (sym (tried r) ∙ not-false _ (l .if1 .left)) (omega arith))
 
 pub fits-field16-plan-spec : {M : Type 1} → statement M
 fits-field16-plan-spec =
@@ -74,6 +80,7 @@ fits-field16-plan-spec =
     find-requires
     slice-aggregate-at-elapsed
     at-elapsed-requires
+    is-elapsed-requires
     returns
     returns-2
     add-alternates

@@ -9,21 +9,18 @@ use borrow.Author.Tests.{not-true, not-false}
 use Rattle.text.specs.Words.{Word, all, same, split, textWord}
 use Rattle.text.proofs.Index.{rest}
 use Rattle.shape.specs.Time.{clockHours}
-use Rattle.aerodromes.specs.Aerodromes.{timed}
+use Rattle.aerodromes.specs.Aerodromes.{joined}
 use Rattle.aerodromes.specs.Field17.{unlisted}
-use Rattle.aerodromes.proofs.Index.{landed-stop, landed-other, landed-bare, landed-place}
+use Rattle.aerodromes.proofs.Index.{by-clock, landed-stop, landed-other, landed-bare, landed-place}
 use native.Mathlib.Omega.{arith}
 use borrow.Author.Needs.{needs}
 use Rattle.aerodromes.proofs.fits_field17.Statement.{statement}
 use Rattle.aerodromes.proofs.fits_field17.Tie as tie
 
--- where the aerodrome of a content whose first word fits was compared with ZZZZ
-module _ (c : tie.After-same-bytes) where
-  abbrev fitting : tie.Else1
-  fitting = c .before .before .before .before
-
+-- where the first word was tried
+module _ (c : tie.After-is-time-of-day) where
   abbrev ended : tie.After-find
-  ended = fitting .before .before .before
+  ended = c .before .before .before
 
   abbrev content : List ℕ
   content = ended .before .before .args .s .now
@@ -31,10 +28,21 @@ module _ (c : tie.After-same-bytes) where
   abbrev end : ℕ
   end = ended .find .result
 
-  first : timed clockHours (take end content) ≡ true
-  first = sym (fitting .before .at-clock .ensures) ∙ not-false _ (fitting .if1 .left)
+  tried : c .is-time-of-day .result ≡ joined clockHours (take end content)
+  tried = by-clock (take end content) (c .before .at-clock .ensures) (c .is-time-of-day .ensures)
 
-  compared : same (take 4 (take end content)) unlisted ≡ c .same-bytes .result
+-- where the aerodrome of a content whose first word fits was compared with ZZZZ
+module _ (c : tie.After-same-bytes) where
+  abbrev fitting : tie.Else1
+  fitting = c .before .before .before .before
+
+  abbrev word : tie.After-is-time-of-day
+  word = fitting .before
+
+  first : joined clockHours (take (end word) (content word)) ≡ true
+  first = sym (tried word) ∙ not-false _ (fitting .if1 .left)
+
+  compared : same (take 4 (take (end word) (content word))) unlisted ≡ c .same-bytes .result
   unfolding unlisted
   compared = ap (λ (w : Word). same w unlisted) (sym (c .before .before .aerodrome-of .ensures)) ∙ sym (c .same-bytes .ensures)
 
@@ -47,14 +55,16 @@ slice-aggregate-at-clock c = sym (length-take-le _ _ (c .before .find .ensures .
 at-clock-requires : tie.Need-at-clock-requires
 at-clock-requires c κs = search needs
 
+is-time-of-day-requires : tie.Need-is-time-of-day-requires
+is-time-of-day-requires c κs = search needs
+
 returns : tie.Need-returns
 returns c =
-    let f = c .before .before .before in
-    let first = sym (c .before .at-clock .ensures) ∙ not-true _ (c .if1 .taken) in
-    sym (landed-stop (f .before .before .args .s .now) _ (f .find .ensures .0) first)
+    let r = c .before in
+    sym (landed-stop (content r) (end r) (ended r .find .ensures .0) (sym (tried r) ∙ not-true _ (c .if1 .taken)))
 
 slice-aggregate-aerodrome-of : tie.Need-slice-aggregate-aerodrome-of
-slice-aggregate-aerodrome-of c = sym (length-take-le _ _ (c .before .before .before .before .find .ensures .1 .1))
+slice-aggregate-aerodrome-of c = sym (length-take-le _ _ (ended (c .before .before) .find .ensures .1 .1))
 
 aerodrome-of-requires : tie.Need-aerodrome-of-requires
 aerodrome-of-requires c κs = search needs
@@ -68,14 +78,16 @@ same-bytes-requires c κs = search needs
 returns-2 : tie.Need-returns-2
 returns-2 c =
     let r = c .before in
-    let f = ended r .find in
-    sym (landed-other (content r) (end r) (f .ensures .0) (f .ensures .1 .1) (first r) (compared r ∙ not-true _ (c .if2 .taken)))
+    let w = word r in
+    let f = ended w .find in
+    sym (landed-other (content w) (end w) (f .ensures .0) (f .ensures .1 .1) (first r) (compared r ∙ not-true _ (c .if2 .taken)))
 
 returns-3 : tie.Need-returns-3
 returns-3 c =
     let b = c .before in
     let r = b .before in
-    sym (landed-bare (content r) (end r) (ended r .find .ensures .0) (first r) (compared r ∙ not-false _ (b .if2 .left)) (omega arith))
+    let w = word r in
+    sym (landed-bare (content w) (end w) (ended w .find .ensures .0) (first r) (compared r ∙ not-false _ (b .if2 .left)) (omega arith))
 
 add-text-words : tie.Need-add-text-words
 add-text-words c = search needs
@@ -96,9 +108,10 @@ returns-4 : tie.Need-returns-4
 returns-4 c =
     let b = c .before .before .before in
     let r = b .before in
+    let w = word r in
     c .text-words .ensures
-    ∙ ap (λ (t : List ℕ). all textWord (split 32 t)) (rest (content r) (end r + 1))
-    ∙ sym (landed-place (content r) (end r) (ended r .find .ensures .0) (first r) (compared r ∙ not-false _ (b .if2 .left)) (omega arith))
+    ∙ ap (λ (t : List ℕ). all textWord (split 32 t)) (rest (content w) (end w + 1))
+    ∙ sym (landed-place (content w) (end w) (ended w .find .ensures .0) (first r) (compared r ∙ not-false _ (b .if2 .left)) (omega arith))
 
 pub fits-field17-spec : {M : Type 1} → statement M
 fits-field17-spec =
@@ -107,6 +120,7 @@ fits-field17-spec =
     find-requires
     slice-aggregate-at-clock
     at-clock-requires
+    is-time-of-day-requires
     returns
     slice-aggregate-aerodrome-of
     aerodrome-of-requires

@@ -5,11 +5,11 @@ use borrow.Author.Needs.{needs}
 use Rattle.aerodromes_places.proofs.landed_place.Statement.{statement}
 use Rattle.aerodromes_places.proofs.landed_place.Tie as tie
 
-place-timed-requires : tie.Need-place-timed-requires
-place-timed-requires c κs = search needs
+place-joined-requires : tie.Need-place-joined-requires
+place-joined-requires c κs = search needs
 
 returns : tie.Need-returns
-returns c = let a = c .before .before .before .args in c .place-timed .ensures ∙ sym (place-first (a .n) (a .w .now) (c .before .if1 .taken))
+returns c = let a = c .before .before .before .args in c .place-joined .ensures ∙ sym (place-first (a .n) (a .w .now) (c .before .if1 .taken))
 
 returns-2 : tie.Need-returns-2
 returns-2 c = let a = c .before .before .before .args in sym (place-one (a .n) (a .w .now) (c .if2 .taken))
@@ -24,4 +24,4 @@ returns-3 c =
 
 pub landed-place-spec : {M : Type 1} → statement M
 landed-place-spec =
-    tie.close (tie.spec place-timed-requires returns returns-2 front-of-requires returns-3)
+    tie.close (tie.spec place-joined-requires returns returns-2 front-of-requires returns-3)

@@ -4,11 +4,11 @@ use borrow.Author.Needs.{needs}
 use Rattle.aerodromes_places.proofs.plan_place.Statement.{statement}
 use Rattle.aerodromes_places.proofs.plan_place.Tie as tie
 
-place-timed-requires : tie.Need-place-timed-requires
-place-timed-requires c κs = search needs
+place-joined-requires : tie.Need-place-joined-requires
+place-joined-requires c κs = search needs
 
 returns : tie.Need-returns
-returns c = rw (eq-eqb (c .before .before .before .args .n) 0 (c .before .if1 .taken)) (c .place-timed .ensures)
+returns c = rw (eq-eqb (c .before .before .before .args .n) 0 (c .before .if1 .taken)) (c .place-joined .ensures)
 
 returns-2 : tie.Need-returns-2
 returns-2 c = rw (ne-eqb (c .before .before .before .args .n) 0 (c .before .if1 .left), lt-leb (c .before .before .before .args .n) 2 (c .if2 .taken))
@@ -25,4 +25,4 @@ returns-3 c =
 
 pub plan-place-spec : {M : Type 1} → statement M
 plan-place-spec =
-    tie.close (tie.spec place-timed-requires returns returns-2 place-field16-requires returns-3)
+    tie.close (tie.spec place-joined-requires returns returns-2 place-field16-requires returns-3)

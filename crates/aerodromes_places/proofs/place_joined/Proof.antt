@@ -1,12 +1,12 @@
--- `aerodromes_places::place_timed` meets its contract. Assumes nothing.
+-- `aerodromes_places::place_joined` meets its contract. Assumes nothing.
 use Rattle.places.proofs.Index.{fixed-short, fixed-whole, behind-within}
 use Rattle.alphabet.specs.Alphabet.{letter}
 use Rattle.places.specs.Parts.{timePlace}
 use Rattle.places.proofs.Fixed.{time-within}
 use native.Mathlib.Omega.{arith}
 use borrow.Author.Needs.{needs}
-use Rattle.aerodromes_places.proofs.place_timed.Statement.{statement}
-use Rattle.aerodromes_places.proofs.place_timed.Tie as tie
+use Rattle.aerodromes_places.proofs.place_joined.Statement.{statement}
+use Rattle.aerodromes_places.proofs.place_joined.Tie as tie
 
 front-of-requires : tie.Need-front-of-requires
 front-of-requires c κs = search needs
@@ -42,8 +42,8 @@ returns-2 c =
     fixed-whole letter 4 (timePlace (start .args .most)) (start .args .s .now) (at-front-of .front-of .result) (at-front-of .front-of .ensures .0)
     (c .time-place .result) (c .before .before .if1 .left) (c .time-place .ensures)
 
-pub place-timed-spec : {M : Type 1} → statement M
-place-timed-spec =
+pub place-joined-spec : {M : Type 1} → statement M
+place-joined-spec =
     tie.close
     (tie.spec
     front-of-requires
