@@ -38,7 +38,7 @@ fn plan_fits(n: usize, w: &[u8]) -> bool
     ensures { λ r. ⌜ r ≡ ended (plan .after n (now (w .entry))) ⌝ }
 {
     if n == 0 {
-        return aerodromes::at_elapsed(w);
+        return aerodromes::at_elapsed(w).is_elapsed();
     }
     if n > 2 {
         return false;
@@ -87,7 +87,7 @@ fn landed_next(n: usize, w: &[u8]) -> usize
     ensures { λ r. ⌜ r ≡ landedAfter n (now (w .entry)) ⌝ }
 {
     if n == 0 {
-        if !aerodromes::at_clock(w) {
+        if !aerodromes::at_clock(w).is_time_of_day() {
             return 0;
         }
         if text::same_bytes(aerodromes::aerodrome_of(w), b"ZZZZ") {

@@ -1,10 +1,13 @@
 -- `aerodromes_places::place_field16_plan` meets its contract. Assumes nothing.
 use mathlib.Core.Path.{_≡_, sym, _∙_}
-use Prim.Native.Nat.{_+_, _-_, _≤_}
+use Prim.Native.Nat.{ℕ, _+_, _-_, _≤_}
+use mathlib.Core.Bool.{true, false, not}
+use mathlib.Core.List.{List}
+use mathlib.Core.Option.{none, some}
 use lib.ListN.{length, take, drop}
 use borrow.Author.Tests.{not-true, not-false, lt-leb, le-leb}
 use Rattle.places.proofs.Texts.{word-length}
-use Rattle.text.specs.Words.{split}
+use Rattle.text.specs.Words.{Word, split}
 use Rattle.places.specs.Words.{wordsPlace}
 use Rattle.places.proofs.Index.{words-last, words-stuck, words-end, words-next}
 use Rattle.aerodromes_places.specs.Places.{plan, planPlace, place16plan}
@@ -19,6 +22,40 @@ Inv-loop s at₀ n₀ at n = (at ≤ length s) × (n ≤ 2) × (wordsPlace plan 
 
 abbrev μ-loop : tie.MeasureT-loop
 μ-loop s at₀ n₀ at n = length s - at
+
+-- where the end of a word was found
+module _ (c : tie.After-find Inv-loop μ-loop) where
+  abbrev turn : tie.At-loop Inv-loop μ-loop
+  turn = c .before
+
+  abbrev s : List ℕ
+  s = turn .before .before .args .s .now
+
+  abbrev at : ℕ
+  at = turn .loop .at
+
+  abbrev n : ℕ
+  n = turn .loop .n
+
+  abbrev e : ℕ
+  e = c .find .result
+
+  abbrev word : Word
+  word = take (e - at) (drop at s)
+
+  long : length word ≡ e - at
+  long = word-length s at e (omega arith) (omega arith)
+
+-- where the word was tried
+module _ (c : tie.After-plan-fits Inv-loop μ-loop) where
+  abbrev found : tie.After-find Inv-loop μ-loop
+  found = c .before .before .before
+
+  stuck : not (c .plan-fits .result) ≡ true → plan .after (n found) (word found) ≡ none
+  stuck h = plan-stuck (n found) (word found) (sym (c .plan-fits .ensures) ∙ not-true _ h)
+
+  fits : not (c .plan-fits .result) ≡ false → plan .after (n found) (word found) ≡ some (n found + 1)
+  fits h = plan-next (n found) (word found) (sym (c .plan-fits .ensures) ∙ not-false _ h)
 
 loop-holds : tie.Need-loop-holds Inv-loop μ-loop
 loop-holds c = (search needs, search needs, search needs)
@@ -40,27 +77,14 @@ plan-place-requires c κs = search needs
 
 add-result : tie.Need-add-result Inv-loop μ-loop
 add-result c =
-    let turn = c .before .before .before .before in
-    let start = turn .before .before in
-    let s = start .args .s .now in
-    omega (
-      arith,
-      plan-within (turn .loop .n) (take (c .before .before .before .find .result - turn .loop .at) (drop (turn .loop .at) s)),
-      c .plan-place .ensures,
-      word-length s (turn .loop .at) (c .before .before .before .find .result) (omega arith) (omega arith),
-    )
+    let f = c .before .before .before in
+    omega (arith, plan-within (n f) (word f), c .plan-place .ensures, long f)
 
 returns : tie.Need-returns Inv-loop μ-loop
 unfolding place16plan
 returns c =
-    let turn = c .before .before .before .before in
-    let start = turn .before .before in
-    omega (
-      arith,
-      c .plan-place .ensures,
-      words-last plan planPlace (turn .loop .n) (start .args .s .now) (turn .loop .at)
-          (c .before .before .before .find .result) (c .before .before .before .find .ensures .0) (omega arith),
-    )
+    let f = c .before .before .before in
+    omega (arith, c .plan-place .ensures, words-last plan planPlace (n f) (s f) (at f) (e f) (f .find .ensures .0) (omega arith))
 
 sub-plan-fits : tie.Need-sub-plan-fits Inv-loop μ-loop
 sub-plan-fits c = search needs
@@ -88,32 +112,18 @@ plan-place-requires-2 c κs = search needs
 
 add-result-2 : tie.Need-add-result-2 Inv-loop μ-loop
 add-result-2 c =
-    let back = c .before .before .before .before in
-    let at-find = back .before .before in
-    let turn = at-find .before in
-    let start = turn .before .before in
-    let s = start .args .s .now in
-    omega (
-      arith,
-      plan-within (turn .loop .n) (take (at-find .find .result - turn .loop .at) (drop (turn .loop .at) s)),
-      c .plan-place2 .ensures,
-      word-length s (turn .loop .at) (at-find .find .result) (omega arith) (omega arith),
-    )
+    let f = found (c .before .before .before) in
+    omega (arith, plan-within (n f) (word f), c .plan-place2 .ensures, long f)
 
 returns-2 : tie.Need-returns-2 Inv-loop μ-loop
 unfolding place16plan
 returns-2 c =
-    let at-plan-fits = c .before .before .before in
-    let at-find = at-plan-fits .before .before .before in
-    let turn = at-find .before in
-    let start = turn .before .before in
-    let s = start .args .s .now in
-    let e = plan-stuck (turn .loop .n) (take (at-find .find .result - turn .loop .at) (drop (turn .loop .at) s))
-    (sym (at-plan-fits .plan-fits .ensures) ∙ not-true _ (c .before .before .if2 .taken)) in
+    let i = c .before .before in
+    let f = found (i .before) in
     omega (
       arith,
       c .plan-place2 .ensures,
-      words-stuck plan planPlace (turn .loop .n) s (turn .loop .at) (at-find .find .result) (at-find .find .ensures .0) (omega arith) e,
+      words-stuck plan planPlace (n f) (s f) (at f) (e f) (f .find .ensures .0) (omega arith) (stuck (i .before) (i .if2 .taken)),
     )
 
 add-n : tie.Need-add-n Inv-loop μ-loop
@@ -122,18 +132,13 @@ add-n c = search needs
 returns-3 : tie.Need-returns-3 Inv-loop μ-loop
 unfolding place16plan
 returns-3 c =
-    let at-plan-fits = c .before .before in
-    let at-find = at-plan-fits .before .before .before in
-    let turn = at-find .before in
-    let start = turn .before .before in
-    let s = start .args .s .now in
-    let e = plan-next (turn .loop .n) (take (at-find .find .result - turn .loop .at) (drop (turn .loop .at) s))
-    (sym (at-plan-fits .plan-fits .ensures) ∙ not-false _ (c .before .if2 .left)) in
+    let i = c .before in
+    let f = found (i .before) in
     omega (
       arith,
-      word-length s (turn .loop .at) (at-find .find .result) (omega arith) (omega arith),
-      words-end plan planPlace (turn .loop .n) s (turn .loop .at)
-          (at-find .find .result) (at-find .find .ensures .0) (turn .loop .n + 1) (omega arith) e (lt-leb (turn .loop .n + 1) 2 (omega arith)),
+      long f,
+      words-end plan planPlace (n f) (s f) (at f) (e f)
+          (f .find .ensures .0) (n f + 1) (omega arith) (fits (i .before) (i .if2 .left)) (lt-leb (n f + 1) 2 (omega arith)),
     )
 
 add-at : tie.Need-add-at Inv-loop μ-loop
@@ -144,18 +149,13 @@ loop-less c = search needs
 
 loop-again : tie.Need-loop-again Inv-loop μ-loop
 loop-again c =
-    let at-plan-fits = c .before .before in
-    let at-find = at-plan-fits .before .before .before in
-    let turn = at-find .before in
-    let start = turn .before .before in
-    let s = start .args .s .now in
-    let e = plan-next (turn .loop .n) (take (at-find .find .result - turn .loop .at) (drop (turn .loop .at) s))
-    (sym (at-plan-fits .plan-fits .ensures) ∙ not-false _ (c .before .if2 .left)) in
+    let i = c .before in
+    let f = found (i .before) in
     omega (
       arith,
-      word-length s (turn .loop .at) (at-find .find .result) (omega arith) (omega arith),
-      words-next plan planPlace (turn .loop .n) s (turn .loop .at)
-          (at-find .find .result) (at-find .find .ensures .0) (turn .loop .n + 1) (omega arith) e (le-leb (turn .loop .n + 1) 2 (omega arith)),
+      long f,
+      words-next plan planPlace (n f) (s f) (at f) (e f)
+          (f .find .ensures .0) (n f + 1) (omega arith) (fits (i .before) (i .if2 .left)) (le-leb (n f + 1) 2 (omega arith)),
     )
 
 pub place-field16-plan-spec : {M : Type 1} → statement M

@@ -1,8 +1,10 @@
 -- `aerodromes_places::place_field17` meets its contract. Assumes nothing.
-use Prim.Native.Nat.{_+_, _-_, _≤_}
+use Prim.Native.Nat.{ℕ, _+_, _-_, _≤_}
 use mathlib.Core.Path.{_≡_, sym, ap, _∙_}
+use mathlib.Core.List.{List}
+use mathlib.Core.Option.{none, some}
 use lib.ListN.{length, take, drop}
-use Rattle.text.specs.Words.{split}
+use Rattle.text.specs.Words.{Word, split}
 use Rattle.places.specs.Words.{wordsPlace}
 use Rattle.places.proofs.Index.{words-last, words-stuck, words-end, words-next}
 use Rattle.aerodromes_places.specs.Places.{landed, landedPlace, place17}
@@ -18,6 +20,43 @@ Inv-loop s at₀ n₀ at n = (at ≤ length s) × (wordsPlace landed landedPlace
 
 abbrev μ-loop : tie.MeasureT-loop
 μ-loop s at₀ n₀ at n = length s - at
+
+-- where the end of a word was found
+module _ (c : tie.After-find Inv-loop μ-loop) where
+  abbrev turn : tie.At-loop Inv-loop μ-loop
+  turn = c .before
+
+  abbrev s : List ℕ
+  s = turn .before .before .args .s .now
+
+  abbrev at : ℕ
+  at = turn .loop .at
+
+  abbrev n : ℕ
+  n = turn .loop .n
+
+  abbrev e : ℕ
+  e = c .find .result
+
+  abbrev word : Word
+  word = take (e - at) (drop at s)
+
+  long : length word ≡ e - at
+  long = word-length s at e (omega arith) (omega arith)
+
+-- where it is known what is behind the word
+module _ (c : tie.After-landed-next Inv-loop μ-loop) where
+  abbrev found : tie.After-find Inv-loop μ-loop
+  found = c .before .before .before
+
+  abbrev j : ℕ
+  j = c .landed-next .result
+
+  stuck : j ≡ 0 → landed .after (n found) (word found) ≡ none
+  stuck z = after-none (n found) (word found) (sym (c .landed-next .ensures) ∙ z)
+
+  fits : (j ≡ 0 → ⊥) → landed .after (n found) (word found) ≡ some j
+  fits h = after-some (n found) (word found) j (c .landed-next .ensures) h
 
 loop-holds : tie.Need-loop-holds Inv-loop μ-loop
 loop-holds c = (search needs, search needs)
@@ -39,31 +78,14 @@ landed-place-requires c κs = search needs
 
 add-result : tie.Need-add-result Inv-loop μ-loop
 add-result c =
-    let turn = c .before .before .before .before in
-    let start = turn .before .before in
-    let a = start .args in
-    let l = turn .loop in
-    let e = c .before .before .before .find .result in
-    omega (
-      arith,
-      landed-within (l .n) (take (e - l .at) (drop (l .at) (a .s .now))),
-      c .landed-place .ensures,
-      word-length (a .s .now) (l .at) e (omega arith) (omega arith),
-    )
+    let f = c .before .before .before in
+    omega (arith, landed-within (n f) (word f), c .landed-place .ensures, long f)
 
 returns : tie.Need-returns Inv-loop μ-loop
 unfolding place17
 returns c =
-    let turn = c .before .before .before .before in
-    let start = turn .before .before in
-    let a = start .args in
-    let l = turn .loop in
-    omega (
-      arith,
-      c .landed-place .ensures,
-      words-last landed landedPlace (l .n) (a .s .now) (l .at) (c .before .before .before .find .result)
-          (c .before .before .before .find .ensures .0) (omega arith),
-    )
+    let f = c .before .before .before in
+    omega (arith, c .landed-place .ensures, words-last landed landedPlace (n f) (s f) (at f) (e f) (f .find .ensures .0) (omega arith))
 
 sub-landed-next : tie.Need-sub-landed-next Inv-loop μ-loop
 sub-landed-next c = search needs
@@ -91,49 +113,31 @@ landed-place-requires-2 c κs = search needs
 
 add-result-2 : tie.Need-add-result-2 Inv-loop μ-loop
 add-result-2 c =
-    let back = c .before .before .before .before in
-    let at-find = back .before .before in
-    let turn = at-find .before in
-    let start = turn .before .before in
-    let a = start .args in
-    let l = turn .loop in
-    let e = at-find .find .result in
-    omega (
-      arith,
-      landed-within (l .n) (take (e - l .at) (drop (l .at) (a .s .now))),
-      c .landed-place2 .ensures,
-      word-length (a .s .now) (l .at) e (omega arith) (omega arith),
-    )
+    let f = found (c .before .before .before) in
+    omega (arith, landed-within (n f) (word f), c .landed-place2 .ensures, long f)
 
 returns-2 : tie.Need-returns-2 Inv-loop μ-loop
 unfolding place17
 returns-2 c =
-    let at-landed-next = c .before .before .before in
-    let at-find = at-landed-next .before .before .before in
-    let turn = at-find .before in
-    let start = turn .before .before in
-    let a = start .args in
-    let l = turn .loop in
-    let e = at-find .find .result in
-    let q = after-none (l .n) (take (e - l .at) (drop (l .at) (a .s .now))) (sym (at-landed-next .landed-next .ensures) ∙ c .before .before .if2 .taken) in
-    omega (arith, c .landed-place2 .ensures, words-stuck landed landedPlace (l .n) (a .s .now) (l .at) e (at-find .find .ensures .0) (omega arith) q)
+    let i = c .before .before in
+    let f = found (i .before) in
+    omega (
+      arith,
+      c .landed-place2 .ensures,
+      words-stuck landed landedPlace (n f) (s f) (at f) (e f) (f .find .ensures .0) (omega arith) (stuck (i .before) (i .if2 .taken)),
+    )
 
 returns-3 : tie.Need-returns-3 Inv-loop μ-loop
 unfolding place17
 returns-3 c =
-    let at-landed-next = c .before .before in
-    let at-find = at-landed-next .before .before .before in
-    let turn = at-find .before in
-    let start = turn .before .before in
-    let a = start .args in
-    let l = turn .loop in
-    let e = at-find .find .result in
-    let j = at-landed-next .landed-next .result in
-    let q = after-some (l .n) (take (e - l .at) (drop (l .at) (a .s .now))) j (at-landed-next .landed-next .ensures) (c .before .if2 .left) in
+    let i = c .before in
+    let r = i .before in
+    let f = found r in
     omega (
       arith,
-      word-length (a .s .now) (l .at) e (omega arith) (omega arith),
-      words-end landed landedPlace (l .n) (a .s .now) (l .at) e (at-find .find .ensures .0) j (omega arith) q (ap (landed .goes) (c .if3 .taken)),
+      long f,
+      words-end landed landedPlace (n f) (s f) (at f) (e f)
+          (f .find .ensures .0) (j r) (omega arith) (fits r (i .if2 .left)) (ap (landed .goes) (c .if3 .taken)),
     )
 
 add-at : tie.Need-add-at Inv-loop μ-loop
@@ -144,21 +148,14 @@ loop-less c = search needs
 
 loop-again : tie.Need-loop-again Inv-loop μ-loop
 loop-again c =
-    let at-landed-next = c .before .before in
-    let at-find = at-landed-next .before .before .before in
-    let turn = at-find .before in
-    let start = turn .before .before in
-    let a = start .args in
-    let l = turn .loop in
-    let e = at-find .find .result in
-    let j = at-landed-next .landed-next .result in
-    let w = take (e - l .at) (drop (l .at) (a .s .now)) in
-    let q = after-some (l .n) w j (at-landed-next .landed-next .ensures) (c .before .if2 .left) in
+    let i = c .before in
+    let r = i .before in
+    let f = found r in
     omega (
       arith,
-      word-length (a .s .now) (l .at) e (omega arith) (omega arith),
-      words-next landed landedPlace (l .n) (a .s .now) (l .at) e
-          (at-find .find .ensures .0) j (omega arith) q (goes-more j w (c .before .if2 .left) (c .if3 .left)),
+      long f,
+      words-next landed landedPlace (n f) (s f) (at f) (e f)
+          (f .find .ensures .0) (j r) (omega arith) (fits r (i .if2 .left)) (goes-more (j r) (word f) (i .if2 .left) (c .if3 .left)),
     )
 
 pub place-field17-spec : {M : Type 1} → statement M

@@ -1,6 +1,7 @@
 -- `aerodromes_places::plan_fits` meets its contract. Assumes nothing.
 use mathlib.Core.Path.{sym, _∙_}
 use borrow.Author.Tests.{eq-eqb, ne-eqb, lt-leb, le-leb}
+use Rattle.aerodromes.proofs.Index.{by-elapsed}
 use Rattle.places.proofs.Given.{given-ended}
 use borrow.Author.Needs.{needs}
 use Rattle.aerodromes_places.proofs.plan_fits.Statement.{statement}
@@ -9,8 +10,14 @@ use Rattle.aerodromes_places.proofs.plan_fits.Tie as tie
 at-elapsed-requires : tie.Need-at-elapsed-requires
 at-elapsed-requires c κs = search needs
 
+is-elapsed-requires : tie.Need-is-elapsed-requires
+is-elapsed-requires c κs = search needs
+
 returns : tie.Need-returns
-returns c = rw (eq-eqb (c .before .before .before .args .n) 0 (c .before .if1 .taken)) (c .at-elapsed .ensures ∙ sym (given-ended _ 1))
+returns c =
+    let zero = c .before .before in
+    let a = zero .before .before .args in
+    rw (eq-eqb (a .n) 0 (zero .if1 .taken)) (by-elapsed (a .w .now) (c .before .at-elapsed .ensures) (c .is-elapsed .ensures) ∙ sym (given-ended _ 1))
 
 returns-2 : tie.Need-returns-2
 returns-2 c = rw (ne-eqb (c .before .before .before .args .n) 0 (c .before .if1 .left), lt-leb (c .before .before .before .args .n) 2 (c .if2 .taken))
@@ -27,4 +34,4 @@ returns-3 c =
 
 pub plan-fits-spec : {M : Type 1} → statement M
 plan-fits-spec =
-    tie.close (tie.spec at-elapsed-requires returns returns-2 four-letters-requires returns-3)
+    tie.close (tie.spec at-elapsed-requires is-elapsed-requires returns returns-2 four-letters-requires returns-3)
