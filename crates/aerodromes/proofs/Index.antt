@@ -11,13 +11,11 @@ use borrow.Author.Tests.{le-leb, eqb-true, eqb-false}
 use Rattle.text.specs.Words.{Word, all, null, same, split, upTo, textWord}
 use Rattle.text.proofs.Index.{split-at, after-here, after-end, drop-end, rest, null-split}
 use Rattle.text.proofs.Tests.{and-false}
-use Rattle.shape.specs.declared.ClockRead.{ClockRead}
 use Rattle.shape.specs.declared.ClockRead.the-variants.{NoTimeOfDay}
-use Rattle.shape.specs.declared.ElapsedRead.{ElapsedRead}
 use Rattle.shape.specs.declared.ElapsedRead.the-variants.{NoElapsedTime}
-use Rattle.shape.specs.Time.{timeFits, clockHours, clockFits, clockOf, clockRead, isTimeOfDay, elapsedHours, elapsedOf, elapsedRead, isElapsed}
-use Rattle.shape.proofs.Times.{time-length, told-clock, told-elapsed}
-use Rattle.aerodromes.specs.Aerodromes.{fourLetters, joinedOf, joined, atClock, atElapsed, first, others}
+use Rattle.shape.specs.Time.{timeFits, clockHours, clockFits, clockRead, elapsedHours, elapsedRead}
+use Rattle.shape.proofs.Times.{time-length}
+use Rattle.aerodromes.specs.Aerodromes.{fourLetters, joined, atClock, atElapsed, first, others}
 use Rattle.aerodromes.specs.Field13.{clockOrNone, fits13open}
 use Rattle.aerodromes.specs.Field16.{fewAerodromes, mostAlternates, fits16plan}
 use Rattle.aerodromes.specs.Field17.{unlisted, fits17}
@@ -52,14 +50,6 @@ module _ (w : Word) (e : fourLetters (take 4 w) ≡ true) where
   pub elapsed-rest : elapsedRead (take (length w - 4) (drop 4 w)) ≡ atElapsed w
   unfolding joined
   elapsed-rest = rw (e, rest w 4)
-
--- what the answer tells
-module _ (w : Word) where
-  pub by-clock : {t : ClockRead} {r : Bool} → t ≡ atClock w → r ≡ isTimeOfDay t → r ≡ joined clockHours w
-  by-clock p q = q ∙ ap isTimeOfDay p ∙ told-clock (joined clockHours w) (clockOf (joinedOf w))
-
-  pub by-elapsed : {t : ElapsedRead} {r : Bool} → t ≡ atElapsed w → r ≡ isElapsed t → r ≡ joined elapsedHours w
-  by-elapsed p q = q ∙ ap isElapsed p ∙ told-elapsed (joined elapsedHours w) (elapsedOf (joinedOf w))
 
 -- a time that may be absent
 

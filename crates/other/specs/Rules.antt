@@ -11,7 +11,9 @@ use Rattle.alphabet.specs.Alphabet.{letter, sign, oneOf}
 use Rattle.text.specs.Words.{Word, split, all, elem, rank, textWord}
 use Rattle.shape.specs.Numbers.{value}
 use Rattle.shape.specs.Shape.{fits, wide, letters}
-use Rattle.shape.specs.Time.{elapsedFits, timeFits}
+use Rattle.shape.specs.declared.ElapsedRead.{ElapsedRead}
+use Rattle.shape.specs.declared.ElapsedRead.the-variants.{ElapsedTime, NoElapsedTime}
+use Rattle.shape.specs.Time.{elapsedFits, elapsedOf, pickElapsed, timeFits}
 use Rattle.codes.specs.Codes.{codes, codesFit}
 use Rattle.other.specs.declared.Rule.{Rule}
 use Rattle.other.specs.declared.Rule.the-variants.{Status, Approvals, Day, Timed, Selcal, Address, Free}
@@ -54,6 +56,10 @@ date w = fits (wide yearMonthDay) w && (leb 1 (dayOf w) && leb (dayOf w) (daysIn
 -- EET, DLE: 6 to 15 signs, the last four an elapsed time
 unfoldable pub timed : Word → Bool
 timed w = leb 6 (length w) && (leb (length w) 15 && (all sign w && elapsedFits (drop (length w - 4) w)))
+
+-- that time, if w is such a word
+abbrev pub elapsedIn : Word → ElapsedRead
+elapsedIn w = pickElapsed (timed w) (elapsedOf (drop (length w - 4) w))
 
 -- SEL: 4 letters
 abbrev pub selcal : Word → Bool
@@ -154,3 +160,7 @@ codes-tried = (refl, refl, refl, refl, refl)
 times-tried : (timed (bytes "EISN0026") ≡ true) × (timed (bytes "EISN0060") ≡ false) × (timed (bytes "EISN2400") ≡ false) × (timed (bytes "E0026") ≡ false)
 unfolding timed timeFits letters
 times-tried = (refl, refl, refl, refl)
+
+times-read : (elapsedIn (bytes "EISN0126") ≡ ElapsedTime (record { 0 = 86 })) × (elapsedIn (bytes "EISN0060") ≡ NoElapsedTime)
+unfolding timed timeFits letters
+times-read = (refl, refl)

@@ -4,7 +4,7 @@ ghost use Prim.Native.Nat.{ℕ, _+_, _-_, _≤_, _<_};
 ghost use lib.ListN.{length, take, drop, getD};
 ghost use Rattle.alphabet.specs.Alphabet.{oneOf};
 ghost use Rattle.text.specs.Words.{split, after, all, elem, cells};
-ghost use Rattle.other.specs.Rules.{statuses, approved, daysIn, date, timed, selcal, address, wordFits, single, moreFits, ruleOf, edition};
+ghost use Rattle.other.specs.Rules.{statuses, approved, daysIn, date, elapsedIn, selcal, address, wordFits, single, moreFits, ruleOf, edition};
 ghost use Rattle.other.specs.Field18.{fitFrom, fitMore, fitsIn, fits18, hasKey, wordsOf, wordsFrom, Found};
 
 // What the words under a key must be: `Free` is any text words.
@@ -70,20 +70,20 @@ fn is_date(w: &[u8]) -> bool
     day <= days_in(shape::two(w, 0), shape::two(w, 2))
 }
 
-// EET, DLE: 6 to 15 signs, the last four an elapsed time.
-fn is_timed(w: &[u8]) -> bool
-    ensures { λ r. ⌜ r ≡ timed (now (w .entry)) ⌝ }
+// EET, DLE: 6 to 15 signs, the last four an elapsed time; that time, if w is so.
+fn elapsed_in(w: &[u8]) -> shape::ElapsedRead
+    ensures { λ r. ⌜ r ≡ elapsedIn (now (w .entry)) ⌝ }
 {
     if w.len() < 6 {
-        return false;
+        return shape::ElapsedRead::NoElapsedTime;
     }
     if 15 < w.len() {
-        return false;
+        return shape::ElapsedRead::NoElapsedTime;
     }
     if !text::all_of(text::Kind::Sign, w) {
-        return false;
+        return shape::ElapsedRead::NoElapsedTime;
     }
-    shape::Elapsed::fits(&w[w.len() - 4..])
+    shape::Elapsed::read(&w[w.len() - 4..])
 }
 
 // SEL: 4 letters.
@@ -128,7 +128,7 @@ pub fn word_fits(rule: Rule, w: &[u8]) -> bool
         Rule::Status => is_status(w),
         Rule::Approvals => is_approved(w),
         Rule::Day => is_date(w),
-        Rule::Timed => is_timed(w),
+        Rule::Timed => elapsed_in(w).is_elapsed(),
         Rule::Selcal => is_selcal(w),
         Rule::Address => is_address(w),
         Rule::Free => text::is_text_word(w),

@@ -16,7 +16,9 @@ use Rattle.shape.specs.Shape.{fits, wide, values}
 use Rattle.shape.specs.Time.{hoursMinutes, hours, minutes, timeFits, timeMinutes, spellTime, validTime}
 use Rattle.shape.specs.Time.{pickClock, pickElapsed, isTimeOfDay, isElapsed}
 use Rattle.shape.specs.declared.Clock.{Clock}
+use Rattle.shape.specs.declared.ClockRead.{ClockRead}
 use Rattle.shape.specs.declared.Elapsed.{Elapsed}
+use Rattle.shape.specs.declared.ElapsedRead.{ElapsedRead}
 use Rattle.shape.proofs.Index.{fits-lengths}
 use Rattle.shape.proofs.Exact.{spells-values, values-spells, fits-all}
 
@@ -99,3 +101,10 @@ told-clock false t = refl
 pub told-elapsed : (b : Bool) (t : Elapsed) → isElapsed (pickElapsed b t) ≡ b
 told-elapsed true t = refl
 told-elapsed false t = refl
+
+-- the answer on what a reader gave
+pub by-clock : {x : ClockRead} {r b : Bool} (t : Clock) → x ≡ pickClock b t → r ≡ isTimeOfDay x → r ≡ b
+by-clock {b = b} t p q = q ∙ ap isTimeOfDay p ∙ told-clock b t
+
+pub by-elapsed : {x : ElapsedRead} {r b : Bool} (t : Elapsed) → x ≡ pickElapsed b t → r ≡ isElapsed x → r ≡ b
+by-elapsed {b = b} t p q = q ∙ ap isElapsed p ∙ told-elapsed b t

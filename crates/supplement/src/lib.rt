@@ -142,7 +142,7 @@ fn first(key: u8, w: &[u8]) -> Stage
     ensures { λ r. ⌜ r ≡ firstOf (byLetter key) (now (w .entry)) ⌝ }
 {
     match key {
-        b'E' => taken(shape::Elapsed::fits(w), Stage::Endurance),
+        b'E' => taken(shape::Elapsed::read(w).is_elapsed(), Stage::Endurance),
         b'P' => taken(is_count(3, w), Stage::Persons),
         b'R' => taken(is_some_of(b"UVE", w), Stage::Radio),
         b'S' => taken(is_some_of(b"PDMJ", w), Stage::Survival),

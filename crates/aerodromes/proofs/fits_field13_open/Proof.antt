@@ -1,6 +1,7 @@
 -- `aerodromes::fits_field13_open` meets its contract. Assumes nothing.
 use mathlib.Core.Path.{sym, _∙_}
-use Rattle.aerodromes.proofs.Index.{by-clock, open-alone, open-joined}
+use Rattle.shape.proofs.Times.{by-clock}
+use Rattle.aerodromes.proofs.Index.{open-alone, open-joined}
 use borrow.Author.Needs.{needs}
 use Rattle.aerodromes.proofs.fits_field13_open.Statement.{statement}
 use Rattle.aerodromes.proofs.fits_field13_open.Tie as tie
@@ -20,9 +21,8 @@ is-time-of-day-requires c κs = search needs
 returns-2 : tie.Need-returns-2
 returns-2 c =
     let l = c .before .before in
-    let s = l .before .before .before .args .s .now in
     let four = sym (l .before .four-letters .ensures) ∙ l .if1 .left in
-    by-clock s (c .before .at-clock .ensures) (c .is-time-of-day .ensures) ∙ sym (open-joined s four)
+    by-clock _ (c .before .at-clock .ensures) (c .is-time-of-day .ensures) ∙ sym (open-joined (l .before .before .before .args .s .now) four)
 
 pub fits-field13-open-spec : {M : Type 1} → statement M
 fits-field13-open-spec =

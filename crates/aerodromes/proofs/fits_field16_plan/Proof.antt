@@ -8,9 +8,10 @@ use borrow.Author.Tests.{not-true, not-false}
 use Rattle.text.specs.Words.{split}
 use Rattle.text.proofs.Index.{rest}
 use Rattle.shape.specs.Time.{elapsedHours}
+use Rattle.shape.proofs.Times.{by-elapsed}
 use Rattle.aerodromes.specs.Aerodromes.{joined}
 use Rattle.aerodromes.specs.Field16.{fewAerodromes, mostAlternates}
-use Rattle.aerodromes.proofs.Index.{by-elapsed, plan-stop, plan-last, plan-next}
+use Rattle.aerodromes.proofs.Index.{plan-stop, plan-last, plan-next}
 use native.Mathlib.Omega.{arith}
 use borrow.Author.Needs.{needs}
 use Rattle.aerodromes.proofs.fits_field16_plan.Statement.{statement}
@@ -25,7 +26,7 @@ module _ (c : tie.After-is-elapsed) where
   content = ended .before .before .args .s .now
 
   tried : c .is-elapsed .result ≡ joined elapsedHours (take (ended .find .result) content)
-  tried = by-elapsed (take (ended .find .result) content) (c .before .at-elapsed .ensures) (c .is-elapsed .ensures)
+  tried = by-elapsed _ (c .before .at-elapsed .ensures) (c .is-elapsed .ensures)
 
 find-requires : tie.Need-find-requires
 find-requires c κs = search needs

@@ -9,9 +9,10 @@ use borrow.Author.Tests.{not-true, not-false}
 use Rattle.text.specs.Words.{Word, all, same, split, textWord}
 use Rattle.text.proofs.Index.{rest}
 use Rattle.shape.specs.Time.{clockHours}
+use Rattle.shape.proofs.Times.{by-clock}
 use Rattle.aerodromes.specs.Aerodromes.{joined}
 use Rattle.aerodromes.specs.Field17.{unlisted}
-use Rattle.aerodromes.proofs.Index.{by-clock, landed-stop, landed-other, landed-bare, landed-place}
+use Rattle.aerodromes.proofs.Index.{landed-stop, landed-other, landed-bare, landed-place}
 use native.Mathlib.Omega.{arith}
 use borrow.Author.Needs.{needs}
 use Rattle.aerodromes.proofs.fits_field17.Statement.{statement}
@@ -29,7 +30,7 @@ module _ (c : tie.After-is-time-of-day) where
   end = ended .find .result
 
   tried : c .is-time-of-day .result ≡ joined clockHours (take end content)
-  tried = by-clock (take end content) (c .before .at-clock .ensures) (c .is-time-of-day .ensures)
+  tried = by-clock _ (c .before .at-clock .ensures) (c .is-time-of-day .ensures)
 
 -- where the aerodrome of a content whose first word fits was compared with ZZZZ
 module _ (c : tie.After-same-bytes) where

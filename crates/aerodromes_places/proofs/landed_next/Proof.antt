@@ -5,8 +5,8 @@ use borrow.Author.Tests.{not-true, not-false}
 use Rattle.alphabet.specs.Text.{bytes}
 use Rattle.text.specs.Words.{same}
 use Rattle.shape.specs.Time.{clockHours}
+use Rattle.shape.proofs.Times.{by-clock}
 use Rattle.aerodromes.specs.Aerodromes.{aerodromeOf, joined}
-use Rattle.aerodromes.proofs.Index.{by-clock}
 use Rattle.aerodromes_places.proofs.Landed.{first-off, first-listed, first-unlisted, behind-one, text-goes, text-off}
 use borrow.Author.Needs.{needs}
 use Rattle.aerodromes_places.proofs.landed_next.Statement.{statement}
@@ -21,7 +21,7 @@ module _ (c : tie.After-is-time-of-day) where
   start = none-before .before .before
 
   tried : c .is-time-of-day .result ≡ joined clockHours (start .args .w .now)
-  tried = by-clock (start .args .w .now) (c .before .at-clock .ensures) (c .is-time-of-day .ensures)
+  tried = by-clock _ (c .before .at-clock .ensures) (c .is-time-of-day .ensures)
 
 -- where the aerodrome of one that fits was compared with ZZZZ
 module _ (c : tie.After-same-bytes) where

@@ -1,7 +1,9 @@
 -- `aerodromes_places::plan_fits` meets its contract. Assumes nothing.
 use mathlib.Core.Path.{sym, _∙_}
 use borrow.Author.Tests.{eq-eqb, ne-eqb, lt-leb, le-leb}
-use Rattle.aerodromes.proofs.Index.{by-elapsed}
+use Rattle.shape.specs.Time.{elapsedHours}
+use Rattle.shape.proofs.Times.{by-elapsed}
+use Rattle.aerodromes.specs.Aerodromes.{joined}
 use Rattle.places.proofs.Given.{given-ended}
 use borrow.Author.Needs.{needs}
 use Rattle.aerodromes_places.proofs.plan_fits.Statement.{statement}
@@ -17,7 +19,8 @@ returns : tie.Need-returns
 returns c =
     let zero = c .before .before in
     let a = zero .before .before .args in
-    rw (eq-eqb (a .n) 0 (zero .if1 .taken)) (by-elapsed (a .w .now) (c .before .at-elapsed .ensures) (c .is-elapsed .ensures) ∙ sym (given-ended _ 1))
+    rw (eq-eqb (a .n) 0 (zero .if1 .taken))
+    (by-elapsed _ (c .before .at-elapsed .ensures) (c .is-elapsed .ensures) ∙ sym (given-ended (joined elapsedHours (a .w .now)) 1))
 
 returns-2 : tie.Need-returns-2
 returns-2 c = rw (ne-eqb (c .before .before .before .args .n) 0 (c .before .if1 .left), lt-leb (c .before .before .before .args .n) 2 (c .if2 .taken))

@@ -1,5 +1,6 @@
 -- `other::word_fits` meets its contract. Assumes nothing.
 use Rattle.other.specs.declared.Rule.{Rule}
+use Rattle.shape.proofs.Times.{by-elapsed}
 use Rattle.other.specs.Rules.{wordFits}
 use mathlib.Core.Path.{sym, ap, _∙_}
 use borrow.Author.Needs.{needs}
@@ -27,8 +28,11 @@ is-date-requires c κs = search needs
 enum-told-4 : tie.Need-enum-told-4
 enum-told-4 c = search needs
 
-is-timed-requires : tie.Need-is-timed-requires
-is-timed-requires c κs = search needs
+elapsed-in-requires : tie.Need-elapsed-in-requires
+elapsed-in-requires c κs = search needs
+
+is-elapsed-requires : tie.Need-is-elapsed-requires
+is-elapsed-requires c κs = search needs
 
 enum-told-5 : tie.Need-enum-told-5
 enum-told-5 c = search needs
@@ -58,7 +62,10 @@ returns-3 : tie.Need-returns-3
 returns-3 c = c .is-date .ensures ∙ sym (ap (λ (r : Rule). wordFits r (c .before .before .before .before .args .w .now)) (c .before .enum-told3 .given .1))
 
 returns-4 : tie.Need-returns-4
-returns-4 c = c .is-timed .ensures ∙ sym (ap (λ (r : Rule). wordFits r (c .before .before .before .before .args .w .now)) (c .before .enum-told4 .given .1))
+returns-4 c =
+    let t = c .before .before in
+    by-elapsed _ (c .before .elapsed-in .ensures) (c .is-elapsed .ensures)
+    ∙ sym (ap (λ (r : Rule). wordFits r (t .before .before .before .args .w .now)) (t .enum-told4 .given .1))
 
 returns-5 : tie.Need-returns-5
 returns-5 c = c .is-selcal .ensures ∙ sym (ap (λ (r : Rule). wordFits r (c .before .before .before .before .args .w .now)) (c .before .enum-told5 .given .1))
@@ -80,7 +87,8 @@ word-fits-spec =
     enum-told-3
     is-date-requires
     enum-told-4
-    is-timed-requires
+    elapsed-in-requires
+    is-elapsed-requires
     enum-told-5
     is-selcal-requires
     enum-told-6

@@ -1,13 +1,18 @@
 -- `supplement::first` meets its contract. Assumes nothing.
 use Rattle.supplement.specs.declared.Stage.the-variants.{Endurance, Persons, Radio, Survival, Lights, Aircraft, Remarks, Pilot}
+use Rattle.shape.specs.Time.{elapsedFits}
+use Rattle.shape.proofs.Times.{by-elapsed}
 use Rattle.supplement.specs.Field19.{keyed}
 use Rattle.supplement.proofs.Steps.{as-taken, no-letter}
 use borrow.Author.Needs.{needs}
 use Rattle.supplement.proofs.first.Statement.{statement}
 use Rattle.supplement.proofs.first.Tie as tie
 
-fits-requires : tie.Need-fits-requires
-fits-requires c κs = search needs
+read-requires : tie.Need-read-requires
+read-requires c κs = search needs
+
+is-elapsed-requires : tie.Need-is-elapsed-requires
+is-elapsed-requires c κs = search needs
 
 taken-requires : tie.Need-taken-requires
 taken-requires c κs = search needs
@@ -68,7 +73,11 @@ taken-requires-8 c κs = search needs
 
 returns : tie.Need-returns
 unfolding keyed
-returns c = rw (c .before .before .match .keys1) (as-taken Endurance (c .taken .ensures) (c .before .fits2 .ensures))
+returns c =
+    let r = c .before .before in
+    let w = r .before .before .before .args .w .now in
+    rw (r .before .match .keys1)
+    (as-taken {p = elapsedFits w} Endurance (c .taken .ensures) (by-elapsed _ (r .read .ensures) (c .before .is-elapsed .ensures)))
 
 returns-2 : tie.Need-returns-2
 unfolding keyed
@@ -109,7 +118,8 @@ pub first-spec : {M : Type 1} → statement M
 first-spec =
     tie.close
     (tie.spec
-    fits-requires
+    read-requires
+    is-elapsed-requires
     taken-requires
     is-count-requires
     taken-requires-2
