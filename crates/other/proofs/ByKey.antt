@@ -1,4 +1,4 @@
--- An item by its key, of a content and of its record: `hasKey` and `wordsOf` tell what the record has. Assumes nothing.
+-- An item by its key, of a content and of its record: `hasKey` and `wordsUnder` tell what the record has. Assumes nothing.
 use Prim.Native.Nat.{ℕ, _<_}
 use mathlib.Core.Path.{_≡_, refl, sym, ap, _∙_}
 use mathlib.Core.Bool.{Bool, true, false, cond, not, false≢true}
@@ -10,9 +10,9 @@ use lib.Dec.{ltb}
 use Rattle.alphabet.specs.Text.{bytes}
 use Rattle.text.specs.Words.{Word, split, join, null, same, all}
 use Rattle.text.proofs.Tests.{both, same-eq, same-self, same-other}
-use Rattle.other.specs.Rules.{Edition, base, rankIn, ruleIn, wordFits, moreFits}
+use Rattle.other.specs.Rules.{Edition18, base, rankIn, ruleIn, wordFits, moreFits}
 use Rattle.other.specs.Field18.{Item, Field18, nothing, items, group, itemsFit, valid18, record18, field18, fits18}
-use Rattle.other.specs.Field18.{fromKey, has, firstWords, under, itemsOf, hasKey, wordsOf}
+use Rattle.other.specs.Field18.{fromKey, has, firstWords, under, itemsOf, hasKey, wordsUnder}
 use Rattle.shape.proofs.Fields.{fits-spelling}
 use Rattle.other.proofs.Field18.{field18-laws}
 
@@ -30,8 +30,8 @@ pub has-record : (s : List ℕ) (key : Word) → hasKey s key ≡ has key (items
 unfolding hasKey
 has-record s key = ap (has key) (items-of s)
 
-pub words-record : (s : List ℕ) (key : Word) → wordsOf s key ≡ under key (itemsOf (record18 s))
-unfolding wordsOf
+pub words-record : (s : List ℕ) (key : Word) → wordsUnder s key ≡ under key (itemsOf (record18 s))
+unfolding wordsUnder
 words-record s key = ap (under key) (items-of s)
 
 -- OF ITEMS
@@ -70,7 +70,7 @@ none-under key is e = go (fromKey key is) e
     go (j ∷ js) q = absurd (false≢true (sym q))
 
 -- items that fit have each key once, so an item's words are what is found under its key
-module _ (ed : Edition) where
+module _ (ed : Edition18) where
   step : (last : ℕ) (i : Item) (is : List Item) → itemsFit ed last (i ∷ is) ≡ true → (last < rankIn ed (i .key)) × (itemsFit ed (rankIn ed (i .key)) is ≡ true)
   step last i is e =
       let a = both (ltb last (rankIn ed (i .key))) _ e in
@@ -108,9 +108,9 @@ valid-items : (r : Field18) → valid18 base r ≡ true → itemsFit base 0 (ite
 valid-items nothing v = refl
 valid-items (items is) v = both (not (null is)) (itemsFit base 0 is) v .1
 
-pub words-item : (s : List ℕ) → fits18 s ≡ true → (i : Item) → List·Memᴰ i (itemsOf (record18 s)) → wordsOf s (i .key) ≡ join 32 (i .first ∷ i .more)
+pub words-item : (s : List ℕ) → fits18 s ≡ true → (i : Item) → List·Memᴰ i (itemsOf (record18 s)) → wordsUnder s (i .key) ≡ join 32 (i .first ∷ i .more)
 words-item s e i m =
     words-record s (i .key) ∙ under-item base 0 (itemsOf (record18 s)) (valid-items (record18 s) (fits-spelling field18 field18-laws s e .0)) i m
 
-pub no-words : (s : List ℕ) (key : Word) → hasKey s key ≡ false → wordsOf s key ≡ []
+pub no-words : (s : List ℕ) (key : Word) → hasKey s key ≡ false → wordsUnder s key ≡ []
 no-words s key e = words-record s key ∙ none-under key (itemsOf (record18 s)) (sym (has-record s key) ∙ e)

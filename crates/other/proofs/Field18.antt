@@ -15,7 +15,7 @@ use Rattle.text.proofs.Joined.{join-split, split-join, seam, holds-seam, before
 use Rattle.text.proofs.Tidy.{word-free, sign-tidy, text-tidy, text-word-free, text-word-tidy, tidy-join, oblique-tidy}
 use Rattle.shape.specs.Field.{Laws}
 use Rattle.shape.proofs.Fields.{plain}
-use Rattle.other.specs.Rules.{Edition, base, rankIn, ruleIn, wordFits, moreFits}
+use Rattle.other.specs.Rules.{Edition18, base, rankIn, ruleIn, wordFits, moreFits}
 use Rattle.other.specs.Field18.{Item, Field18, nothing, items, spelt, spell18, Groups, put, group, itemsFit, valid18}
 use Rattle.other.specs.Field18.{fitFrom, fitsIn, record18, field18In, field18}
 use Rattle.other.proofs.Texts.{word-text, more-text}
@@ -75,7 +75,7 @@ some-grouped (w ∷ ws) h e = go (holds 47 w) refl e
 
 -- IN AN EDITION whose keys are signs
 
-module _ (ed : Edition) (named : all (all sign) (ed .keys) ≡ true) where
+module _ (ed : Edition18) (named : all (all sign) (ed .keys) ≡ true) where
   key-signs : (last : ℕ) (key : Word) → ltb last (rankIn ed key) ≡ true → all sign key ≡ true
   key-signs last key e =
       let h : last < rankIn ed key = ltb-true last (rankIn ed key) e in

@@ -11,12 +11,12 @@ use lib.ListN.{length, take, drop}
 use borrow.Author.Tests.{lt-ltb, le-ltb}
 use Rattle.text.specs.Words.{Word, split, after, upTo, holds, before, behind, all}
 use Rattle.text.proofs.Index.{split-at}
-use Rattle.other.specs.Rules.{Edition, rankIn, ruleIn, wordFits, moreFits}
+use Rattle.other.specs.Rules.{Edition18, rankIn, ruleIn, wordFits, moreFits}
 use Rattle.other.specs.Field18.{group, itemsFit, fitFrom, fitMore}
 
 -- ONE WORD MORE
 
-pub fit-step : (ed : Edition) (last : ℕ) (w : Word) (ws : List Word)
+pub fit-step : (ed : Edition18) (last : ℕ) (w : Word) (ws : List Word)
     → fitFrom ed last (w ∷ ws)
     ≡ (holds 47 w
     && (ltb last (rankIn ed (before 47 w))
@@ -33,7 +33,7 @@ fit-step ed last w ws = go (holds 47 w) refl
     go true e = rw e
     go false e = rw e
 
-pub more-step : (ed : Edition) (k : ℕ) (w : Word) (ws : List Word)
+pub more-step : (ed : Edition18) (k : ℕ) (w : Word) (ws : List Word)
     → fitMore ed k (w ∷ ws) ≡ cond (holds 47 w) (fitFrom ed k (w ∷ ws)) (moreFits (ruleIn ed k) w && fitMore ed k ws)
 more-step ed k w ws = go (holds 47 w) refl
   where
@@ -47,7 +47,7 @@ module _ (s : List ℕ) (at e : ℕ) (end : e ≡ at + upTo 32 (drop at s)) (o :
   cut′ : o ≡ upTo 47 (take (e - at) (drop at s))
   cut′ = omega arith
 
-  pub item-plain : (ed : Edition) (last : ℕ) → o ≡ length (take (e - at) (drop at s)) → fitFrom ed last (split 32 (drop at s)) ≡ false
+  pub item-plain : (ed : Edition18) (last : ℕ) → o ≡ length (take (e - at) (drop at s)) → fitFrom ed last (split 32 (drop at s)) ≡ false
   item-plain ed last h =
       rw (
         split-at 32 s at e end,
@@ -56,7 +56,7 @@ module _ (s : List ℕ) (at e : ℕ) (end : e ≡ at + upTo 32 (drop at s)) (o :
         le-ltb o (length (take (e - at) (drop at s))) (omega arith),
       )
 
-  pub item-here : (ed : Edition) (last k : ℕ) → (o ≡ length (take (e - at) (drop at s)) → ⊥) → o ≤ length (take (e - at) (drop at s))
+  pub item-here : (ed : Edition18) (last k : ℕ) → (o ≡ length (take (e - at) (drop at s)) → ⊥) → o ≤ length (take (e - at) (drop at s))
       → k ≡ rankIn ed (take o (take (e - at) (drop at s)))
       → fitFrom ed last (split 32 (drop at s))
       ≡ (ltb last k && (wordFits (ruleIn ed k) (drop (o + 1) (take (e - at) (drop at s))) && fitMore ed k (after 32 (drop e s))))
@@ -70,11 +70,11 @@ module _ (s : List ℕ) (at e : ℕ) (end : e ≡ at + upTo 32 (drop at s)) (o :
         add-one o,
       )
 
-  pub words-item : (ed : Edition) (k : ℕ) → o < length (take (e - at) (drop at s)) → fitMore ed k (split 32 (drop at s)) ≡ fitFrom ed k (split 32 (drop at s))
+  pub words-item : (ed : Edition18) (k : ℕ) → o < length (take (e - at) (drop at s)) → fitMore ed k (split 32 (drop at s)) ≡ fitFrom ed k (split 32 (drop at s))
   words-item ed k h =
       rw (split-at 32 s at e end, more-step ed k (take (e - at) (drop at s)) (after 32 (drop e s)), ← cut′, lt-ltb o (length (take (e - at) (drop at s))) h)
 
-  pub words-word : (ed : Edition) (k : ℕ) → length (take (e - at) (drop at s)) ≤ o
+  pub words-word : (ed : Edition18) (k : ℕ) → length (take (e - at) (drop at s)) ≤ o
       → fitMore ed k (split 32 (drop at s)) ≡ (moreFits (ruleIn ed k) (take (e - at) (drop at s)) && fitMore ed k (after 32 (drop e s)))
   words-word ed k h =
       rw (split-at 32 s at e end, more-step ed k (take (e - at) (drop at s)) (after 32 (drop e s)), ← cut′, le-ltb o (length (take (e - at) (drop at s))) h)

@@ -10,7 +10,7 @@ use lib.Seq.{drop-drop, length-take-le, take-add}
 use borrow.Author.Tests.{eqb-true, ne-eqb, lt-ltb, le-ltb}
 use Rattle.text.specs.Words.{Word, split, join, after, upTo, holds, before, behind, same}
 use Rattle.text.proofs.Index.{split-at, upTo-le, after-here, after-end, split-cut}
-use Rattle.other.specs.Field18.{Item, group, fromKey, under, wordsFrom, hasKey, wordsOf, Found}
+use Rattle.other.specs.Field18.{Item, group, fromKey, under, wordsFrom, hasKey, wordsUnder, Found}
 
 -- THE FIRST ITEM OF A KEY
 
@@ -71,7 +71,7 @@ module _ (key s : List ℕ) (at e : ℕ) (end : e ≡ at + upTo 32 (drop at s)) 
     words-here = rw (within, from-here)
 
     pub found-here : e ≤ length s → fromKey key (group (split 32 s) .grouped) ≡ fromKey key (group (split 32 (drop at s)) .grouped) → Found s key (at + o + 1)
-    unfolding hasKey wordsOf
+    unfolding hasKey wordsUnder
     found-here l inv =
         let z : eqb (at + o + 1) 0 ≡ false = ne-eqb (at + o + 1) 0 (λ q. omega arith) in
         record { inside = omega (arith, long); there = rw (z, inv, from-here); words = rw (z, inv) words-here }
@@ -98,7 +98,7 @@ module _ (key s : List ℕ) (at e : ℕ) (end : e ≡ at + upTo 32 (drop at s)) 
       )
 
 pub found-none : (key s : List ℕ) → fromKey key (group (split 32 s) .grouped) ≡ [] → Found s key 0
-unfolding hasKey wordsOf
+unfolding hasKey wordsUnder
 found-none key s e = record { inside = omega arith; there = rw e; words = rw e }
 
 -- WHERE ITS WORDS END

@@ -12,7 +12,7 @@ use Rattle.text.specs.Words.{Word, split, join, holds, before, behind, all, nul
 use Rattle.shape.specs.Shape.{letters}
 use Rattle.shape.specs.Time.{timeFits}
 use Rattle.shape.specs.Field.{Field}
-use Rattle.other.specs.Rules.{Edition, base, rankIn, ruleIn, wordFits, moreFits, statuses, approvals, approved, daysIn, date, timed, hexadecimal}
+use Rattle.other.specs.Rules.{Edition18, base, rankIn, ruleIn, wordFits, moreFits, statuses, approvals, approved, daysIn, date, timed, hexadecimal}
 
 -- THE RECORD AND ITS SPELLING
 
@@ -56,7 +56,7 @@ group (w ∷ ws) = put w (group ws)
 
 -- WHAT ITEMS MAY HOLD: keys of the edition, each behind the last, and under each the words of its rule
 
-abbrev pub itemsFit : Edition → ℕ → List Item → Bool
+abbrev pub itemsFit : Edition18 → ℕ → List Item → Bool
 itemsFit ed last [] = true
 itemsFit ed last (i ∷ is) =
     ltb last (rankIn ed (i .key))
@@ -64,28 +64,28 @@ itemsFit ed last (i ∷ is) =
     && (all (moreFits (ruleIn ed (rankIn ed (i .key)))) (i .more)
     && itemsFit ed (rankIn ed (i .key)) is))
 
-abbrev pub valid18 : Edition → Field18 → Bool
+abbrev pub valid18 : Edition18 → Field18 → Bool
 valid18 ed nothing = true
 valid18 ed (items is) = not (null is) && itemsFit ed 0 is
 
 -- THE READING
 
 -- words that are items, with no word before the first
-abbrev pub fitFrom : Edition → ℕ → List Word → Bool
+abbrev pub fitFrom : Edition18 → ℕ → List Word → Bool
 fitFrom ed last ws = null (group ws .loose) && itemsFit ed last (group ws .grouped)
 
 -- words that go on with an item of the key at place k: its further words, and the items behind it
-abbrev pub fitMore : Edition → ℕ → List Word → Bool
+abbrev pub fitMore : Edition18 → ℕ → List Word → Bool
 fitMore ed k ws = all (moreFits (ruleIn ed k)) (group ws .loose) && itemsFit ed k (group ws .grouped)
 
-unfoldable pub fitsIn : Edition → List ℕ → Bool
+unfoldable pub fitsIn : Edition18 → List ℕ → Bool
 fitsIn ed s = cond (same s (bytes "0")) true (fitFrom ed 0 (split 32 s))
 
 unfoldable pub record18 : List ℕ → Field18
 record18 s = cond (same s (bytes "0")) nothing (items (group (split 32 s) .grouped))
 
 -- the form, in an edition, and in that of document 01
-abbrev pub field18In : Edition → Field
+abbrev pub field18In : Edition18 → Field
 field18In ed = record { Record = Field18; valid = valid18 ed; spell = spell18; fits = fitsIn ed; recordOf = record18; canonical = λ r. r }
 
 abbrev pub field18 : Field
@@ -122,8 +122,8 @@ itemsOf (items is) = is
 unfoldable pub hasKey : List ℕ → Word → Bool
 hasKey s key = has key (group (split 32 s) .grouped)
 
-unfoldable pub wordsOf : List ℕ → Word → List ℕ
-wordsOf s key = under key (group (split 32 s) .grouped)
+unfoldable pub wordsUnder : List ℕ → Word → List ℕ
+wordsUnder s key = under key (group (split 32 s) .grouped)
 
 -- the first of some words, and those behind it that belong to its item
 abbrev pub wordsFrom : List Word → List ℕ
@@ -134,7 +134,7 @@ wordsFrom (w ∷ ws) = join 32 (w ∷ group ws .loose)
 pub record Found (s : List ℕ) (key : Word) (at : ℕ) : Type 0 where
   pub inside : at ≤ length s
   pub there : not (eqb at 0) ≡ hasKey s key
-  pub words : cond (eqb at 0) [] (wordsFrom (split 32 (drop at s))) ≡ wordsOf s key
+  pub words : cond (eqb at 0) [] (wordsFrom (split 32 (drop at s))) ≡ wordsUnder s key
 
 -- EXAMPLES, computed
 
@@ -187,6 +187,6 @@ unfolding record18
 whole = refl
 
 found : (hasKey (bytes "STS/HOSP RMK/A B") (bytes "RMK") ≡ true) × (hasKey (bytes "STS/HOSP RMK/A B") (bytes "DOF") ≡ false)
-    × (wordsOf (bytes "STS/HOSP HUM RMK/A B") (bytes "STS") ≡ bytes "HOSP HUM") × (wordsOf (bytes "0") (bytes "STS") ≡ [])
-unfolding hasKey wordsOf
+    × (wordsUnder (bytes "STS/HOSP HUM RMK/A B") (bytes "STS") ≡ bytes "HOSP HUM") × (wordsUnder (bytes "0") (bytes "STS") ≡ [])
+unfolding hasKey wordsUnder
 found = (refl, refl, refl, refl)

@@ -3,7 +3,7 @@ use Prim.Native.Nat.{ℕ, _-_, _%_}
 use Prim.Native.Char.{code}
 use mathlib.Core.Path.{_≡_, refl}
 use mathlib.Core.Bool.{Bool, true, false, _&&_, not, cond}
-use mathlib.Core.List.{List, [], _∷_}
+use mathlib.Core.List.{List, [], _∷_, map}
 use lib.Dec.{leb, eqb}
 use lib.ListN.{length, take, drop, getD}
 use Rattle.alphabet.specs.Text.{bytes}
@@ -98,40 +98,77 @@ single Free = false
 abbrev pub moreFits : Rule → Word → Bool
 moreFits r w = not (single r) && wordFits r w
 
--- AN EDITION: its keys in their order, and a letter for each key's rule
+-- AN EDITION: its keys in their order, and the rule of each
 
-pub record Edition : Type 0 where
+pub record Edition18 : Type 0 where
   pub keys : List Word
-  pub rules : List ℕ
+  pub rules : List Rule
 
-abbrev pub edition : List Word → List ℕ → Edition
-edition ks rs = record { keys = ks; rules = rs }
-
--- the rule that a letter stands for
-abbrev pub ruleOf : ℕ → Rule
-ruleOf b =
-    cond (eqb b (code "S")) Status
-    (cond (eqb b (code "P")) Approvals
-    (cond (eqb b (code "D")) Day
-    (cond (eqb b (code "E")) Timed
-    (cond (eqb b (code "L")) Selcal
-    (cond (eqb b (code "H")) Address
-    Free)))))
+-- of keys that stand beside their rules
+abbrev pub editionOf : List (Word × Rule) → Edition18
+editionOf ks = record { keys = map (λ (k : Word × Rule). k .0) ks; rules = map (λ (k : Word × Rule). k .1) ks }
 
 -- the place of a key, counted from 1; 0 where the edition has no such key
-abbrev pub rankIn : Edition → Word → ℕ
+abbrev pub rankIn : Edition18 → Word → ℕ
 rankIn ed key = rank key (ed .keys)
 
 -- the rule of the key at that place
-abbrev pub ruleIn : Edition → ℕ → Rule
-ruleIn ed k = ruleOf (getD (ed .rules) (k - 1) 0)
+abbrev pub ruleIn : Edition18 → ℕ → Rule
+ruleIn ed k = getD (ed .rules) (k - 1) Free
 
 -- the edition of document 01
-unfoldable pub base : Edition
+unfoldable pub base : Edition18
 base =
-    edition
-    (split 32 (bytes "STS PBN NAV COM DAT SUR DEP DEST DOF REG EET SEL TYP CODE DLE OPR ORGN PER ALTN RALT TALT RIF RMK"))
-    (bytes "SP......D.EL.HE........")
+    editionOf
+    ((bytes "STS", Status)
+    ∷ (bytes "PBN", Approvals)
+    ∷ (bytes "NAV", Free)
+    ∷ (bytes "COM", Free)
+    ∷ (bytes "DAT", Free)
+    ∷ (bytes "SUR", Free)
+    ∷ (bytes "DEP", Free)
+    ∷ (bytes "DEST", Free)
+    ∷ (bytes "DOF", Day)
+    ∷ (bytes "REG", Free)
+    ∷ (bytes "EET", Timed)
+    ∷ (bytes "SEL", Selcal)
+    ∷ (bytes "TYP", Free)
+    ∷ (bytes "CODE", Address)
+    ∷ (bytes "DLE", Timed)
+    ∷ (bytes "OPR", Free)
+    ∷ (bytes "ORGN", Free)
+    ∷ (bytes "PER", Free)
+    ∷ (bytes "ALTN", Free)
+    ∷ (bytes "RALT", Free)
+    ∷ (bytes "TALT", Free)
+    ∷ (bytes "RIF", Free)
+    ∷ (bytes "RMK", Free)
+    ∷ [])
+
+-- AN EDITION AS THE CODE HAS IT: its keys, and a mark for the rule of each
+
+abbrev pub mark : Rule → ℕ
+mark Status = code "S"
+mark Approvals = code "P"
+mark Day = code "D"
+mark Timed = code "E"
+mark Selcal = code "L"
+mark Address = code "H"
+mark Free = code "."
+
+-- the rule that a mark stands for
+abbrev pub ruleOf : ℕ → Rule
+ruleOf b =
+    cond (eqb b (mark Status)) Status
+    (cond (eqb b (mark Approvals)) Approvals
+    (cond (eqb b (mark Day)) Day
+    (cond (eqb b (mark Timed)) Timed
+    (cond (eqb b (mark Selcal)) Selcal
+    (cond (eqb b (mark Address)) Address
+    Free)))))
+
+abbrev pub edition : List Word → List ℕ → Edition18
+edition ks ms = record { keys = ks; rules = map ruleOf ms }
 
 -- EXAMPLES, computed
 
@@ -143,9 +180,9 @@ ruled-keys : (ruled (bytes "STS") ≡ Status) × (ruled (bytes "PBN") ≡ Approv
 unfolding base
 ruled-keys = (refl, refl, refl, refl, refl, refl, refl, refl)
 
-as-many : length (base .rules) ≡ length (base .keys)
+marks-back : map (λ (r : Rule). ruleOf (mark r)) (base .rules) ≡ base .rules
 unfolding base
-as-many = refl
+marks-back = refl
 
 dates : (date (bytes "240229") ≡ true) × (date (bytes "230229") ≡ false) × (date (bytes "231231") ≡ true)
     × (date (bytes "231301") ≡ false) × (date (bytes "230100") ≡ false)

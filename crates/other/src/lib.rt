@@ -1,11 +1,12 @@
 // Field 18, other information: `0` alone, or items.
 ghost use mathlib.Core.Path.{_≡_};
+ghost use mathlib.Core.List.{[]};
 ghost use Prim.Native.Nat.{ℕ, _+_, _-_, _≤_, _<_};
-ghost use lib.ListN.{length, take, drop, getD};
+ghost use lib.ListN.{length, take, drop};
 ghost use Rattle.alphabet.specs.Alphabet.{oneOf};
 ghost use Rattle.text.specs.Words.{split, after, all, elem, cells};
-ghost use Rattle.other.specs.Rules.{statuses, approved, daysIn, date, elapsedIn, selcal, address, wordFits, single, moreFits, ruleOf, edition};
-ghost use Rattle.other.specs.Field18.{fitFrom, fitMore, fitsIn, fits18, hasKey, wordsOf, wordsFrom, Found};
+ghost use Rattle.other.specs.Rules.{statuses, approved, daysIn, date, elapsedIn, selcal, address, wordFits, single, moreFits, ruleIn, ruleOf, edition};
+ghost use Rattle.other.specs.Field18.{fitFrom, fitMore, fitsIn, fits18, hasKey, wordsUnder, wordsFrom, Found};
 
 // What the words under a key must be: `Free` is any text words.
 pub enum Rule {
@@ -160,7 +161,7 @@ pub fn more_fits(rule: Rule, w: &[u8]) -> bool
     word_fits(rule, w)
 }
 
-// The rule that a letter stands for.
+// The rule that a mark stands for.
 fn rule_of(b: u8) -> Rule
     ensures { λ r. ⌜ r ≡ ruleOf b ⌝ }
 {
@@ -176,14 +177,24 @@ fn rule_of(b: u8) -> Rule
 }
 
 // The rule of the key at place k, counted from 1.
-pub fn rule_at(rules: &[u8], k: usize) -> Rule
+fn rule_at(rules: &[u8], k: usize) -> Rule
     requires { ⌜ 0 < k ⌝ }
-    ensures { λ r. ⌜ r ≡ ruleOf (getD (now (rules .entry)) (k - 1) 0) ⌝ }
+    ensures { λ r. ⌜ r ≡ ruleIn (edition [] (now (rules .entry))) k ⌝ }
 {
     if rules.len() < k {
         return Rule::Free;
     }
     rule_of(rules[k - 1])
+}
+
+// The same for every number: place 0 has the first key's rule.
+pub fn rule_in(rules: &[u8], k: usize) -> Rule
+    ensures { λ r. ⌜ r ≡ ruleIn (edition [] (now (rules .entry))) k ⌝ }
+{
+    if k == 0 {
+        return rule_at(rules, 1);
+    }
+    rule_at(rules, k)
 }
 
 // The item that begins at `at`, its key behind the one at place `last`, with all that follows it.
@@ -227,7 +238,7 @@ fn words(keys: &[u8], rules: &[u8], s: &[u8], end: usize, k: usize) -> bool
     true
 }
 
-// Whether a content fits the form in an edition: its keys, in cells of four bytes, and a letter for each key's rule.
+// Whether a content fits the form in an edition: its keys, in cells of four bytes, and a mark for the rule of each.
 fn fits_edition(keys: &[u8], rules: &[u8], s: &[u8]) -> bool
     ensures { λ r. ⌜ r ≡ fitsIn (edition (cells 4 (now (keys .entry))) (now (rules .entry))) (now (s .entry)) ⌝ }
 {
@@ -296,7 +307,7 @@ pub fn has_key(s: &[u8], key: &[u8]) -> bool
 
 // The words of the item of a key, from behind its oblique to its end; nothing where there is no such item.
 pub fn words_of<'a>(s: &'a [u8], key: &[u8]) -> &'a [u8]
-    ensures { λ r. ⌜ now r ≡ wordsOf (now (s .entry)) (now (key .entry)) ⌝ }
+    ensures { λ r. ⌜ now r ≡ wordsUnder (now (s .entry)) (now (key .entry)) ⌝ }
 {
     let at = words_at(s, key);
     if at == 0 {

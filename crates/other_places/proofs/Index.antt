@@ -21,7 +21,7 @@ use Rattle.places.proofs.Given.{given-some, given-zero, or-some}
 use Rattle.entries.specs.Entries.{Entry, entryPlace, entriesPlace}
 use Rattle.places.proofs.Larger.{larger-assoc, larger-none}
 use Rattle.other.specs.declared.Rule.{Rule}
-use Rattle.other.specs.Rules.{Edition, rankIn, ruleIn, wordFits, moreFits, date}
+use Rattle.other.specs.Rules.{Edition18, rankIn, ruleIn, wordFits, moreFits, date}
 use Rattle.other_places.specs.Places.{signsTime, rulePlace, keyed, laterKeys, laterPlace, itemAfter, items, rankedAfter, itemsWord, distinct, soundKeys}
 use Rattle.other_places.proofs.Dates.{date-six}
 use Rattle.other_places.proofs.Rules.{rule-right}
@@ -54,7 +54,7 @@ rule-within r w = rule-right r w .within
 
 -- THE KEYS, in cells of four bytes
 
-module _ (ed : Edition) (k j at best : ℕ) (w keys : List ℕ) where
+module _ (ed : Edition18) (k j at best : ℕ) (w keys : List ℕ) where
   abbrev cell : Word
   cell = before 32 (take (at + 4 - at) (drop at keys))
 
@@ -112,7 +112,7 @@ count-cells s = go (length s) s (omega arith)
 
 -- THE KEY THAT A WORD BELONGS TO: o is where its first oblique stands
 
-module _ (ed : Edition) (k : ℕ) (w : Word) where
+module _ (ed : Edition18) (k : ℕ) (w : Word) where
   -- whether it is one more of the last key's
   abbrev more : Bool
   more = ltb 0 k && moreFits (ruleIn ed k) w
@@ -167,6 +167,6 @@ module _ (ed : Edition) (k : ℕ) (w : Word) where
   after-some j e n = or-some (items ed .after k w) j e n
 
 -- a word's place is in it
-pub item-within : (ed : Edition) → soundKeys ed ≡ true → (k : ℕ) (w : Word) → itemsWord ed k w ≤ length w
+pub item-within : (ed : Edition18) → soundKeys ed ≡ true → (k : ℕ) (w : Word) → itemsWord ed k w ≤ length w
 unfolding soundKeys
 item-within ed h k w = let q = both (all (all sign) (ed .keys)) (distinct (ed .keys)) h in word-right ed (q .0) (q .1) k w .within

@@ -25,7 +25,7 @@ use Rattle.places.proofs.Words.{none-fits, words-place}
 use Rattle.entries.specs.Entries.{anyEntry, matched, entriesPlace}
 use Rattle.entries.proofs.Entries.{AllRight, none-left, and-then, label-place, same-swap, entries-place}
 use Rattle.other.specs.declared.Rule.{Rule}
-use Rattle.other.specs.Rules.{Edition, base, rankIn, ruleIn, wordFits, moreFits, single}
+use Rattle.other.specs.Rules.{Edition18, base, rankIn, ruleIn, wordFits, moreFits, single}
 use Rattle.other.specs.Field18.{fitFrom, fitMore, fitsIn, fits18}
 use Rattle.other_places.specs.Places.{rulePlace, keyed, laterKeys, itemAfter, items, morePlace, itemsWord, itemsPlace, distinct, soundKeys, place18}
 use Rattle.other.proofs.Texts.{word-text}
@@ -79,7 +79,7 @@ rank-most j w (v ∷ vs) h = go (same w v) (rank-most (suc j) w vs (omega arith)
     go true l = omega arith
     go false l = omega arith
 
-module _ (ed : Edition) where
+module _ (ed : Edition18) where
   -- the rank of a word's key, and whether the word fits under it
   abbrev ranked : Word → ℕ
   ranked w = rankIn ed (before 47 w)
@@ -324,7 +324,7 @@ module _ (ed : Edition) where
 
 -- FIELD 18
 
-pub placed18-in : (ed : Edition) → soundKeys ed ≡ true → (s : List ℕ) → IsPlace (fitsIn ed) s (place18 ed s)
+pub placed18-in : (ed : Edition18) → soundKeys ed ≡ true → (s : List ℕ) → IsPlace (fitsIn ed) s (place18 ed s)
 unfolding soundKeys place18 itemsPlace
 placed18-in ed h s =
     let k = both (all (all sign) (ed .keys)) (distinct (ed .keys)) h in

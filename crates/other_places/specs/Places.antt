@@ -20,7 +20,7 @@ use Rattle.entries.specs.Entries.{Entry, matched, anyOf, entryPlace, entriesPla
 use Rattle.code_places.specs.Codes.{codesPlace}
 use Rattle.other.specs.declared.Rule.{Rule}
 use Rattle.other.specs.declared.Rule.the-variants.{Status, Approvals, Day, Timed, Selcal, Address, Free}
-use Rattle.other.specs.Rules.{Edition, base, rankIn, ruleIn, wordFits, moreFits, single, statuses, approvals, approved, date, daysIn, hexadecimal, timed}
+use Rattle.other.specs.Rules.{Edition18, base, rankIn, ruleIn, wordFits, moreFits, single, statuses, approvals, approved, date, daysIn, hexadecimal, timed}
 
 -- THE PLACE IN A WORD, by its rule
 
@@ -54,19 +54,19 @@ abbrev pub keyed : Word → Rule → Entry
 keyed v r = record { label = v; fits = wordFits r; place = rulePlace r }
 
 -- the keys behind rank k, as labels; j is the rank of the first of the list
-abbrev pub laterKeys : Edition → ℕ → ℕ → List Word → List Entry
+abbrev pub laterKeys : Edition18 → ℕ → ℕ → List Word → List Entry
 laterKeys ed k j [] = []
 laterKeys ed k j (v ∷ vs) =
     cond (ltb k j) (keyed v (ruleIn ed j) ∷ laterKeys ed k (suc j) vs) (laterKeys ed k (suc j) vs)
 
 -- the place of a word as the key of rank j, where that is behind rank k
-abbrev pub laterPlace : Edition → ℕ → ℕ → Word → Word → ℕ
+abbrev pub laterPlace : Edition18 → ℕ → ℕ → Word → Word → ℕ
 laterPlace ed k j v w = cond (ltb k j) (entryPlace (keyed v (ruleIn ed j)) w) 0
 
-abbrev pub itemAfter : Edition → ℕ → ℕ → Word → Option ℕ
+abbrev pub itemAfter : Edition18 → ℕ → ℕ → Word → Option ℕ
 itemAfter ed k r w = given (ltb k r && wordFits (ruleIn ed r) w) r
 
-abbrev pub items : Edition → Words
+abbrev pub items : Edition18 → Words
 items ed =
     record {
       K = ℕ;
@@ -76,19 +76,19 @@ items ed =
     }
 
 -- the rank of the key that a word belongs to; 0 where it may not stand there
-abbrev pub rankedAfter : Edition → ℕ → Word → ℕ
+abbrev pub rankedAfter : Edition18 → ℕ → Word → ℕ
 rankedAfter ed k w = orZero (items ed .after k w)
 
-abbrev pub morePlace : Edition → ℕ → Word → ℕ
+abbrev pub morePlace : Edition18 → ℕ → Word → ℕ
 morePlace ed k w = cond (ltb 0 k && not (single (ruleIn ed k))) (rulePlace (ruleIn ed k) w) 0
 
-abbrev pub keysPlace : Edition → ℕ → Word → ℕ
+abbrev pub keysPlace : Edition18 → ℕ → Word → ℕ
 keysPlace ed k w = entriesPlace (laterKeys ed k 1 (ed .keys)) w
 
-abbrev pub itemsWord : Edition → ℕ → Word → ℕ
+abbrev pub itemsWord : Edition18 → ℕ → Word → ℕ
 itemsWord ed k w = larger (morePlace ed k w) (keysPlace ed k w)
 
-unfoldable pub itemsPlace : Edition → List ℕ → ℕ
+unfoldable pub itemsPlace : Edition18 → List ℕ → ℕ
 itemsPlace ed s = wordsPlace (items ed) (itemsWord ed) 0 (split 32 s)
 
 -- the keys of an edition are of signs, and no two are equal
@@ -96,11 +96,11 @@ abbrev pub distinct : List Word → Bool
 distinct [] = true
 distinct (v ∷ vs) = not (elem v vs) && distinct vs
 
-unfoldable pub soundKeys : Edition → Bool
+unfoldable pub soundKeys : Edition18 → Bool
 soundKeys ed = all (all sign) (ed .keys) && distinct (ed .keys)
 
 -- `0` alone, or items
-unfoldable pub place18 : Edition → List ℕ → ℕ
+unfoldable pub place18 : Edition18 → List ℕ → ℕ
 place18 ed s = larger (matched (bytes "0") s) (itemsPlace ed s)
 
 -- EXAMPLES, computed

@@ -160,7 +160,7 @@ fn more_place(rules: &[u8], k: usize, w: &[u8]) -> usize
     if k == 0 {
         return 0;
     }
-    let rule = other::rule_at(rules, k);
+    let rule = other::rule_in(rules, k);
     if other::is_single(rule) {
         return 0;
     }
@@ -189,7 +189,7 @@ fn cell_place(rules: &[u8], k: usize, j: usize, cell: &[u8], w: &[u8]) -> usize
         return 0;
     }
     let e = text::find(cell, 0, b' ');
-    key_place(&cell[..e], other::rule_at(rules, j), w)
+    key_place(&cell[..e], other::rule_in(rules, j), w)
 }
 
 // The place of a word as one of the keys behind the one at place k, with its first word.
@@ -224,7 +224,7 @@ fn rank_after(keys: &[u8], rules: &[u8], k: usize, w: &[u8]) -> usize
         if k == 0 {
             return 0;
         }
-        if other::more_fits(other::rule_at(rules, k), w) {
+        if other::more_fits(other::rule_in(rules, k), w) {
             return k;
         }
         return 0;
@@ -233,7 +233,7 @@ fn rank_after(keys: &[u8], rules: &[u8], k: usize, w: &[u8]) -> usize
     if r <= k {
         return 0;
     }
-    if !other::word_fits(other::rule_at(rules, r), &w[o + 1..]) {
+    if !other::word_fits(other::rule_in(rules, r), &w[o + 1..]) {
         return 0;
     }
     r
@@ -244,7 +244,7 @@ fn goes_on(keys: &[u8], rules: &[u8], k: usize) -> bool
     requires { ⌜ 0 < k ⌝ }
     ensures { λ r. ⌜ r ≡ items (edition (cells 4 (now (keys .entry))) (now (rules .entry))) .goes k ⌝ }
 {
-    if !other::is_single(other::rule_at(rules, k)) {
+    if !other::is_single(other::rule_in(rules, k)) {
         return true;
     }
     k < keys.len() / 4

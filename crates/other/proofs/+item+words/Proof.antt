@@ -7,7 +7,7 @@ use lib.Seq.{length-take-le}
 use borrow.Author.Tests.{lt-ltb, le-ltb, not-true, not-false}
 use Rattle.text.specs.Words.{split, after, cells}
 use Rattle.text.proofs.Index.{after-here, after-end, rest}
-use Rattle.other.specs.Rules.{Edition, edition, ruleIn, wordFits, moreFits}
+use Rattle.other.specs.Rules.{Edition18, edition, ruleIn, wordFits, moreFits}
 use Rattle.other.specs.Field18.{fitFrom, fitMore}
 use Rattle.other.proofs.Index.{item-plain, item-here, words-item, words-word}
 use borrow.Author.Needs.{needs}
@@ -96,7 +96,7 @@ module _ (t : ℕ) (c : item-lts.After-rank-in-cells (item-calls t) (item-given 
   abbrev item-content : List ℕ
   item-content = item-start .args .s .now
 
-  abbrev item-edition : Edition
+  abbrev item-edition : Edition18
   item-edition = edition (cells 4 (item-start .args .keys .now)) (item-start .args .rules .now)
 
   abbrev item-end : ℕ
@@ -133,7 +133,7 @@ module _ (t : ℕ) (c : words-lts.After-find2 (words-calls t) (words-given t) wo
   abbrev words-content : List ℕ
   words-content = words-start .args .s .now
 
-  abbrev words-edition : Edition
+  abbrev words-edition : Edition18
   words-edition = edition (cells 4 (words-start .args .keys .now)) (words-start .args .rules .now)
 
   abbrev words-at : ℕ

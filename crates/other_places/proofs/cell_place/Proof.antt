@@ -21,8 +21,8 @@ find-requires c κs = search needs
 slice-aggregate-key-place : tie.Need-slice-aggregate-key-place
 slice-aggregate-key-place c = sym (length-take-le _ _ (c .before .find .ensures .1 .1))
 
-rule-at-requires : tie.Need-rule-at-requires
-rule-at-requires c κs = search needs
+rule-in-requires : tie.Need-rule-in-requires
+rule-in-requires c κs = search needs
 
 key-place-requires : tie.Need-key-place-requires
 key-place-requires c κs = search needs
@@ -34,7 +34,7 @@ returns-2 c =
     let a = later .before .before .before .before .args in
     let key = found-before 32 (a .cell .now) (f .find .result) (f .find .ensures .0) in
     let placed = c .key-place .ensures
-    ∙ ap (λ r. entryPlace (keyed (take (f .find .result) (a .cell .now)) r) (a .w .now)) (c .before .rule-at .ensures)
+    ∙ ap (λ r. entryPlace (keyed (take (f .find .result) (a .cell .now)) r) (a .w .now)) (c .before .rule-in .ensures)
     ∙ ap (λ v. entryPlace (keyed v (ruleIn (edition [] (a .rules .now)) (a .j))) (a .w .now)) key in
     sym (rw (lt-ltb (a .k) (a .j) (later .if1 .left)) (sym placed))
 
@@ -45,6 +45,6 @@ cell-place-spec =
     returns
     find-requires
     slice-aggregate-key-place
-    rule-at-requires
+    rule-in-requires
     key-place-requires
     returns-2)

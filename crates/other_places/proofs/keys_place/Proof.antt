@@ -7,7 +7,7 @@ use Rattle.text.proofs.Index.{cellsFrom, all-cells}
 use Rattle.places.specs.Parts.{larger}
 use Rattle.entries.specs.Entries.{entriesPlace}
 use Rattle.places.proofs.Larger.{larger-first}
-use Rattle.other.specs.Rules.{Edition, edition}
+use Rattle.other.specs.Rules.{Edition18, edition}
 use Rattle.other_places.specs.Places.{laterKeys, keysPlace}
 use Rattle.other_places.proofs.Index.{keys-next, keys-end}
 use borrow.Author.Needs.{needs}
@@ -31,7 +31,7 @@ module _ (c : tie.At-loop Inv-loop μ-loop) where
   abbrev start : tie.Start Inv-loop μ-loop
   start = c .before .before .before .before
 
-  abbrev ed : Edition
+  abbrev ed : Edition18
   ed = edition (cells 4 (start .args .keys .now)) (start .args .rules .now)
 
   abbrev behind : ℕ

@@ -9,7 +9,7 @@ use borrow.Author.Tests.{not-true, not-false}
 use Rattle.text.specs.Words.{Word, split, cells}
 use Rattle.places.specs.Words.{wordsPlace}
 use Rattle.places.proofs.Index.{words-last, words-stuck, words-end, words-next}
-use Rattle.other.specs.Rules.{Edition, edition}
+use Rattle.other.specs.Rules.{Edition18, edition}
 use Rattle.other_places.specs.Places.{items, itemsWord, itemsPlace}
 use Rattle.other_places.proofs.Index.{item-within, after-none, after-some}
 use Rattle.places.proofs.Texts.{word-length}
@@ -32,7 +32,7 @@ module _ (c : tie.At-loop Inv-loop μ-loop) where
   abbrev start : tie.Start Inv-loop μ-loop
   start = c .before .before .before .before
 
-  abbrev ed : Edition
+  abbrev ed : Edition18
   ed = edition (cells 4 (start .args .keys .now)) (start .args .rules .now)
 
   abbrev content : List ℕ

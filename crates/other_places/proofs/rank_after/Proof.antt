@@ -5,7 +5,7 @@ use Prim.Native.Nat.{_+_, _-_}
 use lib.ListN.{length, take, drop}
 use borrow.Author.Tests.{not-true, not-false}
 use Rattle.text.specs.Words.{Word, cells}
-use Rattle.other.specs.Rules.{Edition, edition, ruleIn, moreFits, wordFits}
+use Rattle.other.specs.Rules.{Edition18, edition, ruleIn, moreFits, wordFits}
 use Rattle.other_places.proofs.Index.{ranked-first, ranked-more, ranked-off, ranked-early, ranked-not, ranked-key}
 use borrow.Author.Needs.{needs}
 use Rattle.other_places.proofs.rank_after.Statement.{statement}
@@ -16,7 +16,7 @@ module _ (c : tie.After-find) where
   abbrev start : tie.Start
   start = c .before .before .before .before
 
-  abbrev ed : Edition
+  abbrev ed : Edition18
   ed = edition (cells 4 (start .args .keys .now)) (start .args .rules .now)
 
   abbrev word : Word
@@ -34,7 +34,7 @@ module _ (c : tie.After-more-fits) where
   plain = later .before .before
 
   more : c .more-fits .result ≡ moreFits (ruleIn (ed plain) (start plain .args .k)) (word plain)
-  more = c .more-fits .ensures ∙ ap (λ r. moreFits r (word plain)) (c .before .rule-at .ensures)
+  more = c .more-fits .ensures ∙ ap (λ r. moreFits r (word plain)) (c .before .rule-in .ensures)
 
 -- where there is one, and the key has a rank
 module _ (c : tie.After-rank-in-cells) where
@@ -50,7 +50,7 @@ module _ (c : tie.After-word-fits) where
   keyed = cut ranked .before
 
   under : c .word-fits .result ≡ wordFits (ruleIn (ed keyed) (ranked .rank-in-cells .result)) (behind keyed)
-  under = c .word-fits .ensures ∙ ap (λ r. wordFits r (behind keyed)) (c .before .before .rule-at2 .ensures)
+  under = c .word-fits .ensures ∙ ap (λ r. wordFits r (behind keyed)) (c .before .before .rule-in2 .ensures)
 
 find-requires : tie.Need-find-requires
 find-requires c κs = search needs
@@ -60,8 +60,8 @@ returns c =
     let f = c .before .before in
     ranked-first (ed f) (start f .args .k) (word f) (f .find .result) (f .find .ensures .0) (c .before .if1 .taken) (c .if2 .taken)
 
-rule-at-requires : tie.Need-rule-at-requires
-rule-at-requires c κs = search needs
+rule-in-requires : tie.Need-rule-in-requires
+rule-in-requires c κs = search needs
 
 more-fits-requires : tie.Need-more-fits-requires
 more-fits-requires c κs = search needs
@@ -93,8 +93,8 @@ returns-4 c =
     ranked-early (ed f) (start f .args .k) (word f) (f .find .result) (f .find .ensures .0) (cut r .if1 .left) (f .find .ensures .1 .1)
     (r .rank-in-cells .result) (r .rank-in-cells .ensures) (c .if4 .taken)
 
-rule-at-requires-2 : tie.Need-rule-at-requires-2
-rule-at-requires-2 c κs = search needs
+rule-in-requires-2 : tie.Need-rule-in-requires-2
+rule-in-requires-2 c κs = search needs
 
 add-word-fits : tie.Need-add-word-fits
 add-word-fits c = search needs
@@ -133,14 +133,14 @@ rank-after-spec =
     (tie.spec
     find-requires
     returns
-    rule-at-requires
+    rule-in-requires
     more-fits-requires
     returns-2
     returns-3
     slice-aggregate-rank-in-cells
     rank-in-cells-requires
     returns-4
-    rule-at-requires-2
+    rule-in-requires-2
     add-word-fits
     sub-word-fits
     part-word-fits-start
