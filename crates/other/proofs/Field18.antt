@@ -2,7 +2,7 @@
 use Prim.Native.Nat.{ℕ, _<_}
 use mathlib.Core.Path.{_≡_, refl, sym, ap, _∙_}
 use mathlib.Core.Bool.{Bool, true, false, cond, not, false≢true, true≢false}
-use mathlib.Core.List.{List, [], _∷_, _++_}
+use mathlib.Core.List.{List, [], _∷_, _++_, map}
 use lib.Dec.{ltb}
 use borrow.Author.Tests.{ltb-true, ne-eqb}
 use native.Mathlib.Omega.{arith}
@@ -16,9 +16,10 @@ use Rattle.text.proofs.Tidy.{word-free, sign-tidy, text-tidy, text-word-free, t
 use Rattle.shape.specs.Field.{Laws}
 use Rattle.shape.proofs.Fields.{plain}
 use Rattle.other.specs.Rules.{Edition18, base, rankIn, ruleIn, wordFits, moreFits}
-use Rattle.other.specs.Field18.{Item, Field18, nothing, items, spelt, spell18, Groups, put, group, itemsFit, valid18}
-use Rattle.other.specs.Field18.{fitFrom, fitsIn, record18, field18In, field18}
+use Rattle.other.specs.Field18.{Item, Worded, Field18, nothing, items, worded, spelt, spell18, Groups, put, group, itemsFit, itemsValid, valid18}
+use Rattle.other.specs.Field18.{fitFrom, itemOf, fitsIn, record18, field18In, field18}
 use Rattle.other.proofs.Texts.{word-text, more-text}
+use Rattle.other.proofs.Items.{null-map, items-valid, items-spelled, worded-fit, worded-back}
 
 -- WORDS INTO ITEMS AND BACK
 
@@ -32,7 +33,7 @@ spelt-group (w ∷ ws) = go (spelt-group ws) (holds 47 w) refl
     go ih true e = rw e (cc (seam 47 w e))
     go ih false e = rw e (cc)
 
-put-item : (i : Item) (is : List Item) → free 47 (i .key) ≡ true
+put-item : (i : Worded) (is : List Worded) → free 47 (i .key) ≡ true
     → put (i .key ++ (47 ∷ i .first)) (record { loose = i .more; grouped = is }) ≡ record { loose = []; grouped = i ∷ is }
 put-item i is e =
     rw (holds-seam 47 (i .key) (i .first) e, before-seam 47 (i .key) (i .first) e, behind-seam 47 (i .key) (i .first) e)
@@ -40,7 +41,7 @@ put-item i is e =
 put-word : (w : Word) (g : Groups) → free 47 w ≡ true → put w g ≡ record { loose = w ∷ g .loose; grouped = g .grouped }
 put-word w g e = rw (holds-free 47 w e)
 
-group-more : (l : List Word) (ws : List Word) (is : List Item) → all textWord l ≡ true → group ws ≡ record { loose = []; grouped = is }
+group-more : (l : List Word) (ws : List Word) (is : List Worded) → all textWord l ≡ true → group ws ≡ record { loose = []; grouped = is }
     → group (l ++ ws) ≡ record { loose = l; grouped = is }
 group-more [] ws is e g = g
 group-more (w ∷ l) ws is e g =
@@ -82,14 +83,14 @@ module _ (ed : Edition18) (named : all (all sign) (ed .keys) ≡ true) where
       of-elem (all sign) (ed .keys) named key
       (sym (rank-elem 1 key (ed .keys) (omega arith)) ∙ ap not (ne-eqb (rankIn ed key) 0 (λ q. omega arith)))
 
-  record Fit (last : ℕ) (i : Item) (is : List Item) : Type 0 where
+  record Fit (last : ℕ) (i : Worded) (is : List Worded) : Type 0 where
     behind-last : last < rankIn ed (i .key)
     key : all sign (i .key) ≡ true
     first : textWord (i .first) ≡ true
     more : all textWord (i .more) ≡ true
     tail : itemsFit ed (rankIn ed (i .key)) is ≡ true
 
-  parts : (last : ℕ) (i : Item) (is : List Item) → itemsFit ed last (i ∷ is) ≡ true → Fit last i is
+  parts : (last : ℕ) (i : Worded) (is : List Worded) → itemsFit ed last (i ∷ is) ≡ true → Fit last i is
   parts last i is e =
       let a = both (ltb last (rankIn ed (i .key))) _ e in
       let b = both (wordFits (ruleIn ed (rankIn ed (i .key))) (i .first)) _ (a .1) in
@@ -102,7 +103,7 @@ module _ (ed : Edition18) (named : all (all sign) (ed .keys) ≡ true) where
         tail = c .1;
       }
 
-  group-spelt : (last : ℕ) (is : List Item) → itemsFit ed last is ≡ true → group (spelt is) ≡ record { loose = []; grouped = is }
+  group-spelt : (last : ℕ) (is : List Worded) → itemsFit ed last is ≡ true → group (spelt is) ≡ record { loose = []; grouped = is }
   group-spelt last [] e = refl
   group-spelt last (i ∷ is) e =
       let p = parts last i is e in
@@ -110,7 +111,7 @@ module _ (ed : Edition18) (named : all (all sign) (ed .keys) ≡ true) where
       ∙ put-item i is (all-free sign 47 refl (i .key) (p .key))
 
   -- the words of items that fit are tidy
-  spelt-tidy : (last : ℕ) (is : List Item) → itemsFit ed last is ≡ true → all tidyWord (spelt is) ≡ true
+  spelt-tidy : (last : ℕ) (is : List Worded) → itemsFit ed last is ≡ true → all tidyWord (spelt is) ≡ true
   spelt-tidy last [] e = refl
   spelt-tidy last (i ∷ is) e =
       let p = parts last i is e in
@@ -119,18 +120,26 @@ module _ (ed : Edition18) (named : all (all sign) (ed .keys) ≡ true) where
 
   -- a content that is not `0`, and fits
   module _ (s : List ℕ) (e : fitFrom ed 0 (split 32 s) ≡ true) where
-    grouped-fits : valid18 ed (items (group (split 32 s) .grouped)) ≡ true
-    grouped-fits =
-        let h = both (null (group (split 32 s) .loose)) _ e in
-        and-both (not (null (group (split 32 s) .grouped))) _ (some-grouped (split 32 s) (ap not (null-split 32 s)) (h .0)) (h .1)
+    abbrev standing : List Worded
+    standing = group (split 32 s) .grouped
 
-    grouped-spelled : join 32 (spelt (group (split 32 s) .grouped)) ≡ s
+    apart : (null (group (split 32 s) .loose) ≡ true) × (itemsFit ed 0 standing ≡ true)
+    apart = both (null (group (split 32 s) .loose)) (itemsFit ed 0 standing) e
+
+    grouped-valid : valid18 ed (items (map (itemOf ed) standing)) ≡ true
+    grouped-valid =
+        and-both (not (null (map (itemOf ed) standing))) _
+        (ap not (null-map (itemOf ed) standing) ∙ some-grouped (split 32 s) (ap not (null-split 32 s)) (apart .0))
+        (items-valid ed 0 standing (apart .1))
+
+    grouped-spelled : join 32 (spelt (map worded (map (itemOf ed) standing))) ≡ s
     grouped-spelled =
-        let h = both (null (group (split 32 s) .loose)) _ e in
-        ap (join 32) (rw (null-nil (group (split 32 s) .loose) (h .0)) at (spelt-group (split 32 s))) ∙ join-split 32 s
+        ap (λ (is : List Worded). join 32 (spelt is)) (items-spelled ed 0 standing (apart .1))
+        ∙ ap (join 32) (rw (null-nil (group (split 32 s) .loose) (apart .0)) at (spelt-group (split 32 s)))
+        ∙ join-split 32 s
 
-  -- a record of items, and valid
-  module _ (i : Item) (is : List Item) (e : itemsFit ed 0 (i ∷ is) ≡ true) where
+  -- items that stand in a content, and fit
+  module _ (i : Worded) (is : List Worded) (e : itemsFit ed 0 (i ∷ is) ≡ true) where
     spelt-words : split 32 (join 32 (spelt (i ∷ is))) ≡ spelt (i ∷ is)
     spelt-words =
         split-join 32 (i .key ++ (47 ∷ i .first)) (i .more ++ spelt is)
@@ -142,55 +151,70 @@ module _ (ed : Edition18) (named : all (all sign) (ed .keys) ≡ true) where
     spelt-content : tidy (join 32 (spelt (i ∷ is))) ≡ true
     spelt-content = tidy-join (i .key ++ (47 ∷ i .first)) (i .more ++ spelt is) (spelt-tidy 0 (i ∷ is) e)
 
-  spelled : (s : List ℕ) → fitsIn ed s ≡ true → spell18 (record18 s) ≡ s
+  -- a record of items, and valid
+  module _ (i : Item) (is : List Item) (e : itemsValid ed 0 (i ∷ is) ≡ true) where
+    abbrev content : List ℕ
+    content = spell18 (items (i ∷ is))
+
+    as-words : itemsFit ed 0 (map worded (i ∷ is)) ≡ true
+    as-words = worded-fit ed 0 (i ∷ is) e
+
+    content-groups : group (split 32 content) ≡ record { loose = []; grouped = map worded (i ∷ is) }
+    content-groups = spelt-groups (worded i) (map worded is) as-words
+
+    content-tidy : tidy content ≡ true
+    content-tidy = spelt-content (worded i) (map worded is) as-words
+
+  spelled : (s : List ℕ) → fitsIn ed s ≡ true → spell18 (record18 ed s) ≡ s
   unfolding fitsIn record18
   spelled s e = go (same s (bytes "0")) refl e
     where
       go : (b : Bool) → same s (bytes "0") ≡ b → cond b true (fitFrom ed 0 (split 32 s)) ≡ true
-          → spell18 (cond b nothing (items (group (split 32 s) .grouped))) ≡ s
+          → spell18 (cond b nothing (items (map (itemOf ed) (group (split 32 s) .grouped)))) ≡ s
       go true p q = sym (same-eq s (bytes "0") p)
       go false p q = grouped-spelled s q
 
-  held : (s : List ℕ) → fitsIn ed s ≡ true → valid18 ed (record18 s) ≡ true
+  held : (s : List ℕ) → fitsIn ed s ≡ true → valid18 ed (record18 ed s) ≡ true
   unfolding fitsIn record18
   held s e = go (same s (bytes "0")) e
     where
-      go : (b : Bool) → cond b true (fitFrom ed 0 (split 32 s)) ≡ true → valid18 ed (cond b nothing (items (group (split 32 s) .grouped))) ≡ true
+      go : (b : Bool) → cond b true (fitFrom ed 0 (split 32 s)) ≡ true
+          → valid18 ed (cond b nothing (items (map (itemOf ed) (group (split 32 s) .grouped)))) ≡ true
       go true q = refl
-      go false q = grouped-fits s q
+      go false q = grouped-valid s q
 
   taken : (r : Field18) → valid18 ed r ≡ true → fitsIn ed (spell18 r) ≡ true
   unfolding fitsIn
   taken nothing e = refl
   taken (items []) e = absurd (false≢true e)
-  taken (items (i ∷ is)) e = go (same (join 32 (spelt (i ∷ is))) (bytes "0"))
+  taken (items (i ∷ is)) e = go (same (content i is e) (bytes "0"))
     where
-      go : (b : Bool) → cond b true (fitFrom ed 0 (split 32 (join 32 (spelt (i ∷ is))))) ≡ true
+      go : (b : Bool) → cond b true (fitFrom ed 0 (split 32 (content i is e))) ≡ true
       go true = refl
-      go false = rw (spelt-groups i is e) e
+      go false = rw (content-groups i is e) (as-words i is e)
 
-  back : (r : Field18) → valid18 ed r ≡ true → record18 (spell18 r) ≡ r
+  back : (r : Field18) → valid18 ed r ≡ true → record18 ed (spell18 r) ≡ r
   unfolding record18
   back nothing e = refl
   back (items []) e = absurd (false≢true e)
-  back (items (i ∷ is)) e = go (same (join 32 (spelt (i ∷ is))) (bytes "0")) refl
+  back (items (i ∷ is)) e = go (same (content i is e) (bytes "0")) refl
     where
-      go : (b : Bool) → same (join 32 (spelt (i ∷ is))) (bytes "0") ≡ b
-          → cond b nothing (items (group (split 32 (join 32 (spelt (i ∷ is)))) .grouped)) ≡ items (i ∷ is)
+      go : (b : Bool) → same (content i is e) (bytes "0") ≡ b
+          → cond b nothing (items (map (itemOf ed) (group (split 32 (content i is e)) .grouped))) ≡ items (i ∷ is)
       go true q =
           absurd
           (true≢false
           (ap (λ (g : Groups). null (g .loose))
-          (sym (spelt-groups i is e) ∙ ap (λ (t : List ℕ). group (split 32 t)) (same-eq (join 32 (spelt (i ∷ is))) (bytes "0") q))))
-      go false q = ap (λ (g : Groups). items (g .grouped)) (spelt-groups i is e)
+          (sym (content-groups i is e) ∙ ap (λ (t : List ℕ). group (split 32 t)) (same-eq (content i is e) (bytes "0") q))))
+      go false q = ap (λ (g : Groups). items (map (itemOf ed) (g .grouped))) (content-groups i is e) ∙ ap items (worded-back ed 0 (i ∷ is) e)
 
   tidied : (s : List ℕ) → fitsIn ed s ≡ true → tidy s ≡ true
-  tidied s e = ap tidy (sym (spelled s e)) ∙ tidy-record (record18 s) (held s e)
+  tidied s e = ap tidy (sym (spelled s e)) ∙ tidy-record (record18 ed s) (held s e)
     where
       tidy-record : (r : Field18) → valid18 ed r ≡ true → tidy (spell18 r) ≡ true
       tidy-record nothing v = zero-tidy
       tidy-record (items []) v = absurd (false≢true v)
-      tidy-record (items (i ∷ is)) v = spelt-content i is v
+      tidy-record (items (i ∷ is)) v = content-tidy i is v
 
   pub field18In-laws : Laws (field18In ed)
   field18In-laws = plain (field18In ed) (λ r. refl) (record { spelled = spelled; held = held; taken = taken; back = back; tidied = tidied })

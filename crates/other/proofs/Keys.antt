@@ -10,14 +10,14 @@ use lib.Seq.{drop-drop, length-take-le, take-add}
 use borrow.Author.Tests.{eqb-true, ne-eqb, lt-ltb, le-ltb}
 use Rattle.text.specs.Words.{Word, split, join, after, upTo, holds, before, behind, same}
 use Rattle.text.proofs.Index.{split-at, upTo-le, after-here, after-end, split-cut}
-use Rattle.other.specs.Field18.{Item, group, fromKey, under, wordsFrom, hasKey, wordsUnder, Found}
+use Rattle.other.specs.Field18.{Worded, group, fromKey, under, wordsFrom, hasKey, wordsUnder, Found}
 
 -- THE FIRST ITEM OF A KEY
 
 -- the items from the key's on, where b says whether the first word begins an item
-abbrev from-word : Bool → Word → Word → List Word → List Item
+abbrev from-word : Bool → Word → Word → List Word → List Worded
 from-word b key w ws =
-    let item : Item = record { key = before 47 w; first = behind 47 w; more = group ws .loose } in
+    let item : Worded = record { key = before 47 w; first = behind 47 w; more = group ws .loose } in
     cond b (cond (same (item .key) key) (item ∷ group ws .grouped) (fromKey key (group ws .grouped))) (fromKey key (group ws .grouped))
 
 from-step : (key w : Word) (ws : List Word) → fromKey key (group (w ∷ ws) .grouped) ≡ from-word (holds 47 w) key w ws

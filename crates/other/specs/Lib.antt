@@ -1,2 +1,3 @@
 pub mod Rules
+pub mod Elements
 pub mod Field18

@@ -3,13 +3,13 @@ use Prim.Native.Nat.{ℕ, _-_, _%_}
 use Prim.Native.Char.{code}
 use mathlib.Core.Path.{_≡_, refl}
 use mathlib.Core.Bool.{Bool, true, false, _&&_, not, cond}
-use mathlib.Core.List.{List, [], _∷_, map}
+use mathlib.Core.List.{List, [], _∷_, _++_, map}
 use lib.Dec.{leb, eqb}
 use lib.ListN.{length, take, drop, getD}
 use Rattle.alphabet.specs.Text.{bytes}
 use Rattle.alphabet.specs.Alphabet.{letter, sign, oneOf}
 use Rattle.text.specs.Words.{Word, split, all, elem, rank, textWord}
-use Rattle.shape.specs.Numbers.{value}
+use Rattle.shape.specs.Numbers.{digits, value}
 use Rattle.shape.specs.Shape.{fits, wide, letters}
 use Rattle.shape.specs.declared.ElapsedRead.{ElapsedRead}
 use Rattle.shape.specs.declared.ElapsedRead.the-variants.{ElapsedTime, NoElapsedTime}
@@ -28,10 +28,18 @@ statuses = split 32 (bytes "ALTRV ATFMX FFR FLTCK HAZMAT HEAD HOSP HUM MARSA MED
 unfoldable pub approvals : List Word
 approvals = split 32 (bytes "A1 B1 B2 B3 B4 B5 B6 C1 C2 C3 C4 D1 D2 D3 D4 L1 O1 O2 O3 O4 S1 S2 T1 T2")
 
-unfoldable pub approved : Word → Bool
-approved w = codesFit approvals (codes w) && (leb 1 (length (codes w)) && leb (length (codes w)) 8)
+abbrev pub approvedCodes : List Word → Bool
+approvedCodes ws = codesFit approvals ws && (leb 1 (length ws) && leb (length ws) 8)
 
--- DOF: a real date YYMMDD in 2000 to 2099
+unfoldable pub approved : Word → Bool
+approved w = approvedCodes (codes w)
+
+-- DOF: a real date YYMMDD in 2000 to 2099; the year is counted from 2000
+pub record Date : Type 0 where
+  pub year : ℕ
+  pub month : ℕ
+  pub day : ℕ
+
 abbrev pub yearMonthDay : Word
 yearMonthDay = bytes "222"
 
@@ -50,8 +58,21 @@ daysIn y m =
     cond (eqb m 2) (cond (eqb (y % 4) 0) 29 28)
     (getD (0 ∷ 31 ∷ 28 ∷ 31 ∷ 30 ∷ 31 ∷ 30 ∷ 31 ∷ 31 ∷ 30 ∷ 31 ∷ 30 ∷ 31 ∷ []) m 0)
 
+abbrev pub dateOf : Word → Date
+dateOf w = record { year = year w; month = month w; day = dayOf w }
+
+abbrev pub spellDate : Date → Word
+spellDate d = digits 2 (d .year) ++ (digits 2 (d .month) ++ digits 2 (d .day))
+
+-- its month has that day
+abbrev pub real : Date → Bool
+real d = leb 1 (d .day) && leb (d .day) (daysIn (d .year) (d .month))
+
+abbrev pub validDate : Date → Bool
+validDate d = leb (d .year) 99 && real d
+
 unfoldable pub date : Word → Bool
-date w = fits (wide yearMonthDay) w && (leb 1 (dayOf w) && leb (dayOf w) (daysIn (year w) (month w)))
+date w = fits (wide yearMonthDay) w && real (dateOf w)
 
 -- EET, DLE: 6 to 15 signs, the last four an elapsed time
 unfoldable pub timed : Word → Bool
@@ -94,9 +115,37 @@ single Selcal = true
 single Address = true
 single Free = false
 
--- a word behind the first
+-- a word, or what it says, behind the first, where p tells what may stand first
+abbrev pub behindFirst : {A : Type 0} → (Rule → A → Bool) → Rule → A → Bool
+behindFirst p r x = not (single r) && p r x
+
 abbrev pub moreFits : Rule → Word → Bool
-moreFits r w = not (single r) && wordFits r w
+moreFits r w = behindFirst wordFits r w
+
+-- the mark of each rule, of which the code's tables are
+abbrev pub mark : Rule → ℕ
+mark Status = code "S"
+mark Approvals = code "P"
+mark Day = code "D"
+mark Timed = code "E"
+mark Selcal = code "L"
+mark Address = code "H"
+mark Free = code "."
+
+-- the rule that a mark stands for
+abbrev pub ruleOf : ℕ → Rule
+ruleOf b =
+    cond (eqb b (mark Status)) Status
+    (cond (eqb b (mark Approvals)) Approvals
+    (cond (eqb b (mark Day)) Day
+    (cond (eqb b (mark Timed)) Timed
+    (cond (eqb b (mark Selcal)) Selcal
+    (cond (eqb b (mark Address)) Address
+    Free)))))
+
+-- rules are one where their marks are
+abbrev pub sameRule : Rule → Rule → Bool
+sameRule r q = eqb (mark r) (mark q)
 
 -- AN EDITION: its keys in their order, and the rule of each
 
@@ -115,6 +164,10 @@ rankIn ed key = rank key (ed .keys)
 -- the rule of the key at that place
 abbrev pub ruleIn : Edition18 → ℕ → Rule
 ruleIn ed k = getD (ed .rules) (k - 1) Free
+
+-- the rule of a key
+abbrev pub ruleUnder : Edition18 → Word → Rule
+ruleUnder ed key = ruleIn ed (rankIn ed key)
 
 -- the edition of document 01
 unfoldable pub base : Edition18
@@ -145,44 +198,20 @@ base =
     ∷ (bytes "RMK", Free)
     ∷ [])
 
--- AN EDITION AS THE CODE HAS IT: its keys, and a mark for the rule of each
-
-abbrev pub mark : Rule → ℕ
-mark Status = code "S"
-mark Approvals = code "P"
-mark Day = code "D"
-mark Timed = code "E"
-mark Selcal = code "L"
-mark Address = code "H"
-mark Free = code "."
-
--- the rule that a mark stands for
-abbrev pub ruleOf : ℕ → Rule
-ruleOf b =
-    cond (eqb b (mark Status)) Status
-    (cond (eqb b (mark Approvals)) Approvals
-    (cond (eqb b (mark Day)) Day
-    (cond (eqb b (mark Timed)) Timed
-    (cond (eqb b (mark Selcal)) Selcal
-    (cond (eqb b (mark Address)) Address
-    Free)))))
-
+-- as the code has it: its keys, and the marks of their rules
 abbrev pub edition : List Word → List ℕ → Edition18
 edition ks ms = record { keys = ks; rules = map ruleOf ms }
 
 -- EXAMPLES, computed
 
-abbrev ruled : Word → Rule
-ruled key = ruleIn base (rankIn base key)
-
-ruled-keys : (ruled (bytes "STS") ≡ Status) × (ruled (bytes "PBN") ≡ Approvals) × (ruled (bytes "DOF") ≡ Day) × (ruled (bytes "EET") ≡ Timed)
-    × (ruled (bytes "DLE") ≡ Timed) × (ruled (bytes "SEL") ≡ Selcal) × (ruled (bytes "CODE") ≡ Address) × (ruled (bytes "RMK") ≡ Free)
+ruled-keys : (ruleUnder base (bytes "STS") ≡ Status) × (ruleUnder base (bytes "PBN") ≡ Approvals) × (ruleUnder base (bytes "DOF") ≡ Day)
+    × (ruleUnder base (bytes "EET") ≡ Timed) × (ruleUnder base (bytes "DLE") ≡ Timed) × (ruleUnder base (bytes "SEL") ≡ Selcal)
+    × (ruleUnder base (bytes "CODE") ≡ Address) × (ruleUnder base (bytes "RMK") ≡ Free)
 unfolding base
 ruled-keys = (refl, refl, refl, refl, refl, refl, refl, refl)
 
-marks-back : map (λ (r : Rule). ruleOf (mark r)) (base .rules) ≡ base .rules
-unfolding base
-marks-back = refl
+marked : edition (split 32 (bytes "STS DOF RMK")) (bytes "SD.") ≡ editionOf ((bytes "STS", Status) ∷ (bytes "DOF", Day) ∷ (bytes "RMK", Free) ∷ [])
+marked = refl
 
 dates : (date (bytes "240229") ≡ true) × (date (bytes "230229") ≡ false) × (date (bytes "231231") ≡ true)
     × (date (bytes "231301") ≡ false) × (date (bytes "230100") ≡ false)

@@ -1,14 +1,13 @@
 -- The place of a date that is none: a date goes on from each of its prefixes. Assumes nothing.
-use Prim.Native.Nat.{ℕ, zero, suc, _+_, _*_, _-_, _%_, _<_, _≤_}
+use Prim.Native.Nat.{ℕ, zero, suc, _+_, _*_, _-_, _≤_}
 use mathlib.Core.Path.{_≡_, refl, sym, ap, _∙_}
-use mathlib.Core.Bool.{Bool, true, false, _&&_, _||_, cond, false≢true, or-true}
+use mathlib.Core.Bool.{Bool, true, false, _&&_, _||_, false≢true, or-true}
 use mathlib.Core.List.{List, [], _∷_, _++_}
 use native.Mathlib.Omega.{arith}
-use native.Mathlib.Nat.{not-suc-le-zero}
 use lib.Dec.{leb, eqb}
-use lib.ListN.{length, take, drop, getD, length-append, List·getD-eq-default}
+use lib.ListN.{length, take, drop, length-append}
 use lib.Seq.{take-append-seam}
-use borrow.Author.Tests.{leb-true, leb-false, le-leb, eqb-true, eqb-false, ne-eqb}
+use borrow.Author.Tests.{leb-true, le-leb, eqb-true, eqb-false}
 use Rattle.alphabet.specs.Text.{bytes}
 use Rattle.alphabet.specs.Alphabet.{digit}
 use Rattle.text.specs.Words.{Word, split}
@@ -20,30 +19,8 @@ use Rattle.places.specs.Place.{IsPlace}
 use Rattle.places.specs.Parts.{passes}
 use Rattle.places.proofs.Leaves.{passes-place}
 use Rattle.other.specs.Rules.{yearMonthDay, date, daysIn, year, month, dayOf}
+use Rattle.other.proofs.Dates.{months}
 use Rattle.other_places.specs.Places.{filled, dateGo}
-
-abbrev year-days : List ℕ
-year-days = 0 ∷ 31 ∷ 28 ∷ 31 ∷ 30 ∷ 31 ∷ 30 ∷ 31 ∷ 31 ∷ 30 ∷ 31 ∷ 30 ∷ 31 ∷ []
-
-abbrev days : ℕ → ℕ → ℕ
-days y m = cond (eqb m 2) (cond (eqb (y % 4) 0) 29 28) (getD year-days m 0)
-
-months : (y m : ℕ) → 1 ≤ daysIn y m → (1 ≤ m) × (m ≤ 12)
-unfolding daysIn
-months y m h = (above m h, below m h)
-  where
-    above : (m : ℕ) → 1 ≤ days y m → 1 ≤ m
-    above zero h = absurd (not-suc-le-zero h)
-    above (suc m) h = omega arith
-
-    below : (m : ℕ) → 1 ≤ days y m → m ≤ 12
-    below m h = go (leb m 12) refl
-      where
-        go : (x : Bool) → leb m 12 ≡ x → m ≤ 12
-        go true q = leb-true m 12 q
-        go false q =
-            let l : 12 < m = leb-false m 12 q in
-            absurd (not-suc-le-zero (rw (ne-eqb m 2 (omega arith), List·getD-eq-default {A = ℕ} year-days 0 {n = m} (omega arith)) at h))
 
 -- what a date's six bytes are
 record Dated (a b c d e f : ℕ) : Type 0 where
