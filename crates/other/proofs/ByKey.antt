@@ -11,11 +11,9 @@ use Rattle.alphabet.specs.Text.{bytes}
 use Rattle.text.specs.Words.{Word, split, join, null, same, all}
 use Rattle.text.proofs.Tests.{both, same-eq, same-self, same-other}
 use Rattle.other.specs.Rules.{Edition18, base, rankIn, ruleIn, wordFits, moreFits}
-use Rattle.other.specs.Field18.{Keyed, Item, Worded, Field18, nothing, items, worded, group, itemsFit, itemsValid, valid18}
-use Rattle.other.specs.Field18.{fitFrom, itemOf, fitsIn, record18, field18, fits18, fromKey, has, firstWords, under, itemsOf, hasKey, wordsUnder}
-use Rattle.shape.proofs.Fields.{fits-spelling}
-use Rattle.other.proofs.Items.{items-spelled, worded-fit}
-use Rattle.other.proofs.Field18.{field18-laws}
+use Rattle.other.specs.Field18.{Keyed, Item, Worded, nothing, items, worded, group, itemsFit}
+use Rattle.other.specs.Field18.{fitFrom, itemOf, fitsIn, record18, fits18, fromKey, has, firstWords, under, itemsOf, hasKey, wordsUnder}
+use Rattle.other.proofs.Items.{items-spelled}
 
 -- OF A CONTENT AND ITS RECORD
 
@@ -113,10 +111,6 @@ module _ (ed : Edition18) where
 
 -- OF A CONTENT THAT FITS: an item's words, spelled, stand under its key
 
-valid-items : (r : Field18) → valid18 base r ≡ true → itemsValid base 0 (itemsOf r) ≡ true
-valid-items nothing v = refl
-valid-items (items is) v = both (not (null is)) (itemsValid base 0 is) v .1
-
 module _ (s : List ℕ) (e : fits18 s ≡ true) where
   standing-fit : itemsFit base 0 (group (split 32 s) .grouped) ≡ true
   unfolding fitsIn
@@ -130,9 +124,6 @@ module _ (s : List ℕ) (e : fits18 s ≡ true) where
   standing : group (split 32 s) .grouped ≡ map worded (itemsOf (record18 base s))
   standing = sym (items-spelled base 0 (group (split 32 s) .grouped) standing-fit) ∙ ap (map worded) (items-of base s)
 
-  its-items : itemsValid base 0 (itemsOf (record18 base s)) ≡ true
-  its-items = valid-items (record18 base s) (fits-spelling field18 field18-laws s e .0)
-
   pub words-record : (key : Word) → wordsUnder s key ≡ under key (map worded (itemsOf (record18 base s)))
   unfolding wordsUnder
   words-record key = ap (under key) standing
@@ -140,7 +131,7 @@ module _ (s : List ℕ) (e : fits18 s ≡ true) where
   pub words-item : (i : Item) → List·Memᴰ i (itemsOf (record18 base s)) → wordsUnder s (i .key) ≡ join 32 (worded i .first ∷ worded i .more)
   words-item i m =
       words-record (i .key)
-      ∙ under-item base 0 (map worded (itemsOf (record18 base s))) (worded-fit base 0 (itemsOf (record18 base s)) its-items) (worded i) (Memᴰ·map worded m)
+      ∙ under-item base 0 (map worded (itemsOf (record18 base s))) (ap (itemsFit base 0) (sym standing) ∙ standing-fit) (worded i) (Memᴰ·map worded m)
 
 pub no-words : (s : List ℕ) (key : Word) → hasKey s key ≡ false → wordsUnder s key ≡ []
 unfolding hasKey wordsUnder

@@ -2,7 +2,7 @@
 use Prim.Native.Nat.{ℕ, _-_}
 use mathlib.Core.Path.{_≡_, refl}
 use mathlib.Core.Bool.{Bool, true, false, _&&_}
-use mathlib.Core.List.{List, _++_}
+use mathlib.Core.List.{List, [], _++_}
 use lib.Dec.{leb}
 use lib.ListN.{length, take, drop}
 use Rattle.alphabet.specs.Text.{bytes}
@@ -11,7 +11,7 @@ use Rattle.text.specs.Words.{Word, all, split}
 use Rattle.shape.specs.Time.{elapsedOf, spellElapsed, validElapsed}
 use Rattle.shape.specs.declared.Elapsed.{Elapsed}
 use Rattle.codes.specs.Codes.{codes, concat}
-use Rattle.other.specs.Rules.{Date, dateOf, spellDate, validDate, daysIn, approvals as approvalCodes, approvedCodes, wordFits, sameRule}
+use Rattle.other.specs.Rules.{Date, dateOf, spellDate, validDate, daysIn, approvals as approvalCodes, approvedCodes, hexadecimal, wordFits, sameRule}
 use Rattle.other.specs.declared.Rule.{Rule}
 use Rattle.other.specs.declared.Rule.the-variants.{Status, Approvals, Day, Timed, Selcal, Address, Free}
 
@@ -104,9 +104,14 @@ times : (lasting (bytes "EISN") 1439 ≡ true) × (lasting (bytes "EISN") 1440 �
     × (lasting (bytes "ABCDEFGHIJK") 26 ≡ true) × (lasting (bytes "ABCDEFGHIJKL") 26 ≡ false) × (lasting (bytes "A.B") 26 ≡ false)
 times = (refl, refl, refl, refl, refl, refl, refl)
 
--- codes of the list, none twice; and an element of another rule is not valid
-tried : (validElement Approvals (approvals (split 32 (bytes "A1 B1"))) ≡ true) × (validElement Approvals (approvals (split 32 (bytes "A1 A1"))) ≡ false)
-    × (validElement Free (approvals (split 32 (bytes "A1 B1"))) ≡ false) × (validElement Selcal (selcal (bytes "FJEL")) ≡ true)
-    × (validElement Address (selcal (bytes "FJEL")) ≡ false)
+coded : (validElement Approvals (approvals (split 32 (bytes "A1 B1"))) ≡ true) × (validElement Approvals (approvals (split 32 (bytes "A1 A1"))) ≡ false)
+    × (validElement Approvals (approvals (split 32 (bytes "A1B1"))) ≡ false) × (validElement Approvals (approvals []) ≡ false)
 unfolding approvalCodes
-tried = (refl, refl, refl, refl, refl)
+coded = (refl, refl, refl, refl)
+
+-- an element of another rule is not valid
+tried : (validElement Selcal (selcal (bytes "FJEL")) ≡ true) × (validElement Selcal (selcal (bytes "FJE")) ≡ false)
+    × (validElement Free (selcal (bytes "FJEL")) ≡ false) × (validElement Selcal (free (bytes "FJEL")) ≡ false)
+    × (validElement Address (address (bytes "F00001")) ≡ true) × (validElement Address (address (bytes "F0000G")) ≡ false)
+unfolding hexadecimal
+tried = (refl, refl, refl, refl, refl, refl)

@@ -122,7 +122,7 @@ behindFirst p r x = not (single r) && p r x
 abbrev pub moreFits : Rule → Word → Bool
 moreFits r w = behindFirst wordFits r w
 
--- the mark of each rule, of which the code's tables are
+-- the mark of each rule in the code's tables
 abbrev pub mark : Rule → ℕ
 mark Status = code "S"
 mark Approvals = code "P"
@@ -143,7 +143,7 @@ ruleOf b =
     (cond (eqb b (mark Address)) Address
     Free)))))
 
--- rules are one where their marks are
+-- two rules are one where their marks are
 abbrev pub sameRule : Rule → Rule → Bool
 sameRule r q = eqb (mark r) (mark q)
 
