@@ -1,0 +1,7 @@
+pub mod Own
+pub mod Fields
+pub mod Dates
+pub mod Steps
+pub mod Shown
+pub mod Answers
+pub mod Records
