@@ -1,13 +1,13 @@
 -- Numbers lose nothing: two answers or two states with the same numbers are the same, and a state comes back from its numbers. The number 0 is
 -- an acceptance's alone. Assumes nothing.
 use Prim.Native.Nat.{ℕ, zero, suc, _-_, _≤_, _<_}
-use mathlib.Core.Path.{_≡_, refl, sym, ap, subst, subst⁻¹, _∙_}
+use mathlib.Core.Path.{_≡_, refl, sym, ap, ap₂, subst, subst⁻¹, _∙_}
 use mathlib.Core.Bool.{Bool, true, false, _&&_, cond}
 use mathlib.Core.List.{List}
 use mathlib.Core.Option.{Option, none, some}
 use native.Mathlib.Omega.{arith}
 use lib.Dec.{eqb, ltb, leb}
-use lib.ListN.{length, getD}
+use lib.ListN.{length, drop, getD}
 use lib.Seq.{ext-getD}
 use borrow.Author.Tests.{eq-eqb, ne-eqb, eqb-true, eqb-false, lt-ltb, le-ltb, ltb-true, ltb-false, leb-true}
 use Rattle.shape.specs.declared.Clock.{Clock}
@@ -18,12 +18,12 @@ use Rattle.kinds.specs.Kinds.{nameOf, typesRead}
 use Rattle.kinds.proofs.Names.{name-one, each}
 use Rattle.message.specs.declared.Answer.{Answer}
 use Rattle.message.specs.declared.Answer.the-variants.{Accepted as ReadAs, Refused as NotRead}
-use Rattle.message.specs.Reading.{spellingOf, answerOf, outAfter}
+use Rattle.message.specs.Reading.{isPlan, spellingOf, answerOf, outAfter}
 use Rattle.message.proofs.Answers.{refused-number}
 use Rattle.state.specs.declared.Departure.the-variants.{Known, Unknown}
 use Rattle.state.specs.declared.State.{State}
 use Rattle.state.specs.declared.State.the-variants.{Filed, Departed, Arrived, Cancelled}
-use Rattle.text.specs.Words.{all, split, same}
+use Rattle.text.specs.Words.{all, holds, split, same}
 use Rattle.space.specs.Fields.{inner}
 use Rattle.outer.specs.Outer.{most}
 use Rattle.text.proofs.Tests.{both, same-eq}
@@ -43,11 +43,20 @@ use Rattle.history.proofs.Demand3.{took-proper}
 use Rattle.asked.specs.declared.Asked.{Asked}
 use Rattle.asked.specs.declared.Asked.the-variants.{InStrip, InChange, Refused as NotShown}
 use Rattle.asked.specs.Asking.{rankOf, standsIn, standsAs, fieldAs, flightAs, isChange, typeAs, openedAs, askedOf}
+use Rattle.parts.specs.declared.Part.{Part}
+use Rattle.parts.specs.declared.Part.the-variants.{At, Refused as NoField}
+use Rattle.parts.specs.declared.Date.{Date}
+use Rattle.parts.specs.declared.Date.the-variants.{Known as OnDay, Unknown as NoDay}
+use Rattle.parts.specs.declared.PlanParts.{PlanParts}
+use Rattle.parts.specs.declared.Planned.{Planned}
+use Rattle.parts.specs.declared.Planned.the-variants.{Parts, Refused as NoPlan}
+use Rattle.parts.specs.Parts.{takenAs, takenOf, spanAt, numbersIn, rankIn, fieldIn, fieldAs as numberedAs, fieldOf, planOf, plannedAs, plannedOf}
 use Rattle.beechdoublet.specs.declared.Handed.{Handed}
 use Rattle.beechdoublet.specs.declared.Handed.the-variants.{Held, NoState}
-use Rattle.beechdoublet.specs.Numbers.{typeNumber, readNumber, readNumbers, updateNumber, updateNumbers, askedNumber, askedNumbers, askedWhole}
+use Rattle.beechdoublet.specs.Numbers.{typeNumber, readNumber, readNumbers, updateNumber, updateNumbers, askedNumber, askedNumbers, fieldTold, askedWhole}
+use Rattle.beechdoublet.specs.Numbers.{partNumber, partNumbers, partWhole, dateNumbers, partsNumbers, planNumber, planNumbers}
 use Rattle.beechdoublet.specs.Handed.{stateNumbers, minuteOf, byteOf, stateOf, agree, handedAs, updateAs, stateAs, askedAs}
-use Rattle.beechdoublet.specs.Laws.{wasRead, wasTaken, wasShown, Numbered, Told}
+use Rattle.beechdoublet.specs.Laws.{wasRead, wasTaken, wasShown, Numbered, Told, wasGiven, Given, wasPlanned, NumberedPlan}
 
 -- THE TYPES
 
@@ -235,12 +244,15 @@ asked-one (NotShown number field place) (InChange from to) e = let z : _≡_ {A 
 asked-one (NotShown number field place) (NotShown number′ field′ place′) e = cc
 
 -- an 8 for the number asked has it as its field, over 255 too
-pub asked-whole : (asked : ℕ) → askedWhole asked (NotShown 8 (byteOf asked) 0) ≡ NotShown 8 asked 0
-asked-whole asked = go (ltb asked 256) refl
+told-whole : (asked : ℕ) → fieldTold asked 8 (byteOf asked) ≡ asked
+told-whole asked = go (ltb asked 256) refl
   where
-    go : (b : Bool) → ltb asked 256 ≡ b → askedWhole asked (NotShown 8 (byteOf asked) 0) ≡ NotShown 8 asked 0
+    go : (b : Bool) → ltb asked 256 ≡ b → fieldTold asked 8 (byteOf asked) ≡ asked
     go true e = rw (e, le-ltb 255 asked (omega (arith, ltb-true asked 256 e)))
     go false e = rw (e, lt-ltb 255 asked (omega (arith, ltb-false asked 256 e)))
+
+pub asked-whole : (asked : ℕ) → askedWhole asked (NotShown 8 (byteOf asked) 0) ≡ NotShown 8 asked 0
+asked-whole asked = ap (λ (k : ℕ). NotShown 8 k 0) (told-whole asked)
 
 place-told : (o : Option ℕ) (plan said : List ℕ) (k : ℕ) → Told (standsIn o plan said k)
 place-told (some at) plan said k = tt
@@ -295,6 +307,101 @@ asked-zero h strip chg number = go (askedAs h strip chg number) (asked-told h st
     go (InChange from to) k = refl
     go (NotShown n field place) k = ne-eqb n 0 (λ z. absurd (omega arith))
 
+-- A FIELD BY ITS NUMBER
+
+pub part-one : (a b : Part) → partNumbers a ≡ partNumbers b → a ≡ b
+part-one (At s) (At u) e =
+    let f : s .from ≡ u .from = cc in
+    let t : s .to ≡ u .to = cc in
+    ap₂ (λ (x y : ℕ). At (record { from = x; to = y })) f t
+part-one (At s) (NoField number field place) e = let z : _≡_ {A = ℕ} 1 0 = cc in absurd (omega arith)
+part-one (NoField number field place) (At s) e = let z : _≡_ {A = ℕ} 0 1 = cc in absurd (omega arith)
+part-one (NoField number field place) (NoField number′ field′ place′) e = cc
+
+-- an 8 for the number asked has it as its field, over 255 too
+pub part-whole : (asked : ℕ) → partWhole asked (NoField 8 (byteOf asked) 0) ≡ NoField 8 asked 0
+part-whole asked = ap (λ (k : ℕ). NoField 8 k 0) (told-whole asked)
+
+pub part-given : (m : List ℕ) (n : ℕ) → Given (fieldOf m n)
+unfolding fieldOf fieldIn takenOf
+part-given m n = go (answerOf m most) refl
+  where
+    there : (t : MessageType) (b : Bool) → Given (cond b (At (spanAt m (rankIn t m n))) (NoField 8 n 0))
+    there t true = tt
+    there t false = omega arith
+
+    own : (t : MessageType) (b : Bool) → Given (cond b (fieldIn t m n) (NoField 17 0 0))
+    own t true = there t (holds n (numbersIn t m))
+    own t false = omega arith
+
+    go : (a : Answer) → answerOf m most ≡ a → Given (numberedAs (takenAs a m) m n)
+    go (ReadAs t k) e = own t (same (spellingOf t m) m)
+    go (NotRead k field place) e = refused-number m most k field place e .0
+
+-- 0 is given back exactly where the field is given
+pub part-zero : (m : List ℕ) (n : ℕ) → eqb (partNumber (fieldOf m n)) 0 ≡ wasGiven (fieldOf m n)
+part-zero m n = go (fieldOf m n) (part-given m n)
+  where
+    go : (a : Part) → Given a → eqb (partNumber a) 0 ≡ wasGiven a
+    go (At s) k = refl
+    go (NoField number field place) k = ne-eqb number 0 (λ z. absurd (omega arith))
+
+-- THE PARTS OF A PLAN
+
+date-one : (a b : Date) → dateNumbers a ≡ dateNumbers b → a ≡ b
+date-one (OnDay y m d) (OnDay y′ m′ d′) e = cc
+date-one (OnDay y m d) NoDay e = let z : _≡_ {A = ℕ} 1 0 = cc in absurd (omega arith)
+date-one NoDay (OnDay y m d) e = let z : _≡_ {A = ℕ} 0 1 = cc in absurd (omega arith)
+date-one NoDay NoDay e = refl
+
+-- the parts that a row of numbers has
+abbrev partsBack : List ℕ → Date → PlanParts
+partsBack ns d =
+    record {
+      identification = record { from = getD ns 3 0; to = getD ns 4 0 };
+      aircraft = record { count = getD ns 5 0; kind = record { from = getD ns 6 0; to = getD ns 7 0 } };
+      departure = record { aerodrome = getD ns 8 0; time = record { 0 = getD ns 9 0 } };
+      destination =
+          record {
+            aerodrome = getD ns 10 0;
+            elapsed = record { 0 = getD ns 11 0 };
+            alternates = getD ns 12 0;
+            first = getD ns 13 0;
+            second = getD ns 14 0;
+          };
+      date = d;
+    }
+
+parts-one : (p q : PlanParts) → partsNumbers p ≡ partsNumbers q → p ≡ q
+parts-one p q e = ap₂ partsBack e (date-one (p .date) (q .date) (ap (drop 15) e))
+
+pub plan-one : (a b : Planned) → NumberedPlan a → NumberedPlan b → planNumbers a ≡ planNumbers b → a ≡ b
+plan-one (Parts p) (Parts q) ha hb e = ap Parts (parts-one p q e)
+plan-one (Parts p) (NoPlan number field place) ha hb e = let z : number ≡ 0 = cc in absurd (omega (arith, hb))
+plan-one (NoPlan number field place) (Parts q) ha hb e = let z : number ≡ 0 = cc in absurd (omega (arith, ha))
+plan-one (NoPlan number field place) (NoPlan number′ field′ place′) ha hb e = cc
+
+pub plan-numbered : (m : List ℕ) → NumberedPlan (plannedOf m)
+unfolding plannedOf takenOf
+plan-numbered m = go (answerOf m most) refl
+  where
+    pick : (a b : Bool) → NumberedPlan (cond a (cond b (Parts (planOf m)) (NoPlan 17 0 0)) (NoPlan 14 0 0))
+    pick true true = tt
+    pick true false = omega arith
+    pick false b = omega arith
+
+    go : (a : Answer) → answerOf m most ≡ a → NumberedPlan (plannedAs (takenAs a m) m)
+    go (ReadAs t k) e = pick (isPlan t) (same (spellingOf t m) m)
+    go (NotRead k field place) e = refused-number m most k field place e .0
+
+-- 0 is given back exactly where the parts are told
+pub plan-zero : (m : List ℕ) → eqb (planNumber (plannedOf m)) 0 ≡ wasPlanned (plannedOf m)
+plan-zero m = go (plannedOf m) (plan-numbered m)
+  where
+    go : (a : Planned) → NumberedPlan a → eqb (planNumber a) 0 ≡ wasPlanned a
+    go (Parts p) k = refl
+    go (NoPlan number field place) k = ne-eqb number 0 (λ z. absurd (omega arith))
+
 -- EACH CONTRACT ALLOWS ONE RESULT: the number that is given back, the answer's numbers, the state's numbers and the output; that of
 -- `beechdoublet_sound` is an equation
 
@@ -314,3 +421,13 @@ pub asked-determined : (asked : ℕ) (x : Asked) (more : Type 0) (r r′ : ℕ) 
     → (r ≡ askedNumber x) × (a ≡ askedNumbers (askedWhole asked x)) × more
     → (r′ ≡ askedNumber x) × (a′ ≡ askedNumbers (askedWhole asked x)) × more → (r ≡ r′) × (a ≡ a′)
 asked-determined asked x more r r′ a a′ p q = (p .0 ∙ sym (q .0), p .1 ∙ sym (q .1))
+
+-- `beechdoublet_field` and `beechdoublet_plan`, of what is given back, the answer's numbers and more
+pub part-determined : (asked : ℕ) (x : Part) (more : Type 0) (r r′ : ℕ) (a a′ : List ℕ)
+    → (r ≡ partNumber x) × (a ≡ partNumbers (partWhole asked x)) × more
+    → (r′ ≡ partNumber x) × (a′ ≡ partNumbers (partWhole asked x)) × more → (r ≡ r′) × (a ≡ a′)
+part-determined asked x more r r′ a a′ p q = (p .0 ∙ sym (q .0), p .1 ∙ sym (q .1))
+
+pub plan-determined : (x : Planned) (more : Type 0) (r r′ : ℕ) (a a′ : List ℕ)
+    → (r ≡ planNumber x) × (a ≡ planNumbers x) × more → (r′ ≡ planNumber x) × (a′ ≡ planNumbers x) × more → (r ≡ r′) × (a ≡ a′)
+plan-determined x more r r′ a a′ p q = (p .0 ∙ sym (q .0), p .1 ∙ sym (q .1))

@@ -2,7 +2,7 @@
 use Prim.Native.Nat.{ℕ, zero, suc, _+_, _<_}
 use mathlib.Core.Path.{_≡_, refl, sym, ap, subst, _∙_}
 use mathlib.Core.Bool.{Bool, true, false, _&&_}
-use mathlib.Core.List.{List}
+use mathlib.Core.List.{List, [], _∷_}
 use native.Mathlib.Numerals.{add-one}
 use native.Mathlib.Omega.{arith}
 use lib.Dec.{eqb}
@@ -11,7 +11,10 @@ use borrow.Author.Tests.{eq-eqb, ne-eqb, eqb-true, eqb-false}
 use Rattle.state.specs.declared.Departure.{Departure}
 use Rattle.state.specs.declared.State.{State}
 use Rattle.state.specs.declared.State.the-variants.{Filed, Departed, Arrived, Cancelled}
+use Rattle.parts.specs.declared.Date.{Date}
+use Rattle.parts.specs.declared.Date.the-variants.{Known, Unknown}
 use Rattle.beechdoublet.specs.declared.Handed.the-variants.{Held, NoState}
+use Rattle.beechdoublet.specs.Numbers.{dateNumbers}
 use Rattle.beechdoublet.specs.Handed.{departureOf, minuteOf, byteOf, stateOf, stateNumbers, agree, handedAs}
 
 module _ (ns : List ℕ) where
@@ -62,3 +65,9 @@ module _ (ns xs : List ℕ) (s : State) (b : Bool) (es : s ≡ stateOf ns) (ex :
   pub one-handed : b ≡ true → Held (record { state = s }) ≡ handedAs ns
   unfolding handedAs
   one-handed e = rw (found ∙ e) (ap (λ (t : State). Held (record { state = t })) es)
+
+-- A DATE, by the row of its numbers
+
+pub date-laid : (d : Date) (ns : List ℕ) → ns ≡ dateNumbers d → getD ns 0 0 ∷ (getD ns 1 0 ∷ (getD ns 2 0 ∷ (getD ns 3 0 ∷ []))) ≡ dateNumbers d
+date-laid (Known year month day) ns e = rw e
+date-laid Unknown ns e = rw e

@@ -7,6 +7,10 @@ use Rattle.strip.specs.declared.Updated.{Updated}
 use Rattle.strip.specs.declared.Updated.the-variants.{Accepted, Refused}
 use Rattle.asked.specs.declared.Asked.{Asked}
 use Rattle.asked.specs.declared.Asked.the-variants.{InStrip, InChange, Refused as NotShown}
+use Rattle.parts.specs.declared.Part.{Part}
+use Rattle.parts.specs.declared.Part.the-variants.{At, Refused as NoField}
+use Rattle.parts.specs.declared.Planned.{Planned}
+use Rattle.parts.specs.declared.Planned.the-variants.{Parts, Refused as NoPlan}
 
 abbrev pub wasRead : Answer → Bool
 wasRead (ReadAs t n) = true
@@ -30,3 +34,19 @@ abbrev pub Told : Asked → Type 0
 Told (InStrip from to) = Unit
 Told (InChange from to) = Unit
 Told (NotShown number field place) = 1 ≤ number
+
+abbrev pub wasGiven : Part → Bool
+wasGiven (At s) = true
+wasGiven (NoField number field place) = false
+
+abbrev pub Given : Part → Type 0
+Given (At s) = Unit
+Given (NoField number field place) = 1 ≤ number
+
+abbrev pub wasPlanned : Planned → Bool
+wasPlanned (Parts p) = true
+wasPlanned (NoPlan number field place) = false
+
+abbrev pub NumberedPlan : Planned → Type 0
+NumberedPlan (Parts p) = Unit
+NumberedPlan (NoPlan number field place) = 1 ≤ number

@@ -4,14 +4,21 @@ ghost use mathlib.Core.List.{[], _∷_};
 ghost use lib.ListN.{length};
 ghost use Rattle.message.specs.Reading.{answerOf, outAfter};
 ghost use Rattle.asked.specs.Parts.{Shows};
+ghost use Rattle.parts.specs.Parts.{fieldOf, contentAsked as contentNumbered, plannedOf};
+ghost use Rattle.parts.specs.Shown.{Shows as ShowsField, ShowsPlan};
 ghost use Rattle.beechdoublet.specs.Numbers.{typeNumber, readNumber, readNumbers, updateNumber, updateNumbers};
 ghost use Rattle.beechdoublet.specs.Numbers.{askedNumber, askedNumbers, fieldTold, askedWhole};
+ghost use Rattle.beechdoublet.specs.Numbers.{partNumber, partNumbers, partWhole, dateNumbers, planNumber, planNumbers, partsNumbers};
 ghost use Rattle.beechdoublet.specs.Handed.{arrivedNumbers, stateNumbers, kept, departureOf, stateOf, agree};
-ghost use Rattle.beechdoublet.specs.Handed.{handedAs, soundAs, updateAs, outAs, stateAs, askedAs, contentAsked};
+ghost use Rattle.beechdoublet.specs.Handed.{byteOf, handedAs, soundAs, updateAs, outAs, stateAs, askedAs, contentAsked};
 use aerodromes::Aerodrome;
 use asked::Asked;
 use kinds::MessageType;
 use message::Answer;
+use parts::Date;
+use parts::Part;
+use parts::PlanParts;
+use parts::Planned;
 use shape::Clock;
 use state::Departure;
 use state::State;
@@ -262,6 +269,90 @@ fn tell_asked(a: Asked, asked: u64, answer: &mut [u64; 6]) -> u8
     }
 }
 
+// Lays out where a message's field stands, and gives the answer's number.
+fn tell_part(p: Part, asked: u64, answer: &mut [u64; 6]) -> u8
+    ensures { λ r. ⌜ (r ≡ partNumber p) × (now (answer .exit) ≡ partNumbers (partWhole asked p)) ⌝ }
+{
+    match p {
+        Part::At(s) => {
+            *answer = [0, 0, 0, 1, s.from as u64, s.to as u64];
+            0
+        }
+        Part::Refused {
+            number,
+            field,
+            place,
+        } => {
+            let told = field_told(asked, number, field);
+            *answer = [number as u64, told, place as u64, 0, 0, 0];
+            number
+        }
+    }
+}
+
+// The numbers of a date.
+fn date_numbers(d: Date) -> [u64; 4]
+    ensures { λ r. ⌜ r ≡ dateNumbers d ⌝ }
+{
+    match d {
+        Date::Known { year, month, day } => [1, year as u64, month as u64, day as u64],
+        Date::Unknown => [0, 0, 0, 0],
+    }
+}
+
+// The numbers of a plan's parts.
+fn parts_numbers(p: PlanParts) -> [u64; 19]
+    ensures { λ r. ⌜ r ≡ partsNumbers p ⌝ }
+{
+    let day = p.date;
+    let date = date_numbers(day);
+    [
+        0,
+        0,
+        0,
+        p.identification.from as u64,
+        p.identification.to as u64,
+        p.aircraft.count as u64,
+        p.aircraft.kind.from as u64,
+        p.aircraft.kind.to as u64,
+        p.departure.aerodrome as u64,
+        p.departure.time.0 as u64,
+        p.destination.aerodrome as u64,
+        p.destination.elapsed.0 as u64,
+        p.destination.alternates as u64,
+        p.destination.first as u64,
+        p.destination.second as u64,
+        date[0],
+        date[1],
+        date[2],
+        date[3],
+    ]
+}
+
+// Lays out the parts of a plan, and gives the answer's number.
+fn tell_plan(p: Planned, answer: &mut [u64; 19]) -> u8
+    ensures { λ r. ⌜ (r ≡ planNumber p) × (now (answer .exit) ≡ planNumbers p) ⌝ }
+{
+    match p {
+        Planned::Parts(parts) => {
+            *answer = parts_numbers(parts);
+            0
+        }
+        Planned::Refused {
+            number,
+            field,
+            place,
+        } => {
+            let mut row = [0; 19];
+            row[0] = number as u64;
+            row[1] = field as u64;
+            row[2] = place as u64;
+            *answer = row;
+            number
+        }
+    }
+}
+
 // Reads a message, as `message::read` does. The answer is number, field, place, type and length; the number is also given back.
 #[no_mangle]
 pub extern "C" fn beechdoublet_read(msg: &[u8], out: &mut [u8], answer: &mut [u64; 5]) -> u8
@@ -317,4 +408,23 @@ pub extern "C" fn beechdoublet_in_force(
         (contentAsked (now (strip .entry)) (now (chg .entry)) number) ⌝ }
 {
     tell_asked(asked_of(strip, hand_in(state), chg, number), number, answer)
+}
+
+// Says where a message's field stands, as `parts::field_of` does. The answer is laid out as that of a field in force, with the source 1.
+#[no_mangle]
+pub extern "C" fn beechdoublet_field(msg: &[u8], number: u64, answer: &mut [u64; 6]) -> u8
+    ensures { λ r. ⌜ (r ≡ partNumber (fieldOf (now (msg .entry)) (byteOf number)))
+        × (now (answer .exit) ≡ partNumbers (partWhole number (fieldOf (now (msg .entry)) (byteOf number))))
+        × ShowsField (fieldOf (now (msg .entry)) (byteOf number)) (now (msg .entry)) (contentNumbered (now (msg .entry)) (byteOf number)) ⌝ }
+{
+    tell_part(parts::field_of(msg, byte_of(number)), number, answer)
+}
+
+// Tells the parts of a plan, as `parts::plan_parts` does. The answer is number, field, place and the parts; the number is also given back.
+#[no_mangle]
+pub extern "C" fn beechdoublet_plan(strip: &[u8], answer: &mut [u64; 19]) -> u8
+    ensures { λ r. ⌜ (r ≡ planNumber (plannedOf (now (strip .entry)))) × (now (answer .exit) ≡ planNumbers (plannedOf (now (strip .entry))))
+        × ShowsPlan (plannedOf (now (strip .entry))) (now (strip .entry)) ⌝ }
+{
+    tell_plan(parts::plan_parts(strip), answer)
 }
