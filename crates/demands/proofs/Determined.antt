@@ -32,6 +32,10 @@ use Rattle.asked.specs.declared.Asked.{Asked}
 use Rattle.asked.specs.declared.Asked.the-variants.{InStrip, InChange, Refused}
 use Rattle.asked.specs.Asking.{rankOf, askedOf, shown, StandsAt}
 use Rattle.asked.specs.Parts.{Shows}
+use Rattle.parts.specs.declared.Part.{Part}
+use Rattle.parts.specs.declared.Planned.{Planned}
+use Rattle.parts.specs.Parts.{fieldOf, contentAsked as contentNumbered, plannedOf}
+use Rattle.parts.specs.Shown.{Shows as ShowsField, ShowsPlan}
 use Rattle.history.specs.Demand3.{Standing, Offer}
 use Rattle.demands.specs.Demands.{Reads}
 use Rattle.demands.specs.Determined.{Determines}
@@ -155,6 +159,13 @@ shown-one strip held chg number sb sp cb cp x y p q = go (askedOf strip held chg
 pub ask-one : (strip : List ℕ) (held : Strip) (chg : List ℕ) (number : ℕ)
     → Determines Asked (λ r. (r ≡ askedOf strip held chg number) × Shows r strip chg (inForce (inner strip) (inner chg) (rankOf number)))
 ask-one strip held chg number = bounded Asked (askedOf strip held chg number) (λ r. Shows r strip chg (inForce (inner strip) (inner chg) (rankOf number)))
+
+-- `parts::field_of` and `parts::plan_parts`: the answer, and what its places say of the bytes there
+pub field-one : (m : List ℕ) (n : ℕ) → Determines Part (λ r. (r ≡ fieldOf m n) × ShowsField r m (contentNumbered m n))
+field-one m n = bounded Part (fieldOf m n) (λ r. ShowsField r m (contentNumbered m n))
+
+pub planned-one : (m : List ℕ) → Determines Planned (λ r. (r ≡ plannedOf m) × ShowsPlan r m)
+planned-one m = bounded Planned (plannedOf m) (λ r. ShowsPlan r m)
 
 -- OPENING A STRIP: the answer, and every byte of the scratch
 

@@ -10,6 +10,8 @@ use lib.Seq.{drop-append-le, take-at, drop-at, drop-drop}
 use borrow.Author.Tests.{leb-true}
 use Rattle.text.specs.Words.{Word, all, join, split}
 use Rattle.text.proofs.Tests.{both}
+use Rattle.text.proofs.Index.{split-cut}
+use Rattle.text.proofs.Joined.{join-split}
 use Rattle.shape.specs.declared.ElapsedRead.the-variants.{ElapsedTime, NoElapsedTime}
 use Rattle.shape.specs.Numbers.{value}
 use Rattle.shape.specs.Time.{elapsedHours, elapsedFits, elapsedRead}
@@ -17,7 +19,7 @@ use Rattle.shape.proofs.Times.{time-length}
 use Rattle.head.specs.Field9.{number, aircraft, countFits, countOf, aircraftFits, fits9}
 use Rattle.aerodromes.specs.Aerodromes.{fourLetters, joinedOf, first, others}
 use Rattle.aerodromes.specs.Field16.{mostAlternates, fits16plan, record16plan}
-use Rattle.aerodromes.proofs.Aerodromes.{four-length, timed-time, timed-length, timed-spelled, words-spelled}
+use Rattle.aerodromes.proofs.Aerodromes.{four-length, timed-time, timed-length}
 use Rattle.aerodromes.proofs.Field16.{plan-parts}
 use Rattle.parts.specs.Parts.{elapsedAt}
 
@@ -84,9 +86,9 @@ module _ (s : List ℕ) (e : fits16plan s ≡ true) where
 
   whole : lead ++ behindEach alternates ≡ s
   whole =
-      let t = plan-parts s e .0 in
-      sym (each-joined lead alternates)
-      ∙ ap (λ (w : Word). join 32 (w ∷ alternates)) (sym (timed-spelled elapsedHours lead t)) ∙ words-spelled elapsedHours s t
+      let h = split-cut 32 s in
+      let words : split 32 s ≡ lead ∷ alternates = h ∙ sym (ap (λ (ws : List Word). first ws ∷ others ws) h) in
+      sym (each-joined lead alternates) ∙ sym (ap (join 32) words) ∙ join-split 32 s
 
   eight : length lead ≡ 8
   eight = timed-length elapsedHours lead (plan-parts s e .0)

@@ -154,11 +154,11 @@ fn field_in(t: MessageType, m: &[u8], number: u8) -> Part
 }
 
 // Where the content of a message's field stands, by the field's number; of several, as a CHG's entries, the first.
-pub fn field_of(m: &[u8], number: u8) -> Part
-    ensures { λ r. ⌜ r ≡ fieldOf (now (m .entry)) number ⌝ }
-    ensures { λ r. ⌜ Shows r (now (m .entry)) (contentAsked (now (m .entry)) number) ⌝ }
+pub fn field_of(spelling: &[u8], number: u8) -> Part
+    ensures { λ r. ⌜ r ≡ fieldOf (now (spelling .entry)) number ⌝ }
+    ensures { λ r. ⌜ Shows r (now (spelling .entry)) (contentAsked (now (spelling .entry)) number) ⌝ }
 {
-    match read_own(m) {
+    match read_own(spelling) {
         Taken::Refused {
             number: n,
             field,
@@ -176,7 +176,7 @@ pub fn field_of(m: &[u8], number: u8) -> Part
                     place: 0,
                 };
             }
-            field_in(t, m, number)
+            field_in(t, spelling, number)
         }
     }
 }
@@ -357,11 +357,11 @@ fn plan_read(t: MessageType, own: bool, m: &[u8]) -> Planned
 }
 
 // The parts of a plan: an accepted FPL that is its own spelling, as a strip is.
-pub fn plan_parts(m: &[u8]) -> Planned
-    ensures { λ r. ⌜ r ≡ plannedOf (now (m .entry)) ⌝ }
-    ensures { λ r. ⌜ ShowsPlan r (now (m .entry)) ⌝ }
+pub fn plan_parts(strip: &[u8]) -> Planned
+    ensures { λ r. ⌜ r ≡ plannedOf (now (strip .entry)) ⌝ }
+    ensures { λ r. ⌜ ShowsPlan r (now (strip .entry)) ⌝ }
 {
-    match read_own(m) {
+    match read_own(strip) {
         Taken::Refused {
             number,
             field,
@@ -371,6 +371,6 @@ pub fn plan_parts(m: &[u8]) -> Planned
             field,
             place,
         },
-        Taken::As(t, own) => plan_read(t, own, m),
+        Taken::As(t, own) => plan_read(t, own, strip),
     }
 }

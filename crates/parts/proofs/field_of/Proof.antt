@@ -17,7 +17,7 @@ module _ (c : tie.After-known-told2) where
   abbrev start : tie.Start
   start = read .before .before
 
-  taken : takenOf (start .args .m .now) ≡ As (c .before .t .given .0 .0) (c .before .t .given .0 .1 .0)
+  taken : takenOf (start .args .spelling .now) ≡ As (c .before .t .given .0 .0) (c .before .t .given .0 .1 .0)
   taken = sym (read .read-own .ensures) ∙ c .before .t .given .1
 
 read-own-requires : tie.Need-read-own-requires
@@ -33,25 +33,25 @@ returns : tie.Need-returns
 returns c =
     let d = c .before in
     let a = start d .args in
-    field-other (a .m .now) (a .number) _ _ (taken d) (not-true _ (c .if1 .taken))
+    field-other (a .spelling .now) (a .number) _ _ (taken d) (not-true _ (c .if1 .taken))
 
 field-in-requires : tie.Need-field-in-requires
 field-in-requires c κs =
     let d = c .before in
     let t = d .before .t .given .0 .0 in
-    taken-own (start d .args .m .now) t (taken d ∙ ap (As t) (not-false _ (c .if1 .left)))
+    taken-own (start d .args .spelling .now) t (taken d ∙ ap (As t) (not-false _ (c .if1 .left)))
 
 returns-2 : tie.Need-returns-2
 returns-2 c =
     let r = c .before .before .before in
     let a = r .before .before .args in
-    field-refused (a .m .now) (a .number) _ _ _ (sym (r .read-own .ensures) ∙ c .before .n .given .1)
+    field-refused (a .spelling .now) (a .number) _ _ _ (sym (r .read-own .ensures) ∙ c .before .n .given .1)
 
 returns-3 : tie.Need-returns-3
 returns-3 c =
     let d = c .before .before in
     let a = start d .args in
-    field-given (a .m .now) (a .number) _ _ (taken d) (not-false _ (c .before .if1 .left)) _ (c .field-in .ensures)
+    field-given (a .spelling .now) (a .number) _ _ (taken d) (not-false _ (c .before .if1 .left)) _ (c .field-in .ensures)
 
 pub field-of-spec : {M : Type 1} → statement M
 field-of-spec =

@@ -20,13 +20,13 @@ plan-read-requires c κs = let r = c .before .before .before in sym (r .read-own
 returns : tie.Need-returns
 returns c =
     let r = c .before .before .before in
-    plan-whole (r .before .before .args .m .now) _ (sym (r .read-own .ensures) ∙ c .before .number .given .1) _ refl
+    plan-whole (r .before .before .args .strip .now) _ (sym (r .read-own .ensures) ∙ c .before .number .given .1) _ refl
 
 returns-2 : tie.Need-returns-2
 returns-2 c =
     let t = c .before .before in
     let r = t .before .before in
-    plan-whole (r .before .before .args .m .now) _ (sym (r .read-own .ensures) ∙ t .t .given .1) _ (c .plan-read .ensures)
+    plan-whole (r .before .before .args .strip .now) _ (sym (r .read-own .ensures) ∙ t .t .given .1) _ (c .plan-read .ensures)
 
 pub plan-parts-spec : {M : Type 1} → statement M
 plan-parts-spec =
