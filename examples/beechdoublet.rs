@@ -3,6 +3,8 @@
 //! What the C caller has to see to, Rust's references see to here: none is null, each slice is as long as it says, and what is written overlaps
 //! nothing else. So the library's functions are called as they are, and 255, with which the header refuses what is not a call, does not come up.
 
+use std::ops::Range;
+
 /// The most bytes of a message and of a strip.
 pub const MOST: usize = 1800;
 
@@ -31,6 +33,8 @@ extern "C" {
         answer: &mut [u64; 6],
     ) -> u8;
     fn beechdoublet_sound(state: &Numbers) -> bool;
+    fn beechdoublet_field(message: *const u8, length: usize, field: u64, answer: &mut [u64; 6]) -> u8;
+    fn beechdoublet_plan(strip: *const u8, length: usize, answer: &mut [u64; 19]) -> u8;
 }
 
 /// Why a message was not taken: document 01's number, field and place.
@@ -127,6 +131,50 @@ pub fn in_force<'a>(strip: &'a [u8], state: &Numbers, change: &'a [u8], field: u
     Ok(match source {
         1 => Part::InStrip { from, to, content: &strip[from..to] },
         _ => Part::InChange { from, to, content: &change[from..to] },
+    })
+}
+
+/// The content of a message's field, by the field's number, and where it stands; of several entries the first.
+pub fn field(message: &[u8], field: u64) -> Result<(Range<usize>, &[u8]), Refusal> {
+    let mut answer = [0; 6];
+    let number = unsafe { beechdoublet_field(message.as_ptr(), message.len(), field, &mut answer) };
+    let [_, field, place, _, from, to] = answer;
+    refused(number, field, place)?;
+    let at = from as usize..to as usize;
+    Ok((at.clone(), &message[at]))
+}
+
+/// The parts of a plan. Times are minutes, the date is year, month and day.
+#[derive(Clone, Debug, PartialEq, Eq)]
+pub struct Plan<'a> {
+    pub identification: &'a [u8],
+    pub aircraft: u64,
+    pub kind: &'a [u8],
+    pub departure: &'a [u8],
+    pub off_block: u64,
+    pub destination: &'a [u8],
+    pub elapsed: u64,
+    pub alternates: Vec<&'a [u8]>,
+    pub date: Option<(u64, u64, u64)>,
+}
+
+/// The parts of a strip, or of any accepted FPL's spelling.
+pub fn plan(strip: &[u8]) -> Result<Plan<'_>, Refusal> {
+    let mut n = [0; 19];
+    let number = unsafe { beechdoublet_plan(strip.as_ptr(), strip.len(), &mut n) };
+    refused(number, n[1], n[2])?;
+    let bytes = |from: u64, to: u64| &strip[from as usize..to as usize];
+    let four = |from: u64| bytes(from, from + 4);
+    Ok(Plan {
+        identification: bytes(n[3], n[4]),
+        aircraft: n[5],
+        kind: bytes(n[6], n[7]),
+        departure: four(n[8]),
+        off_block: n[9],
+        destination: four(n[10]),
+        elapsed: n[11],
+        alternates: n[13..13 + n[12] as usize].iter().map(|&from| four(from)).collect(),
+        date: (n[15] == 1).then_some((n[16], n[17], n[18])),
     })
 }
 

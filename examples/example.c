@@ -1,6 +1,6 @@
 /*
- * Beechdoublet from C: reads messages, files a strip, keeps it up to date, asks for a field in force, and shows what is not a call. Every line that
- * it writes stands in examples/expected.txt, and of the last in examples/expected-c.txt.
+ * Beechdoublet from C: reads messages, files a strip, keeps it up to date, asks for a field in force, shows fields and the parts of plans, and what
+ * is not a call. Every line that it writes stands in examples/expected.txt, and of the last in examples/expected-c.txt.
  */
 #include <inttypes.h>
 #include <stdio.h>
@@ -110,6 +110,46 @@ static void show_in_force(const strip *held, const char *change, uint64_t field)
     printf("%s %" PRIu64 " %" PRIu64 " %.*s\n", in, part.from, part.to, (int)(part.to - part.from), (const char *)(from + part.from));
 }
 
+/* Shows the content of a message's field, by the field's number, and where it stands. */
+static void show_field(const char *message, uint64_t field)
+{
+    beechdoublet_part part;
+    if (beechdoublet_field(bytes_of(message), strlen(message), field, &part) != 0) {
+        tell_refusal(part.number, part.field, part.place);
+        return;
+    }
+    printf("FIELD %" PRIu64 " %" PRIu64 " %.*s\n", part.from, part.to, (int)(part.to - part.from), message + part.from);
+}
+
+/* Shows the parts of a plan: identification, how many of which type, aerodrome and off-block time, destination and elapsed minutes, alternates, date. */
+static void show_plan(const uint8_t *plan, size_t length)
+{
+    const char *text = (const char *)plan;
+    beechdoublet_plan_parts parts;
+    uint64_t i;
+    if (beechdoublet_plan(plan, length, &parts) != 0) {
+        tell_refusal(parts.number, parts.field, parts.place);
+        return;
+    }
+    printf("PLAN %.*s", (int)(parts.identification_to - parts.identification_from), text + parts.identification_from);
+    printf(" %" PRIu64 " %.*s", parts.aircraft, (int)(parts.type_to - parts.type_from), text + parts.type_from);
+    printf(" %.4s", text + parts.departure);
+    print_time(parts.off_block);
+    printf(" %.4s %" PRIu64, text + parts.destination, parts.elapsed);
+    for (i = 0; i < parts.alternates; i++) {
+        printf(" %.4s", text + parts.alternate[i]);
+    }
+    if (parts.date_known != 0) {
+        printf(" %" PRIu64 "-%02" PRIu64 "-%02" PRIu64, parts.year, parts.month, parts.day);
+    }
+    printf("\n");
+}
+
+static void show_plan_of(const char *message)
+{
+    show_plan(bytes_of(message), strlen(message));
+}
+
 static const char *const PLAN = "(FPL-ABC12-IS-B738/M-SDFG/S-EHAM0930-N0440F310 DCT PAM DCT-EDDF0100 EDDK-0)";
 static const char *const CHANGE = "(CHG-ABC12-EHAM0930-EDDF-0-9/B39M/M-8/IN)";
 static const char *const DEPARTURE = "(DEP-ABC12-EHAM0941-EDDF-0)";
@@ -136,6 +176,29 @@ static void show_parts(const strip *held)
     show_in_force(held, "(CHG-ABC12-EHAM0930-EDDF-0 -9/B39M/M-8/IN)", 9);
     show_in_force(held, "(CHG-ABC13-EHAM0930-EDDF-0-9/B39M/M)", 9);
     show_in_force(held, DEPARTURE, 9);
+}
+
+static void show_fields(void)
+{
+    show_field(PLAN, 9);
+    show_field(PLAN, 3);
+    show_field(PLAN, 18);
+    show_field(PLAN, 22);
+    show_field(PLAN, 263);
+    show_field(CHANGE, 22);
+    show_field(CHANGE, 9);
+    show_field("(CNL-ABC12 -EHAM0930-EDDF-0)", 13);
+    show_field("(DLA-ABC12-EHAM2460-EDDF-0)", 13);
+}
+
+static void show_plans(void)
+{
+    show_plan_of(PLAN);
+    show_plan_of("(FPL-ABC12/A7777-IS-2FK27/M-SDFG/S-EHAM2359-N0440F310 DCT-EDDF0100 EDDK EDDL-DOF/240229)");
+    show_plan_of(CHANGE);
+    show_plan_of("(FPL-ABC12 -IS-B738/M-SDFG/S-EHAM0930-N0440F310 DCT PAM DCT-EDDF0100 EDDK-0)");
+    show_plan_of("(ACP-ABC12)");
+    show_plan_of("(FPL-ABC12-IS-ZZZZ/M-SDFG/S-EHAM0930-N0440F310 DCT-EDDF0100-0)");
 }
 
 static void show_states(const strip *held)
@@ -168,6 +231,7 @@ static void show_flight(strip *held)
     offer(held, "(CNL-ABC12-EHAM0935-EDDF-0)", BEECHDOUBLET_MOST);
     offer(held, "(ARR-ABC12-EHAM0935-EDDF-EDDK1042)", BEECHDOUBLET_MOST);
     offer(held, CHANGE, BEECHDOUBLET_MOST);
+    show_plan(held->bytes, held->length);
 }
 
 /* Offers a message to a strip and lends the strip's own bytes as the output. That is not a call, and the strip stays as it was. */
@@ -212,6 +276,8 @@ int main(void)
     strip held = filed(PLAN);
     show_readings();
     show_parts(&held);
+    show_fields();
+    show_plans();
     show_states(&held);
     show_flight(&held);
     show_no_calls();

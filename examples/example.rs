@@ -1,10 +1,10 @@
-//! Beechdoublet from Rust: reads messages, files a strip, keeps it up to date, and asks for a field in force. Every line that it writes stands in
-//! examples/expected.txt.
+//! Beechdoublet from Rust: reads messages, files a strip, keeps it up to date, asks for a field in force, and shows fields and the parts of plans.
+//! Every line that it writes stands in examples/expected.txt.
 #![cfg_attr(emulated, no_main)]
 
 mod beechdoublet;
 
-use beechdoublet::{in_force, is_sound, read, update, Numbers, Part, Refusal, State, MOST};
+use beechdoublet::{field, in_force, is_sound, plan, read, update, Numbers, Part, Refusal, State, MOST};
 
 const TYPES: [&str; 10] = ["", "FPL", "CHG", "CNL", "DLA", "DEP", "ARR", "RQP", "RQS", "SPL"];
 const PLAN: &[u8] = b"(FPL-ABC12-IS-B738/M-SDFG/S-EHAM0930-N0440F310 DCT PAM DCT-EDDF0100 EDDK-0)";
@@ -80,6 +80,32 @@ fn show_in_force(held: &Strip, change: &[u8], field: u64) {
     }
 }
 
+/// Shows the content of a message's field, by the field's number, and where it stands.
+fn show_field(message: &[u8], number: u64) {
+    match field(message, number) {
+        Ok((at, content)) => println!("FIELD {} {} {}", at.start, at.end, text(content)),
+        Err(why) => println!("{}", refusal(why)),
+    }
+}
+
+/// Shows the parts of a plan: identification, how many of which type, aerodrome and off-block time, destination and elapsed minutes, alternates, date.
+fn show_plan(message: &[u8]) {
+    let parts = match plan(message) {
+        Ok(parts) => parts,
+        Err(why) => return println!("{}", refusal(why)),
+    };
+    print!("PLAN {} {} {}", text(parts.identification), parts.aircraft, text(parts.kind));
+    print!(" {} {}", text(parts.departure), clock(parts.off_block));
+    print!(" {} {}", text(parts.destination), parts.elapsed);
+    for alternate in parts.alternates {
+        print!(" {}", text(alternate));
+    }
+    if let Some((year, month, day)) = parts.date {
+        print!(" {year}-{month:02}-{day:02}");
+    }
+    println!();
+}
+
 fn show_readings() {
     show_reading(b"(CNL-ABC12-EHAM0930-EDDF-0)", MOST);
     show_reading(b"(DLA-ABC12-EHAM2460-EDDF-0)", MOST);
@@ -100,6 +126,27 @@ fn show_parts(held: &Strip) {
     show_in_force(held, b"(CHG-ABC12-EHAM0930-EDDF-0 -9/B39M/M-8/IN)", 9);
     show_in_force(held, b"(CHG-ABC13-EHAM0930-EDDF-0-9/B39M/M)", 9);
     show_in_force(held, DEPARTURE, 9);
+}
+
+fn show_fields() {
+    show_field(PLAN, 9);
+    show_field(PLAN, 3);
+    show_field(PLAN, 18);
+    show_field(PLAN, 22);
+    show_field(PLAN, 263);
+    show_field(CHANGE, 22);
+    show_field(CHANGE, 9);
+    show_field(b"(CNL-ABC12 -EHAM0930-EDDF-0)", 13);
+    show_field(b"(DLA-ABC12-EHAM2460-EDDF-0)", 13);
+}
+
+fn show_plans() {
+    show_plan(PLAN);
+    show_plan(b"(FPL-ABC12/A7777-IS-2FK27/M-SDFG/S-EHAM2359-N0440F310 DCT-EDDF0100 EDDK EDDL-DOF/240229)");
+    show_plan(CHANGE);
+    show_plan(b"(FPL-ABC12 -IS-B738/M-SDFG/S-EHAM0930-N0440F310 DCT PAM DCT-EDDF0100 EDDK-0)");
+    show_plan(b"(ACP-ABC12)");
+    show_plan(b"(FPL-ABC12-IS-ZZZZ/M-SDFG/S-EHAM0930-N0440F310 DCT-EDDF0100-0)");
 }
 
 fn show_states(held: &Strip) {
@@ -123,6 +170,7 @@ fn show_flight(held: &mut Strip) {
     offer(held, b"(CNL-ABC12-EHAM0935-EDDF-0)", MOST);
     offer(held, b"(ARR-ABC12-EHAM0935-EDDF-EDDK1042)", MOST);
     offer(held, CHANGE, MOST);
+    show_plan(&held.spelling);
 }
 
 fn run() {
@@ -131,6 +179,8 @@ fn run() {
     let mut held = Strip { spelling: spelling.to_vec(), state: State::Filed.numbers() };
     show_readings();
     show_parts(&held);
+    show_fields();
+    show_plans();
     show_states(&held);
     show_flight(&mut held);
 }

@@ -20,7 +20,7 @@ static union {
 enum expected { CALL, ANSWERED, SILENT };
 
 typedef struct {
-    size_t first, first_length; /* the strip; in reading the message */
+    size_t first, first_length; /* the strip; in reading, and for a field, the message */
     size_t state;
     size_t second, second_length; /* the message or the CHG */
     size_t out, out_length;
@@ -48,6 +48,16 @@ static uint8_t in_force_row(const row *r)
 {
     return beechdoublet_in_force(at(r->first), r->first_length, (const beechdoublet_state *)(void *)at(r->state), at(r->second), r->second_length, 9,
                                  (beechdoublet_part *)(void *)at(r->answer));
+}
+
+static uint8_t field_row(const row *r)
+{
+    return beechdoublet_field(at(r->first), r->first_length, 9, (beechdoublet_part *)(void *)at(r->answer));
+}
+
+static uint8_t plan_row(const row *r)
+{
+    return beechdoublet_plan(at(r->first), r->first_length, (beechdoublet_plan_parts *)(void *)at(r->answer));
 }
 
 /* Whether memory is as it was but for an answer of so many numbers, which is 255 and zeros; with 0 numbers, whether it is all as it was. */
@@ -151,6 +161,30 @@ static const row IN_FORCE[] = {
     {0, 100, 400, 104, 100, 0, 0, 456, SILENT},
 };
 
+/* The answer has 48 bytes. */
+static const row FIELD[] = {
+    {0, 100, 0, 0, 0, 0, 0, 800, CALL},
+    {0, 104, 0, 0, 0, 0, 0, 104, CALL}, /* the answer just behind the message, just before it; no byte of the message */
+    {848, 100, 0, 0, 0, 0, 0, 800, CALL},
+    {820, 0, 0, 0, 0, 0, 0, 800, CALL},
+    {NONE, 0, 0, 0, 0, 0, 0, 800, ANSWERED},
+    {0, 100, 0, 0, 0, 0, 0, NONE, SILENT},
+    {0, 105, 0, 0, 0, 0, 0, 104, SILENT}, /* the answer begins in the message, ends in it */
+    {847, 100, 0, 0, 0, 0, 0, 800, SILENT},
+};
+
+/* The answer has 152 bytes. */
+static const row PLAN[] = {
+    {0, 100, 0, 0, 0, 0, 0, 800, CALL},
+    {0, 104, 0, 0, 0, 0, 0, 104, CALL}, /* the answer just behind the strip, just before it; no byte of the strip */
+    {552, 100, 0, 0, 0, 0, 0, 400, CALL},
+    {420, 0, 0, 0, 0, 0, 0, 400, CALL},
+    {NONE, 0, 0, 0, 0, 0, 0, 800, ANSWERED},
+    {0, 100, 0, 0, 0, 0, 0, NONE, SILENT},
+    {0, 105, 0, 0, 0, 0, 0, 104, SILENT}, /* the answer begins in the strip, ends in it */
+    {551, 100, 0, 0, 0, 0, 0, 400, SILENT},
+};
+
 #define COUNT(rows) (sizeof(rows) / sizeof(rows)[0])
 
 int main(void)
@@ -158,6 +192,8 @@ int main(void)
     int wrong = told("read", read_row, READ, COUNT(READ), 5);
     wrong |= told("update", update_row, UPDATE, COUNT(UPDATE), 4);
     wrong |= told("in force", in_force_row, IN_FORCE, COUNT(IN_FORCE), 6);
+    wrong |= told("field", field_row, FIELD, COUNT(FIELD), 6);
+    wrong |= told("plan", plan_row, PLAN, COUNT(PLAN), 19);
     if (beechdoublet_sound(NULL)) {
         printf("sound: a null pointer is a state\n");
         wrong = 1;

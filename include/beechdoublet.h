@@ -1,5 +1,5 @@
 /*
- * Beechdoublet: reads air traffic messages, keeps a strip up to date, and says where a field in force stands.
+ * Beechdoublet: reads air traffic messages, keeps a strip up to date, says where a field in force stands, and tells the parts of a message.
  *
  * Link with target/staticlib/libbeechdoublet.a (x86-64 Linux; gcc or clang, C99 or C++11 and later). Each function of the library is proved to
  * give the answer that its contract names; docs/GUIDE.md says what is proved and what the caller has to see to. In short:
@@ -46,9 +46,10 @@ extern "C" {
 #define BEECHDOUBLET_ARRIVED 2
 #define BEECHDOUBLET_CANCELLED 3
 
-/* Where a field in force stands. */
+/* Where a field in force stands; a field of one message stands in that message. */
 #define BEECHDOUBLET_IN_STRIP 1
 #define BEECHDOUBLET_IN_CHANGE 2
+#define BEECHDOUBLET_IN_MESSAGE 1
 
 /*
  * The number of what is not a call: a pointer is null, or what is to be written overlaps something else that is lent. Nothing is written but the
@@ -79,15 +80,40 @@ typedef struct {
     uint64_t length; /* the bytes of the new strip, at the front of the output */
 } beechdoublet_updating;
 
-/* Where a field in force stands. */
+/* Where a field in force, or a field of a message, stands. */
 typedef struct {
     uint64_t number;
     uint64_t field;
     uint64_t place;
-    uint64_t source; /* BEECHDOUBLET_IN_STRIP or BEECHDOUBLET_IN_CHANGE */
+    uint64_t source; /* BEECHDOUBLET_IN_STRIP or BEECHDOUBLET_IN_CHANGE; BEECHDOUBLET_IN_MESSAGE */
     uint64_t from;   /* the content's first byte, counted from 0 */
     uint64_t to;     /* behind its last byte */
 } beechdoublet_part;
+
+/*
+ * The parts of a plan. A place is that of a first byte, counted from 0, in the strip; where two are given, the second is behind the last byte. An
+ * aerodrome is four letters. Minutes are 0 to 1439.
+ */
+typedef struct {
+    uint64_t number;
+    uint64_t field;
+    uint64_t place;
+    uint64_t identification_from; /* field 7, without the code */
+    uint64_t identification_to;
+    uint64_t aircraft;  /* field 9: how many, 1 to 99 */
+    uint64_t type_from; /* the type, without the number before it; behind it stand the oblique and the wake category */
+    uint64_t type_to;
+    uint64_t departure;    /* field 13: the place of the aerodrome */
+    uint64_t off_block;    /* the minute of the day */
+    uint64_t destination;  /* field 16: the place of the aerodrome */
+    uint64_t elapsed;      /* the total estimated elapsed time, in minutes */
+    uint64_t alternates;   /* how many, 0 to 2 */
+    uint64_t alternate[2]; /* the place of each aerodrome; 0 where there is none */
+    uint64_t date_known;   /* DOF of field 18: 1, or 0 and no date */
+    uint64_t year;         /* 2000 to 2099 */
+    uint64_t month;
+    uint64_t day;
+} beechdoublet_plan_parts;
 
 /*
  * A strip's state. What a state does not have is 0, so a filed strip's is all zeros. Times are minutes of the day, 0 to 1439. Numbers that are no
@@ -133,6 +159,22 @@ static inline uint8_t beechdoublet_in_force(const uint8_t *strip, size_t strip_l
 static inline bool beechdoublet_sound(const beechdoublet_state *state) __asm__("beechdoublet_seen_sound");
 
 /*
+ * Says where the content of a message's field stands, by the field's number: 3 7 8 .., 22 for an entry; of several entries the first, with its
+ * number and oblique. The message is its own spelling, as reading writes it. Refused: 1 to 10 as it is read, 17 where it is not its own spelling, 8
+ * where it has no field of that number, with that number as its field, however large it is. Gives the number back; 255, not a call, where a pointer is
+ * null or answer overlaps the message.
+ */
+static inline uint8_t beechdoublet_field(const uint8_t *message, size_t message_length, uint64_t field,
+                                         beechdoublet_part *answer) __asm__("beechdoublet_seen_field");
+
+/*
+ * Tells the parts of a plan: of a strip, or of any accepted FPL's spelling. Refused: 1 to 10 as it is read, 14 where it is of another type, 17 where
+ * it is not its own spelling. Gives the number back; 255, not a call, where a pointer is null or answer overlaps the strip.
+ */
+static inline uint8_t beechdoublet_plan(const uint8_t *strip, size_t strip_length,
+                                        beechdoublet_plan_parts *answer) __asm__("beechdoublet_seen_plan");
+
+/*
  * The library's functions, which are what is proved. They look at no pointer: call those above. Since those have the library's names here, these
  * have others, and the linker knows those above by others too.
  */
@@ -144,6 +186,9 @@ uint8_t beechdoublet_proved_update(const uint8_t *strip, size_t strip_length, be
 uint8_t beechdoublet_proved_in_force(const uint8_t *strip, size_t strip_length, const beechdoublet_state *state, const uint8_t *change,
                                      size_t change_length, uint64_t field, beechdoublet_part *answer) __asm__("beechdoublet_in_force");
 bool beechdoublet_proved_sound(const beechdoublet_state *state) __asm__("beechdoublet_sound");
+uint8_t beechdoublet_proved_field(const uint8_t *message, size_t message_length, uint64_t field,
+                                  beechdoublet_part *answer) __asm__("beechdoublet_field");
+uint8_t beechdoublet_proved_plan(const uint8_t *strip, size_t strip_length, beechdoublet_plan_parts *answer) __asm__("beechdoublet_plan");
 
 /* Whether two parts of memory have a byte in common. */
 static inline bool beechdoublet_meet(const void *a, size_t a_length, const void *b, size_t b_length)
@@ -209,6 +254,32 @@ static inline bool beechdoublet_sound(const beechdoublet_state *state)
     return state != NULL && beechdoublet_proved_sound(state);
 }
 
+static inline uint8_t beechdoublet_field(const uint8_t *message, size_t message_length, uint64_t field, beechdoublet_part *answer)
+{
+    const beechdoublet_part not_a_call = {BEECHDOUBLET_NOT_A_CALL, 0, 0, 0, 0, 0};
+    if (answer == NULL || beechdoublet_meet(answer, sizeof *answer, message, message_length)) {
+        return BEECHDOUBLET_NOT_A_CALL;
+    }
+    if (message == NULL) {
+        *answer = not_a_call;
+        return BEECHDOUBLET_NOT_A_CALL;
+    }
+    return beechdoublet_proved_field(message, message_length, field, answer);
+}
+
+static inline uint8_t beechdoublet_plan(const uint8_t *strip, size_t strip_length, beechdoublet_plan_parts *answer)
+{
+    const beechdoublet_plan_parts not_a_call = {BEECHDOUBLET_NOT_A_CALL, 0, 0, 0, 0, 0, 0, 0, 0, 0, 0, 0, 0, {0, 0}, 0, 0, 0, 0};
+    if (answer == NULL || beechdoublet_meet(answer, sizeof *answer, strip, strip_length)) {
+        return BEECHDOUBLET_NOT_A_CALL;
+    }
+    if (strip == NULL) {
+        *answer = not_a_call;
+        return BEECHDOUBLET_NOT_A_CALL;
+    }
+    return beechdoublet_proved_plan(strip, strip_length, answer);
+}
+
 #ifdef __cplusplus
 }
 #endif
@@ -219,5 +290,6 @@ BEECHDOUBLET_IN_A_ROW(beechdoublet_reading, 5);
 BEECHDOUBLET_IN_A_ROW(beechdoublet_updating, 4);
 BEECHDOUBLET_IN_A_ROW(beechdoublet_part, 6);
 BEECHDOUBLET_IN_A_ROW(beechdoublet_state, 8);
+BEECHDOUBLET_IN_A_ROW(beechdoublet_plan_parts, 19);
 
 #endif
