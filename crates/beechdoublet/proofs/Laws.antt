@@ -45,8 +45,8 @@ use Rattle.asked.specs.declared.Asked.the-variants.{InStrip, InChange, Refused 
 use Rattle.asked.specs.Asking.{rankOf, standsIn, standsAs, fieldAs, flightAs, isChange, typeAs, openedAs, askedOf}
 use Rattle.parts.specs.declared.Part.{Part}
 use Rattle.parts.specs.declared.Part.the-variants.{At, Refused as NoField}
-use Rattle.parts.specs.declared.Date.{Date}
-use Rattle.parts.specs.declared.Date.the-variants.{Known as OnDay, Unknown as NoDay}
+use Rattle.parts.specs.declared.FlightDate.{FlightDate}
+use Rattle.parts.specs.declared.FlightDate.the-variants.{Known as OnDay, Unknown as NoDay}
 use Rattle.parts.specs.declared.PlanParts.{PlanParts}
 use Rattle.parts.specs.declared.Planned.{Planned}
 use Rattle.parts.specs.declared.Planned.the-variants.{Parts, Refused as NoPlan}
@@ -348,14 +348,14 @@ part-zero m n = go (fieldOf m n) (part-given m n)
 
 -- THE PARTS OF A PLAN
 
-date-one : (a b : Date) → dateNumbers a ≡ dateNumbers b → a ≡ b
+date-one : (a b : FlightDate) → dateNumbers a ≡ dateNumbers b → a ≡ b
 date-one (OnDay y m d) (OnDay y′ m′ d′) e = cc
 date-one (OnDay y m d) NoDay e = let z : _≡_ {A = ℕ} 1 0 = cc in absurd (omega arith)
 date-one NoDay (OnDay y m d) e = let z : _≡_ {A = ℕ} 0 1 = cc in absurd (omega arith)
 date-one NoDay NoDay e = refl
 
 -- the parts that a row of numbers has
-abbrev partsBack : List ℕ → Date → PlanParts
+abbrev partsBack : List ℕ → FlightDate → PlanParts
 partsBack ns d =
     record {
       identification = record { from = getD ns 3 0; to = getD ns 4 0 };

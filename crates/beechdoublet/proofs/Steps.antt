@@ -11,8 +11,8 @@ use borrow.Author.Tests.{eq-eqb, ne-eqb, eqb-true, eqb-false}
 use Rattle.state.specs.declared.Departure.{Departure}
 use Rattle.state.specs.declared.State.{State}
 use Rattle.state.specs.declared.State.the-variants.{Filed, Departed, Arrived, Cancelled}
-use Rattle.parts.specs.declared.Date.{Date}
-use Rattle.parts.specs.declared.Date.the-variants.{Known, Unknown}
+use Rattle.parts.specs.declared.FlightDate.{FlightDate}
+use Rattle.parts.specs.declared.FlightDate.the-variants.{Known, Unknown}
 use Rattle.beechdoublet.specs.declared.Handed.the-variants.{Held, NoState}
 use Rattle.beechdoublet.specs.Numbers.{dateNumbers}
 use Rattle.beechdoublet.specs.Handed.{departureOf, minuteOf, byteOf, stateOf, stateNumbers, agree, handedAs}
@@ -68,6 +68,6 @@ module _ (ns xs : List ℕ) (s : State) (b : Bool) (es : s ≡ stateOf ns) (ex :
 
 -- A DATE, by the row of its numbers
 
-pub date-laid : (d : Date) (ns : List ℕ) → ns ≡ dateNumbers d → getD ns 0 0 ∷ (getD ns 1 0 ∷ (getD ns 2 0 ∷ (getD ns 3 0 ∷ []))) ≡ dateNumbers d
+pub date-laid : (d : FlightDate) (ns : List ℕ) → ns ≡ dateNumbers d → getD ns 0 0 ∷ (getD ns 1 0 ∷ (getD ns 2 0 ∷ (getD ns 3 0 ∷ []))) ≡ dateNumbers d
 date-laid (Known year month day) ns e = rw e
 date-laid Unknown ns e = rw e

@@ -15,8 +15,8 @@ use Rattle.asked.specs.declared.Asked.the-variants.{InStrip, InChange, Refused 
 use Rattle.state.specs.declared.State.the-variants.{Filed}
 use Rattle.parts.specs.declared.Part.{Part}
 use Rattle.parts.specs.declared.Part.the-variants.{At, Refused as NoField}
-use Rattle.parts.specs.declared.Date.{Date}
-use Rattle.parts.specs.declared.Date.the-variants.{Known, Unknown}
+use Rattle.parts.specs.declared.FlightDate.{FlightDate}
+use Rattle.parts.specs.declared.FlightDate.the-variants.{Known, Unknown}
 use Rattle.parts.specs.declared.PlanParts.{PlanParts}
 use Rattle.parts.specs.declared.Planned.{Planned}
 use Rattle.parts.specs.declared.Planned.the-variants.{Parts, Refused as NoPlan}
@@ -91,7 +91,7 @@ partWhole asked (NoField number field place) = NoField number (fieldTold asked n
 -- THE PARTS OF A PLAN: number, field, place; 7: from, to; 9: how many, and the type's from, to; 13: aerodrome, off-block minute; 16: aerodrome,
 -- elapsed minutes, how many alternates, the first, the second; 18: date known (1, or 0), year, month, day
 
-abbrev pub dateNumbers : Date → List ℕ
+abbrev pub dateNumbers : FlightDate → List ℕ
 dateNumbers (Known year month day) = 1 ∷ year ∷ month ∷ day ∷ []
 dateNumbers Unknown = 0 ∷ 0 ∷ 0 ∷ 0 ∷ []
 

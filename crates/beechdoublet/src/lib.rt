@@ -15,7 +15,7 @@ use aerodromes::Aerodrome;
 use asked::Asked;
 use kinds::MessageType;
 use message::Answer;
-use parts::Date;
+use parts::FlightDate;
 use parts::Part;
 use parts::PlanParts;
 use parts::Planned;
@@ -291,12 +291,12 @@ fn tell_part(p: Part, asked: u64, answer: &mut [u64; 6]) -> u8
 }
 
 // The numbers of a date.
-fn date_numbers(d: Date) -> [u64; 4]
+fn date_numbers(d: FlightDate) -> [u64; 4]
     ensures { λ r. ⌜ r ≡ dateNumbers d ⌝ }
 {
     match d {
-        Date::Known { year, month, day } => [1, year as u64, month as u64, day as u64],
-        Date::Unknown => [0, 0, 0, 0],
+        FlightDate::Known { year, month, day } => [1, year as u64, month as u64, day as u64],
+        FlightDate::Unknown => [0, 0, 0, 0],
     }
 }
 

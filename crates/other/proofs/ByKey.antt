@@ -112,7 +112,8 @@ module _ (ed : Edition18) where
 -- OF A CONTENT THAT FITS: an item's words, spelled, stand under its key
 
 module _ (s : List ℕ) (e : fits18 s ≡ true) where
-  standing-fit : itemsFit base 0 (group (split 32 s) .grouped) ≡ true
+  -- its items as they stand fit
+  pub standing-fit : itemsFit base 0 (group (split 32 s) .grouped) ≡ true
   unfolding fitsIn
   standing-fit = go (same s (bytes "0")) refl e
     where

@@ -1,34 +1,32 @@
 -- The word under DOF in a content of field 18 that fits: a real date, or no word. Assumes nothing.
 use Prim.Native.Nat.{ℕ, _+_, _<_, _≤_}
 use mathlib.Core.Path.{_≡_, refl, sym, ap, _∙_}
-use mathlib.Core.Bool.{Bool, true, false, not, false≢true}
+use mathlib.Core.Bool.{Bool, true, false, false≢true}
 use mathlib.Core.List.{List, [], _∷_, List·Memᴰ, List·Memᴰ·cases-cons, List·Memᴰ·not-nil}
 use mathlib.Core.Logic.{⊎-elim}
 use native.Mathlib.Omega.{arith}
 use lib.Dec.{ltb}
 use lib.ListN.{length, take, drop}
-use Rattle.text.specs.Words.{Word, all, join, null}
+use Rattle.text.specs.Words.{Word, all, split, join, null}
 use Rattle.text.proofs.Tests.{both}
 use Rattle.shape.specs.Numbers.{value}
 use Rattle.shape.specs.Shape.{fits, wide}
 use Rattle.shape.proofs.Index.{fits-lengths}
-use Rattle.shape.proofs.Fields.{fits-spelling}
 use Rattle.other.specs.declared.Rule.{Rule}
 use Rattle.other.specs.declared.Rule.the-variants.{Day}
 use Rattle.other.specs.Rules.{base, rankIn, ruleIn, wordFits, moreFits, yearMonthDay, date}
-use Rattle.other.specs.Field18.{Item, Field18, nothing, items, itemsFit, valid18, record18, field18, fits18, itemsOf, hasKey, wordsOf}
-use Rattle.other.proofs.Field18.{field18-laws}
-use Rattle.other.proofs.ByKey.{has-record, has-item, words-item, no-words}
-use Rattle.parts.specs.declared.Date.the-variants.{Known, Unknown}
-use Rattle.parts.specs.Parts.{dof, dateOf}
+use Rattle.other.specs.Field18.{Worded, group, itemsFit, fits18, under, hasKey, wordsUnder}
+use Rattle.other.proofs.ByKey.{has-item, under-item, standing-fit, no-words}
+use Rattle.parts.specs.declared.FlightDate.the-variants.{Known, Unknown}
+use Rattle.parts.specs.Parts.{dof, flightDate}
 use Rattle.parts.specs.Shown.{isKnown}
 
 -- the words of an item, among items that fit, are those of its key's rule
-record Ruled (r : Rule) (i : Item) : Type 0 where
+record Ruled (r : Rule) (i : Worded) : Type 0 where
   first-fits : wordFits r (i .first) ≡ true
   more-fit : all (moreFits r) (i .more) ≡ true
 
-ruled : (last : ℕ) (is : List Item) → itemsFit base last is ≡ true → (i : Item) → List·Memᴰ i is → Ruled (ruleIn base (rankIn base (i .key))) i
+ruled : (last : ℕ) (is : List Worded) → itemsFit base last is ≡ true → (i : Worded) → List·Memᴰ i is → Ruled (ruleIn base (rankIn base (i .key))) i
 ruled last [] e i m = absurd (List·Memᴰ·not-nil m)
 ruled last (j ∷ is) e i m =
     let k = rankIn base (j .key) in
@@ -40,12 +38,8 @@ ruled last (j ∷ is) e i m =
     (λ n. ruled k is (c .1) i n)
     (List·Memᴰ·cases-cons m)
 
-valid-items : (r : Field18) → valid18 base r ≡ true → itemsFit base 0 (itemsOf r) ≡ true
-valid-items nothing v = refl
-valid-items (items is) v = both (not (null is)) (itemsFit base 0 is) v .1
-
 -- under DOF stands one date
-dated : (i : Item) → Ruled Day i → (date (i .first) ≡ true) × (join 32 (i .first ∷ i .more) ≡ i .first)
+dated : (i : Worded) → Ruled Day i → (date (i .first) ≡ true) × (join 32 (i .first ∷ i .more) ≡ i .first)
 dated i r = (r .first-fits, go (i .more) (r .more-fit))
   where
     go : (ws : List Word) → all (moreFits Day) ws ≡ true → join 32 (i .first ∷ ws) ≡ i .first
@@ -57,25 +51,26 @@ unfolding base
 dof-day = refl
 
 module _ (s : List ℕ) (e : fits18 s ≡ true) where
-  pub dof-date : hasKey s dof ≡ true → date (wordsOf s dof) ≡ true
+  pub dof-date : hasKey s dof ≡ true → date (wordsUnder s dof) ≡ true
+  unfolding hasKey wordsUnder
   dof-date h =
-      let o = has-item dof (itemsOf (record18 s)) (sym (has-record s dof) ∙ h) in
+      let is = group (split 32 s) .grouped in
+      let o = has-item dof is h in
       let i = o .item in
-      let fit = valid-items (record18 s) (fits-spelling field18 field18-laws s e .0) in
-      let r : Ruled Day i = rw (o .of-key, dof-day) at (ruled 0 (itemsOf (record18 s)) fit i (o .one)) in
+      let r : Ruled Day i = rw (o .of-key, dof-day) at (ruled 0 is (standing-fit s e) i (o .one)) in
       let d = dated i r in
-      ap date (ap (wordsOf s) (sym (o .of-key)) ∙ words-item s e i (o .one) ∙ d .1) ∙ d .0
+      ap date (ap (λ (k : Word). under k is) (sym (o .of-key)) ∙ under-item base 0 is (standing-fit s e) i (o .one) ∙ d .1) ∙ d .0
 
   date-long : (w : Word) → date w ≡ true → length w ≡ 6
   unfolding date
   date-long w d = fits-lengths (wide yearMonthDay) w (both (fits (wide yearMonthDay) w) _ d .0)
 
   -- so fewer than six bytes are none
-  pub dof-none : length (wordsOf s dof) < 6 → wordsOf s dof ≡ []
+  pub dof-none : length (wordsUnder s dof) < 6 → wordsUnder s dof ≡ []
   dof-none l = go (hasKey s dof) refl
     where
-      go : (b : Bool) → hasKey s dof ≡ b → wordsOf s dof ≡ []
-      go true q = absurd (omega (arith, date-long (wordsOf s dof) (dof-date q)))
+      go : (b : Bool) → hasKey s dof ≡ b → wordsUnder s dof ≡ []
+      go true q = absurd (omega (arith, date-long (wordsUnder s dof) (dof-date q)))
       go false q = no-words s dof q
 
 some-bytes : (w : Word) → 6 ≤ length w → null w ≡ false
@@ -83,18 +78,18 @@ some-bytes [] l = absurd (omega arith)
 some-bytes (b ∷ w) l = refl
 
 -- a date is known exactly where field 18 has the item, and then it is a real one
-pub date-known-there : (s : List ℕ) → fits18 s ≡ true → isKnown (dateOf (wordsOf s dof)) ≡ hasKey s dof
+pub date-known-there : (s : List ℕ) → fits18 s ≡ true → isKnown (flightDate (wordsUnder s dof)) ≡ hasKey s dof
 date-known-there s e = go (hasKey s dof) refl
   where
-    go : (b : Bool) → hasKey s dof ≡ b → isKnown (dateOf (wordsOf s dof)) ≡ b
-    go true q = rw (some-bytes (wordsOf s dof) (omega (arith, date-long s e (wordsOf s dof) (dof-date s e q))))
-    go false q = ap (λ (w : Word). isKnown (dateOf w)) (no-words s dof q)
+    go : (b : Bool) → hasKey s dof ≡ b → isKnown (flightDate (wordsUnder s dof)) ≡ b
+    go true q = rw (some-bytes (wordsUnder s dof) (omega (arith, date-long s e (wordsUnder s dof) (dof-date s e q))))
+    go false q = ap (λ (w : Word). isKnown (flightDate w)) (no-words s dof q)
 
 -- AS THE CODE READS IT: w is the word
 
-pub date-none : (s : List ℕ) → fits18 s ≡ true → (w : Word) → w ≡ wordsOf s dof → length w < 6 → Unknown ≡ dateOf (wordsOf s dof)
-date-none s e w is l = sym (ap dateOf (dof-none s e (omega (arith, ap length is))))
+pub date-none : (s : List ℕ) → fits18 s ≡ true → (w : Word) → w ≡ wordsUnder s dof → length w < 6 → Unknown ≡ flightDate (wordsUnder s dof)
+date-none s e w is l = sym (ap flightDate (dof-none s e (omega (arith, ap length is))))
 
 pub date-known : (v w : Word) → w ≡ v → 6 ≤ length w → (y mo d : ℕ)
-    → y ≡ value (take 2 (drop 0 w)) → mo ≡ value (take 2 (drop 2 w)) → d ≡ value (take 2 (drop 4 w)) → Known (2000 + y) mo d ≡ dateOf v
+    → y ≡ value (take 2 (drop 0 w)) → mo ≡ value (take 2 (drop 2 w)) → d ≡ value (take 2 (drop 4 w)) → Known (2000 + y) mo d ≡ flightDate v
 date-known v w is l y mo d ey emo ed = rw (ey, emo, ed, ← is, some-bytes w l)

@@ -1,27 +1,24 @@
 -- The contents of a plan's fields 9 and 16, where they fit, as the code comes to their parts. Assumes nothing.
 use Prim.Native.Nat.{ℕ, zero, suc, _+_, _*_, _-_, _<_, _≤_}
 use mathlib.Core.Path.{_≡_, refl, sym, ap, _∙_}
-use mathlib.Core.Bool.{Bool, true, false, false≢true}
+use mathlib.Core.Bool.{true, false≢true}
 use mathlib.Core.List.{List, [], _∷_, _++_, append-nil}
 use native.Mathlib.Omega.{arith}
 use lib.Dec.{leb}
-use lib.ListN.{length, take, drop, getD, length-append, length-take, length-drop}
-use lib.Seq.{drop-append-le, take-at, drop-at, drop-drop}
+use lib.ListN.{length, take, drop, getD, length-append}
+use lib.Seq.{take-at, drop-at, drop-drop}
 use borrow.Author.Tests.{leb-true}
 use Rattle.text.specs.Words.{Word, all, join, split}
 use Rattle.text.proofs.Tests.{both}
 use Rattle.text.proofs.Index.{split-cut}
 use Rattle.text.proofs.Joined.{join-split}
-use Rattle.shape.specs.declared.ElapsedRead.the-variants.{ElapsedTime, NoElapsedTime}
 use Rattle.shape.specs.Numbers.{value}
-use Rattle.shape.specs.Time.{elapsedHours, elapsedFits, elapsedRead}
-use Rattle.shape.proofs.Times.{time-length}
+use Rattle.shape.specs.Time.{elapsedHours}
 use Rattle.head.specs.Field9.{number, aircraft, countFits, countOf, aircraftFits, fits9}
-use Rattle.aerodromes.specs.Aerodromes.{fourLetters, joinedOf, first, others}
+use Rattle.aerodromes.specs.Aerodromes.{fourLetters, first, others}
 use Rattle.aerodromes.specs.Field16.{mostAlternates, fits16plan, record16plan}
-use Rattle.aerodromes.proofs.Aerodromes.{four-length, timed-time, timed-length}
+use Rattle.aerodromes.proofs.Aerodromes.{four-length, joined-length}
 use Rattle.aerodromes.proofs.Field16.{plan-parts}
-use Rattle.parts.specs.Parts.{elapsedAt}
 
 -- FIELD 9: the number has two digits at most
 
@@ -91,7 +88,7 @@ module _ (s : List ℕ) (e : fits16plan s ≡ true) where
       sym (each-joined lead alternates) ∙ sym (ap (join 32) words) ∙ join-split 32 s
 
   eight : length lead ≡ 8
-  eight = timed-length elapsedHours lead (plan-parts s e .0)
+  eight = joined-length elapsedHours lead (plan-parts s e .0)
 
   few : (leb (length alternates) mostAlternates ≡ true) × (all fourLetters alternates ≡ true)
   few = both (leb (length alternates) mostAlternates) (all fourLetters alternates) (plan-parts s e .1)
@@ -109,24 +106,3 @@ module _ (s : List ℕ) (e : fits16plan s ≡ true) where
       (sym (drop-drop (5 * i + 1) 8 s)
       ∙ ap (λ (t : List ℕ). drop (5 * i + 1) (drop 8 t)) (sym whole) ∙ ap (drop (5 * i + 1)) (drop-at lead (behindEach alternates) 8 eight))
       ∙ each-at alternates i (few .1) l
-
-  -- the elapsed time
-
-  joined-is : take 4 (joinedOf s) ≡ joinedOf lead
-  joined-is =
-      ap (λ (t : List ℕ). take 4 (drop 4 t)) (sym whole)
-      ∙ ap (take 4) (drop-append-le 4 lead (behindEach alternates) (omega (arith, eight)))
-      ∙ take-at (drop 4 lead) (behindEach alternates) 4 (omega (arith, length-drop 4 lead, eight))
-
-  pub elapsed-is : elapsedAt s ≡ ElapsedTime (record16plan s .elapsed)
-  elapsed-is =
-      let t : elapsedFits (joinedOf lead) ≡ true = timed-time elapsedHours lead (plan-parts s e .0) in
-      ap elapsedRead joined-is ∙ rw t
-
--- where there is no room for a time, there is none
-pub elapsed-short : (s : List ℕ) → length s < 8 → elapsedAt s ≡ NoElapsedTime
-elapsed-short s h = go (elapsedFits (take 4 (drop 4 s))) refl
-  where
-    go : (b : Bool) → elapsedFits (take 4 (drop 4 s)) ≡ b → elapsedAt s ≡ NoElapsedTime
-    go true q = absurd (omega (arith, time-length elapsedHours (take 4 (drop 4 s)) q, length-take 4 (drop 4 s), length-drop 4 s))
-    go false q = rw q

@@ -14,7 +14,7 @@ use Rattle.head.specs.Runs.{lead}
 use Rattle.head.specs.Field9.{number, record9}
 use Rattle.aerodromes.specs.Field13.{record13}
 use Rattle.aerodromes.specs.Field16.{record16plan}
-use Rattle.aerodromes.proofs.Aerodromes.{timed-length}
+use Rattle.aerodromes.proofs.Aerodromes.{joined-length}
 use Rattle.aerodromes.proofs.Asked.{named16plan}
 use Rattle.sent.specs.Sent.{contents}
 use Rattle.kinds.specs.declared.MessageType.{MessageType}
@@ -165,7 +165,7 @@ module _ (m : List ℕ) (o : Own Fpl m) where
   departs : Holds m (four (fieldFrom m plan13)) (record13 (contentIn m plan13) .aerodrome)
   departs =
       let s = contentIn m plan13 in
-      first-holds m (fieldFrom m plan13) s (at plan13) 4 (take 4 s) (omega (arith, timed-length clockHours s (thirteen-fits m o))) refl
+      first-holds m (fieldFrom m plan13) s (at plan13) 4 (take 4 s) (omega (arith, joined-length clockHours s (thirteen-fits m o))) refl
 
   bound : Holds m (four (fieldFrom m plan16)) (record16plan (contentIn m plan16) .destination)
   bound =

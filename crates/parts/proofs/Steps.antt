@@ -19,7 +19,7 @@ use Rattle.head.specs.Field7.{record7}
 use Rattle.head.specs.Field9.{number, aircraft, countOf as countOf9, fits9, record9}
 use Rattle.aerodromes.specs.Field13.{fits13, record13}
 use Rattle.aerodromes.specs.Field16.{fits16plan, record16plan}
-use Rattle.other.specs.Field18.{fits18, wordsOf}
+use Rattle.other.specs.Field18.{fits18, wordsUnder}
 use Rattle.kinds.specs.declared.MessageType.{MessageType}
 use Rattle.kinds.specs.declared.MessageType.the-variants.{Fpl}
 use Rattle.kinds.specs.declared.Form.{Form}
@@ -35,9 +35,9 @@ use Rattle.parts.specs.declared.Part.the-variants.{At, Refused as NoFiel
 use Rattle.parts.specs.declared.Aircraft.{Aircraft}
 use Rattle.parts.specs.declared.OffBlock.{OffBlock}
 use Rattle.parts.specs.declared.Destination.{Destination}
-use Rattle.parts.specs.declared.Date.{Date}
+use Rattle.parts.specs.declared.FlightDate.{FlightDate}
 use Rattle.parts.specs.Parts.{Own, contentIn, spanAt, numbersIn, rankIn, fieldIn}
-use Rattle.parts.specs.Parts.{spanOf, aircraftAs, offBlockAs, destinationAs, dof, dateOf, planOf}
+use Rattle.parts.specs.Parts.{spanOf, aircraftAs, offBlockAs, destinationAs, dof, flightDate, planOf}
 use Rattle.parts.proofs.Own.{field-holds}
 use Rattle.parts.proofs.Fields.{alternates-long, alternates-few}
 
@@ -182,11 +182,11 @@ module _ (m : List ℕ) (s : Span) (w : Word) where
   unfolding planOf
   destination-at e f = ap₂ (λ (x : Span) (v : Word). destinationAs (x .from) (record16plan v)) e f
 
-pub date-at : (m : List ℕ) (w : Word) → w ≡ contentIn m plan18 → dateOf (wordsOf w dof) ≡ planOf m .date
+pub date-at : (m : List ℕ) (w : Word) → w ≡ contentIn m plan18 → flightDate (wordsUnder w dof) ≡ planOf m .date
 unfolding planOf
-date-at m w f = ap (λ (v : Word). dateOf (wordsOf v dof)) f
+date-at m w f = ap (λ (v : Word). flightDate (wordsUnder v dof)) f
 
-pub plan-is : (m : List ℕ) (i : Span) (a : Aircraft) (b : OffBlock) (d : Destination) (t : Date)
+pub plan-is : (m : List ℕ) (i : Span) (a : Aircraft) (b : OffBlock) (d : Destination) (t : FlightDate)
     → i ≡ planOf m .identification → a ≡ planOf m .aircraft → b ≡ planOf m .departure → d ≡ planOf m .destination → t ≡ planOf m .date
     → record { identification = i; aircraft = a; departure = b; destination = d; date = t } ≡ planOf m
 plan-is m i a b d t ei ea eb ed et = rw (ei, ea, eb, ed, et)

@@ -11,11 +11,11 @@ ghost use Rattle.head.specs.Field7.{record7};
 ghost use Rattle.head.specs.Field9.{fits9, countOf};
 ghost use Rattle.aerodromes.specs.Field13.{fits13, record13};
 ghost use Rattle.aerodromes.specs.Field16.{fits16plan, record16plan};
-ghost use Rattle.other.specs.Field18.{fits18, wordsOf};
+ghost use Rattle.other.specs.Field18.{fits18, wordsUnder};
 ghost use Rattle.kinds.specs.declared.MessageType as MessageType;
 ghost use Rattle.kinds.specs.Kinds.{leastOf, greatestOf, formsOf, numberOf};
 ghost use Rattle.parts.specs.Parts.{takenOf, Own, spanOf, spanAt, fieldIn, fieldOf, contentAsked};
-ghost use Rattle.parts.specs.Parts.{dof, aircraftAs, offBlockAs, elapsedAt, destinationAs, dateOf, planOf, plannedAs, plannedOf};
+ghost use Rattle.parts.specs.Parts.{dof, aircraftAs, offBlockAs, destinationAs, flightDate, planOf, plannedAs, plannedOf};
 ghost use Rattle.parts.specs.Shown.{Shows, ShowsPlan};
 use kinds::MessageType;
 use message::Answer;
@@ -58,7 +58,7 @@ pub struct Destination {
 }
 
 // DOF of field 18.
-pub enum Date {
+pub enum FlightDate {
     Known {
         year: usize,
         month: usize,
@@ -73,7 +73,7 @@ pub struct PlanParts {
     pub aircraft: Aircraft,
     pub departure: OffBlock,
     pub destination: Destination,
-    pub date: Date,
+    pub date: FlightDate,
 }
 
 pub enum Planned {
@@ -248,21 +248,11 @@ fn off_block_in(from: usize, thirteen: &[u8]) -> OffBlock
     }
 }
 
-// The elapsed time behind the first four bytes, if one stands there.
-fn elapsed_behind(s: &[u8]) -> ElapsedRead
-    ensures { λ r. ⌜ r ≡ elapsedAt (now (s .entry)) ⌝ }
-{
-    if s.len() < 8 {
-        return ElapsedRead::NoElapsedTime;
-    }
-    Elapsed::read(&s[4..8])
-}
-
 fn elapsed_of(sixteen: &[u8]) -> Elapsed
     requires { ⌜ fits16plan (now sixteen) ≡ true ⌝ }
     ensures { λ r. ⌜ r ≡ record16plan (now (sixteen .entry)) .elapsed ⌝ }
 {
-    match elapsed_behind(sixteen) {
+    match aerodromes::elapsed(sixteen) {
         ElapsedRead::ElapsedTime(t) => t,
         ElapsedRead::NoElapsedTime => Elapsed(0),
     }
@@ -301,15 +291,15 @@ fn destination_in(from: usize, sixteen: &[u8]) -> Destination
     }
 }
 
-fn date_in(eighteen: &[u8]) -> Date
+fn date_in(eighteen: &[u8]) -> FlightDate
     requires { ⌜ fits18 (now eighteen) ≡ true ⌝ }
-    ensures { λ r. ⌜ r ≡ dateOf (wordsOf (now (eighteen .entry)) dof) ⌝ }
+    ensures { λ r. ⌜ r ≡ flightDate (wordsUnder (now (eighteen .entry)) dof) ⌝ }
 {
     let w = other::words_of(eighteen, b"DOF");
     if w.len() < 6 {
-        return Date::Unknown;
+        return FlightDate::Unknown;
     }
-    Date::Known {
+    FlightDate::Known {
         year: 2000 + shape::two(w, 0),
         month: shape::two(w, 2),
         day: shape::two(w, 4),

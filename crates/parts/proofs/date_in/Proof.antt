@@ -1,5 +1,5 @@
 -- `parts::date_in` meets its contract. Assumes nothing.
-use Rattle.other.specs.Field18.{wordsOf}
+use Rattle.other.specs.Field18.{wordsUnder}
 use Rattle.parts.specs.Parts.{dof}
 use Rattle.parts.proofs.Dates.{date-none, date-known}
 use borrow.Author.Needs.{needs}
@@ -34,7 +34,7 @@ returns-2 c =
     let long = c .before .before .before in
     let word = long .before in
     let start = word .before .before .before in
-    date-known (wordsOf (start .args .eighteen .now) dof) (word .words-of .result .now) (word .words-of .ensures) (long .if1 .left) _ _ _
+    date-known (wordsUnder (start .args .eighteen .now) dof) (word .words-of .result .now) (word .words-of .ensures) (long .if1 .left) _ _ _
     (c .before .before .two .ensures .0) (c .before .two2 .ensures .0) (c .two3 .ensures .0)
 
 pub date-in-spec : {M : Type 1} → statement M
