@@ -24,7 +24,7 @@ use Rattle.message.proofs.Readers.{refuses-all, accepts-all, one-answer, one-ac
 use Rattle.history.specs.Demand3.{updater, Meets as Meets3}
 use Rattle.history.proofs.Demand3.{demand3 as of-history}
 use Rattle.demands.specs.Demands.{Reader, Reads, Demand1, accepted, refused, IsRecord, Fits, Spelled, spellingIn, Demand2, Passes, NotPassing}
-use Rattle.demands.proofs.Places.{refused-place}
+use Rattle.message.proofs.Places.{refused-place}
 use Rattle.demands.proofs.Named.{refused-named}
 use Rattle.demands.proofs.Pointed.{refused-points}
 

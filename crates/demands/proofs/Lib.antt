@@ -1,5 +1,4 @@
 pub mod Examples
-pub mod Places
 pub mod Named
 pub mod Pointed
 pub mod Demands

@@ -11,5 +11,6 @@ pub mod Accepted
 pub mod Canonical
 pub mod Meaning
 pub mod Answers
+pub mod Places
 pub mod Examples
 pub mod Readers

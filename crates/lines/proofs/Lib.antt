@@ -1,0 +1,4 @@
+pub mod Decimal
+pub mod Rooms
+pub mod Writing
+pub mod Steps
