@@ -86,3 +86,12 @@ refused-short number field place room h k l =
     let b = few field 2 (omega arith) in
     let c = long place room l in
     simp length-append (omega arith)
+
+-- and nine where number, field and place have one digit each
+pub refused-least : (number field place : ℕ) → number < 10 → field < 10 → place < 10 → length (refusedLine number field place) ≤ 9
+unfolding refusedLine
+refused-least number field place h k l =
+    let a = few number 0 h in
+    let b = few field 0 k in
+    let c = few place 0 l in
+    simp length-append (omega arith)

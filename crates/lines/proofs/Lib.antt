@@ -2,3 +2,5 @@ pub mod Decimal
 pub mod Rooms
 pub mod Writing
 pub mod Steps
+pub mod Pieces
+pub mod Examples

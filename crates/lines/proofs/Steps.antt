@@ -1,26 +1,62 @@
 -- What was told of a piece, where there is room for its line. Assumes nothing.
-use Prim.Native.Nat.{ℕ, _+_, _-_, _≤_, _<_}
-use mathlib.Core.Path.{_≡_, sym, ap, _∙_}
+use Prim.Native.Nat.{ℕ, _+_, _*_, _-_, _≤_, _<_}
+use mathlib.Core.Path.{_≡_, refl, sym, ap, _∙_}
+use mathlib.Core.Bool.{Bool, true, false}
 use mathlib.Core.List.{List, [], _++_}
 use native.Mathlib.Omega.{arith}
+use lib.Dec.{leb}
 use lib.ListN.{length, take, drop, length-drop, take-append-drop}
-use borrow.Author.Tests.{le-ltb, lt-ltb}
+use borrow.Author.Tests.{le-ltb, lt-ltb, leb-true, leb-false}
 use Rattle.text.specs.Lent.{front}
 use Rattle.text.proofs.Index.{rest}
 use Rattle.text.proofs.Lent.{lent}
-use Rattle.outer.specs.Outer.{most}
+use Rattle.outer.specs.declared.Outer.{Outer}
+use Rattle.outer.specs.declared.Outer.the-variants.{Good, Bad}
+use Rattle.outer.specs.Outer.{most, outer}
+use Rattle.outer.proofs.Good.{good-passed}
 use Rattle.kinds.specs.declared.MessageType.{MessageType}
 use Rattle.message.specs.declared.Answer.{Answer}
 use Rattle.message.specs.declared.Answer.the-variants.{Accepted, Refused}
-use Rattle.message.specs.Reading.{spellingOf, answerOf, outAfter}
+use Rattle.message.specs.Reading.{spellingOf, outerAs, answerOf, outAfter}
 use Rattle.message.proofs.Reached.{accepted-taken}
 use Rattle.message.proofs.Canonical.{accepted-shorter}
-use Rattle.message.proofs.Answers.{refused-leaves, accepted-writes, refused-number}
+use Rattle.message.proofs.Answers.{OuterNumber, outer-number, refused-leaves, accepted-writes, refused-number}
 use Rattle.message.proofs.Places.{refused-place}
+use Rattle.lines.specs.declared.Told.{Told}
 use Rattle.lines.specs.Lines.{acceptedLine, refusedLine, lineAs, lineOf, noRoom, Tells}
-use Rattle.lines.proofs.Decimal.{refused-short}
+use Rattle.lines.proofs.Decimal.{refused-short, refused-least}
 use Rattle.lines.proofs.Rooms.{enough}
 use Rattle.lines.proofs.Writing.{as-long, length-accepted, whole}
+
+-- where there is room, the answer is the piece's and the line is whole
+pub record Whole (m out : List ℕ) (r : Told) (after : List ℕ) : Type 0 where
+  pub answer-is : r .answer ≡ answerOf m most
+  pub length-is : r .length ≡ length (lineOf m)
+  pub written : after ≡ front (lineOf m) out
+
+pub whole-told : (m out : List ℕ) (r : Told) (after : List ℕ) → Tells m out r after → length m + 12 ≤ length out → Whole m out r after
+whole-told m out r after t h =
+    let f = le-ltb (length out) (length m + 12) h in
+    record { answer-is = rw f at (t .answer-is); length-is = rw f at (t .length-is); written = rw f at (t .written) }
+
+-- A PIECE OF ONE BYTE is no message: its line takes nine
+pub one-byte : (m : List ℕ) → length m ≤ 1 → length (lineOf m) ≤ 9
+unfolding lineOf answerOf
+one-byte m h = go (outer m) refl (outer-number m)
+  where
+    go : (o : Outer) → outer m ≡ o → OuterNumber o → length (lineAs (outerAs o m most) m) ≤ 9
+    go Good g n = let p = good-passed m g in absurd (omega (arith, p .framed .long))
+    go (Bad number place) g n =
+        refused-least number 0 place (omega (arith, n .1)) (omega arith)
+        (omega (arith, refused-place m most number 0 place (ap (λ (o : Outer). outerAs o m most) g)))
+
+-- so no line takes more than nine times the bytes of its piece
+pub nine-times : (m out : List ℕ) (r : Told) (after : List ℕ) → Tells m out r after → Whole m out r after → 1 ≤ length m → r .length ≤ 9 * length m
+nine-times m out r after t w h = go (leb (length m) 1) refl
+  where
+    go : (b : Bool) → leb (length m) 1 ≡ b → r .length ≤ 9 * length m
+    go true e = omega (arith, w .length-is, one-byte m (leb-true (length m) 1 e))
+    go false e = omega (arith, t .short, leb-false (length m) 1 e)
 
 -- no room
 pub none-told : (m out : List ℕ) → length out < length m + 12 → Tells m out noRoom out

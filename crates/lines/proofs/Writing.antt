@@ -7,6 +7,7 @@ use lib.Dec.{eqb}
 use borrow.Author.Tests.{eqb-true}
 use lib.ListN.{length, take, drop, set, getD, length-append, length-drop, take-append-drop}
 use lib.Seq.{drop-drop, take-at, drop-at, set-at, length-take-le, drop-append-add}
+use Rattle.io.specs.Counts.{Counts}
 use Rattle.text.specs.Lent.{front}
 use Rattle.text.proofs.Index.{drop-here}
 use Rattle.text.proofs.Lent.{length-front}
@@ -50,6 +51,13 @@ module _ {whole out₀ out : List ℕ} {o : ℕ} (w left : List ℕ) (t : Writin
 
   pub part-written : (mid : List ℕ) (p : ℕ) → p ≡ o + length w → mid ≡ take o out ++ front w (drop o out) → Writing whole out₀ mid p left
   part-written mid p e q = subst (λ (i : ℕ). Writing whole out₀ mid i left) (sym e) (onward w left t mid q)
+
+-- what was written stands inside
+pub counted : (w out₀ out : List ℕ) (o : ℕ) → o ≡ length w → out ≡ front w out₀ → Counts o out
+unfolding front
+counted w out₀ out o l e =
+    let n : o ≤ length out = omega (arith, ap length e, length-append w (drop (length w) out₀)) in
+    (n, sym (length-take-le o out n))
 
 -- WHAT STANDS AROUND A SPELLING
 

@@ -7,6 +7,7 @@ use mathlib.Core.List.{List, [], _∷_, _++_}
 use lib.Dec.{ltb}
 use lib.ListN.{length}
 use Rattle.alphabet.specs.Text.{bytes}
+use Rattle.text.specs.Words.{Word}
 use Rattle.text.specs.Lent.{front}
 use Rattle.outer.specs.Outer.{most}
 use Rattle.kinds.specs.declared.MessageType.{MessageType}
@@ -51,6 +52,11 @@ lineAs (Refused number field place) m = refusedLine number field place
 -- the line of a piece, of which reading is lent as many bytes as a message may have
 unfoldable pub lineOf : List ℕ → List ℕ
 lineOf m = lineAs (answerOf m most) m
+
+-- what is said of each of a list of pieces, one behind the other
+abbrev pub each : (Word → List ℕ) → List Word → List ℕ
+each f [] = []
+each f (m ∷ ms) = f m ++ each f ms
 
 -- WHERE IT IS WRITTEN: a line takes at most twelve bytes more than its piece. Where fewer are lent nothing is written, and the answer is 11
 

@@ -1,7 +1,7 @@
 // What the programs read and print. No contract can say what is read or printed; what a line says of a time is spelled by a function with one.
 // A program cannot end with a status: what could not be read or written it says on standard error, and ./run ends with status 1 then.
 ghost use mathlib.Core.Path.{_≡_};
-ghost use Prim.Native.Nat.{_+_, _<_};
+ghost use Prim.Native.Nat.{_+_, _<_, _≤_};
 ghost use Rattle.io.specs.Counts.{Counts};
 ghost use Rattle.shape.specs.Time.{spellClock};
 use aerodromes::Aerodrome;
@@ -35,6 +35,22 @@ pub fn input(buf: &mut [u8]) -> usize
     let n = io::read_full(STDIN_FILENO, buf);
     if n < buf.len() {
         expect_end();
+    }
+    n
+}
+
+// The most bytes of messages that a program reads.
+const MOST_INPUT: usize = 65536;
+
+// Reads the messages of standard input, and gives the count. Of more than `MOST_INPUT` bytes it says `TOO LONG`, and gives none; `buf` has one byte more
+// than that, to show it.
+pub fn messages(buf: &mut [u8; 65537]) -> usize
+    ensures { λ r. ⌜ (r ≤ 65536) × Counts r (now (buf .exit)) ⌝ }
+{
+    let n = input(buf);
+    if MOST_INPUT < n {
+        print(b"TOO LONG\n");
+        return 0;
     }
     n
 }
