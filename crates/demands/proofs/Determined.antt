@@ -20,6 +20,8 @@ use Rattle.kinds.specs.declared.Form.{Form}
 use Rattle.kinds.specs.Kinds.{firstEntry}
 use Rattle.forms.specs.Forms.{rankIn, writtenOf}
 use Rattle.message.specs.declared.Answer.{Answer}
+use Rattle.lines.specs.declared.Told.{Told}
+use Rattle.lines.specs.Lines.{Tells}
 use Rattle.state.specs.declared.Strip.{Strip}
 use Rattle.opening.specs.declared.Opening.{Opening}
 use Rattle.opening.specs.Opening.{openingOf, scratchAfter}
@@ -186,3 +188,11 @@ updates-one b o a c after left u v = (u .answer-is ∙ sym (v .answer-is), u .ou
 
 pub read-one : (m out : List ℕ) (a b : Answer) (after left : List ℕ) → Reads m out a after → Reads m out b left → (a ≡ b) × (after ≡ left)
 read-one m out a b after left r q = (r .answer-is ∙ sym (q .answer-is), r .output-is ∙ sym (q .output-is))
+
+-- THE LINE OF A PIECE: what is told of it, and every byte of the output
+
+pub line-one : (m out : List ℕ) (r q : Told) (after left : List ℕ) → Tells m out r after → Tells m out q left → (r ≡ q) × (after ≡ left)
+line-one m out r q after left t u = (
+  ap₂ (λ (a : Answer) (n : ℕ). record { answer = a; length = n }) (t .answer-is ∙ sym (u .answer-is)) (t .length-is ∙ sym (u .length-is)),
+  t .written ∙ sym (u .written),
+)

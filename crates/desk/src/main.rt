@@ -12,9 +12,6 @@ use state::State;
 use state::Strip;
 use strip::Updated;
 
-// The most bytes that are read.
-const MOST: usize = 65536;
-
 // What the desk holds: nothing yet, or a flight's state and how many bytes of a buffer its strip takes.
 pub enum Held {
     Nothing,
@@ -124,14 +121,9 @@ fn run(s: &[u8], strip: &mut [u8]) -> Held
     desk
 }
 
-// One byte more than may be read shows that there is too much, before anything is printed.
 fn main() {
     let mut buffer = [0u8; 65537];
-    let n = say::input(&mut buffer);
-    if MOST < n {
-        say::print(b"TOO LONG\n");
-        return;
-    }
+    let n = say::messages(&mut buffer);
     let mut strip = [0u8; outer::MOST_BYTES];
     run(&buffer[..n], &mut strip);
 }

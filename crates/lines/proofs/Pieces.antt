@@ -2,7 +2,9 @@
 use Prim.Native.Nat.{ℕ, _+_, _-_, _<_, _≤_}
 use mathlib.Core.Path.{_≡_, sym, ap}
 use mathlib.Core.List.{List, _++_}
-use lib.ListN.{length, take, drop}
+use native.Mathlib.Omega.{arith}
+use lib.ListN.{length, take, drop, length-drop}
+use lib.Seq.{length-take-le}
 use Rattle.text.specs.Words.{Word}
 use Rattle.text.specs.Lent.{front}
 use Rattle.pieces.specs.Pieces.{whiteAhead, pieceEnd, piecesOf}
@@ -10,6 +12,17 @@ use Rattle.pieces.proofs.Walk.{to-front, next-piece, no-piece}
 use Rattle.canonical.proofs.Turns.{Writing, begin, due, all-written}
 use Rattle.lines.specs.Lines.{each}
 use Rattle.lines.proofs.Writing.{part-written}
+
+-- a piece that begins before the end has some bytes, and ends there at the latest
+pub record Some (s : List ℕ) (at e : ℕ) : Type 0 where
+  pub long : at + length (take (e - at) (drop at s)) ≡ e
+  pub least : 1 ≤ length (take (e - at) (drop at s))
+  pub inside : e ≤ length s
+
+pub some : (s : List ℕ) (at e : ℕ) → at < length s → e ≡ pieceEnd s at → Some s at e
+some s at e h q =
+    let l = length-take-le (e - at) (drop at s) (omega (arith, length-drop at s)) in
+    record { long = omega arith; least = omega arith; inside = omega arith }
 
 module _ (said : Word → List ℕ) (s out₀ : List ℕ) where
   -- a piece begins at `at`, and what is left to write is what is said from there on

@@ -4,7 +4,6 @@ use mathlib.Core.List.{List, [], _∷_, _++_}
 use Prim.Native.Nat.{ℕ}
 use Rattle.alphabet.specs.Text.{bytes}
 use Rattle.alphabet.specs.Alphabet.{white}
-use Rattle.text.specs.Words.{Word}
 use Rattle.pieces.specs.Pieces.{piecesOf}
 use Rattle.lines.specs.Lines.{lineOf, each}
 use Rattle.lines.proofs.Examples.{cancelled-line, not-a-time-line, not-read-line}

@@ -1,14 +1,19 @@
 -- The line of a place and how it is shown, at an index: where each stops, the next step and the end; how long the lines are. Assumes nothing.
-use Prim.Native.Nat.{ℕ, zero, suc, _+_, _-_, _<_, _≤_}
+use Prim.Native.Nat.{ℕ, zero, suc, _+_, _-_, _<_, _≤_, min}
 use mathlib.Core.Path.{_≡_, refl, sym, ap, _∙_}
 use mathlib.Core.Bool.{true, false}
-use mathlib.Core.List.{List, [], _∷_, _++_}
+use mathlib.Core.List.{List, [], _∷_, _++_, append-nil}
 use native.Mathlib.Omega.{arith}
 use native.Mathlib.Numerals.{add-one}
-use lib.ListN.{length, take, drop, getD, length-append}
-use Rattle.text.specs.Lent.{front}
+use lib.ListN.{length, take, drop, getD, length-append, length-take, length-drop}
 use Rattle.text.proofs.Index.{drop-here, drop-end}
-use Rattle.mark.specs.Mark.{endsLine, lineStart, ahead, lineEnd, shownAs, shownAll, blanks, shownLine, markLine, drawnAt}
+use Rattle.outer.specs.Outer.{most}
+use Rattle.kinds.specs.declared.MessageType.{MessageType}
+use Rattle.message.specs.declared.Answer.{Answer}
+use Rattle.message.specs.declared.Answer.the-variants.{Accepted, Refused}
+use Rattle.message.specs.Reading.{answerOf}
+use Rattle.lines.specs.Lines.{lineOf as listingLine}
+use Rattle.mark.specs.Mark.{endsLine, lineStart, ahead, lineEnd, shownAs, shownAll, blanks, shownLine, markLine, drawnAt, drawn, drawnFor, markedOf}
 
 -- WHERE THE LINE BEGINS
 
@@ -75,12 +80,27 @@ pub length-mark : (n : ℕ) → length (markLine n) ≡ n + 2
 unfolding markLine
 length-mark n = omega (arith, length-append (blanks n) (94 ∷ (10 ∷ [])), length-blanks n)
 
-pub front-long : (w out : List ℕ) → length w ≤ length (front w out)
-unfolding front
-front-long w out = omega (arith, length-append w (drop (length w) out))
-
 -- the line and the mark, where a line was found to begin and end
 pub drawn-is : (s : List ℕ) (place start end : ℕ) → start ≡ lineStart s place → end ≡ lineEnd s place
     → shownLine (take (end - start) (drop start s)) ++ markLine (place - start) ≡ drawnAt s place
 unfolding drawnAt
 drawn-is s place start end a b = rw (a, b)
+
+pub drawn-short : (s : List ℕ) (place : ℕ) → length (drawn s place) ≤ length s + length s + 3
+unfolding drawnAt
+drawn-short s place =
+    let p = min (length s) place in
+    let from = lineStart s p in
+    let line = take (lineEnd s p - from) (drop from s) in
+    let l : length line ≤ length s = omega (arith, length-take (lineEnd s p - from) (drop from s), length-drop from s) in
+    omega (arith, length-append (shownLine line) (markLine (p - from)), length-line line, length-mark (p - from))
+
+-- WHAT IS PRINTED, by the answer
+
+pub accepted-marked : (m : List ℕ) (t : MessageType) (n : ℕ) → answerOf m most ≡ Accepted t n → listingLine m ≡ markedOf m
+unfolding markedOf
+accepted-marked m t n e = sym (ap (λ (a : Answer). listingLine m ++ drawnFor a m) e ∙ append-nil (listingLine m))
+
+pub refused-marked : (m : List ℕ) (number field place : ℕ) → answerOf m most ≡ Refused number field place → listingLine m ++ drawn m place ≡ markedOf m
+unfolding markedOf
+refused-marked m number field place e = sym (ap (λ (a : Answer). listingLine m ++ drawnFor a m) e)

@@ -1,4 +1,5 @@
--- What is drawn below a refusal: the line of the message on which its place stands, and a mark below the byte of the place. Assumes nothing.
+-- What is drawn below a refusal: the line of the message on which its place stands, and a mark below the byte of the place; and all that the
+-- program prints. Assumes nothing.
 use Prim.Native.Nat.{ℕ, zero, suc, _+_, _-_, min}
 use mathlib.Core.Path.{_≡_, refl}
 use mathlib.Core.Bool.{Bool, cond, _||_}
@@ -7,6 +8,12 @@ use lib.Dec.{eqb, ltb}
 use lib.ListN.{length, take, drop, getD}
 use Rattle.alphabet.specs.Text.{bytes}
 use Rattle.alphabet.specs.Alphabet.{oneOf}
+use Rattle.outer.specs.Outer.{most}
+use Rattle.pieces.specs.Pieces.{piecesOf}
+use Rattle.message.specs.declared.Answer.{Answer}
+use Rattle.message.specs.declared.Answer.the-variants.{Accepted, Refused}
+use Rattle.message.specs.Reading.{answerOf}
+use Rattle.lines.specs.Lines.{lineOf as listingLine, each}
 
 -- THE LINE
 
@@ -59,6 +66,19 @@ drawnAt s place = shownLine (lineOf s place) ++ markLine (place - lineStart s pl
 -- the two lines for any place: one beyond the end is marked at the end
 abbrev pub drawn : List ℕ → ℕ → List ℕ
 drawn s place = drawnAt s (min (length s) place)
+
+-- WHAT IS PRINTED of a piece: the line that the listing has, and behind a refusal the two lines of its place
+
+abbrev pub drawnFor : Answer → List ℕ → List ℕ
+drawnFor (Accepted t n) m = []
+drawnFor (Refused number field place) m = drawn m place
+
+unfoldable pub markedOf : List ℕ → List ℕ
+markedOf m = listingLine m ++ drawnFor (answerOf m most) m
+
+-- and of an input
+abbrev pub marked : List ℕ → List ℕ
+marked s = each markedOf (piecesOf s)
 
 -- EXAMPLES, computed
 

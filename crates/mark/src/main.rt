@@ -4,14 +4,25 @@
 // just behind the message, something is missing there, and the mark stands behind the line's last byte. Every byte has one column: a tab is shown as
 // a space, any other byte that is not printable as `?`. A refusal with 11, whose place says nothing, does not come up: the room lent is always enough.
 ghost use mathlib.Core.Path.{_≡_};
-ghost use Prim.Native.Nat.{_+_, _≤_};
+ghost use Prim.Native.Nat.{_+_, _*_, _≤_};
 ghost use lib.ListN.{length};
+ghost use Rattle.io.specs.Counts.{Counts};
 ghost use Rattle.text.specs.Lent.{front};
-ghost use Rattle.mark.specs.Mark.{endsLine, lineStart, lineEnd, shownAs, shownAll, blanks, shownLine, markLine, drawnAt, drawn};
+ghost use Rattle.mark.specs.Mark.{
+  endsLine,
+  lineStart,
+  lineEnd,
+  shownAs,
+  shownAll,
+  blanks,
+  shownLine,
+  markLine,
+  drawnAt,
+  drawn,
+  markedOf,
+  marked,
+};
 use message::Answer;
-
-// The most bytes that are read.
-const MOST: usize = 65536;
 
 fn ends_line(b: u8) -> bool
     ensures { λ r. ⌜ r ≡ endsLine b ⌝ }
@@ -129,7 +140,6 @@ fn draw_at(s: &[u8], place: usize, out: &mut [u8]) -> usize
 fn draw(s: &[u8], place: usize, out: &mut [u8]) -> usize
     requires { ⌜ length (now s) + length (now s) + 3 ≤ length (now out) ⌝ }
     ensures { λ r. ⌜ (r ≡ length (drawn (now (s .entry)) place)) × (now (out .exit) ≡ front (drawn (now (s .entry)) place) (now (out .entry))) ⌝ }
-    ensures { λ r. ⌜ r ≤ length (now (out .entry)) ⌝ }
 {
     if s.len() < place {
         return draw_at(s, s.len(), out);
@@ -137,51 +147,54 @@ fn draw(s: &[u8], place: usize, out: &mut [u8]) -> usize
     draw_at(s, place, out)
 }
 
-// Prints both lines. Their room is twice `MOST` bytes, and three for the mark and the LFs.
-fn point(piece: &[u8], place: usize)
-    requires { ⌜ length (now piece) ≤ 65536 ⌝ }
+// Writes the line of a piece at the front of `out`, and both others if it is refused. They take fourteen times its bytes at most.
+fn put_marked(piece: &[u8], out: &mut [u8]) -> usize
+    requires { ⌜ (1 ≤ length (now piece)) × (14 * length (now piece) ≤ length (now out)) ⌝ }
+    ensures { λ r. ⌜ (r ≡ length (markedOf (now (piece .entry)))) × (now (out .exit) ≡ front (markedOf (now (piece .entry))) (now (out .entry))) ⌝ }
+    ensures { λ r. ⌜ r ≤ 14 * length (now (piece .entry)) ⌝ }
 {
-    let mut out = [0u8; 131075];
-    let n = draw(piece, place, &mut out);
-    say::print(&out[..n]);
-}
-
-// The line for a piece, and the mark if it is refused.
-fn tell(piece: &[u8])
-    requires { ⌜ length (now piece) ≤ 65536 ⌝ }
-{
-    let mut out = [0u8; outer::MOST_BYTES];
-    match message::read(piece, &mut out) {
-        Answer::Accepted(t, n) => say::accepted(t, &out[..n]),
+    let told = lines::line(piece, out);
+    let answer = told.answer;
+    let n = told.length;
+    match answer {
+        Answer::Accepted(_, _) => n,
         Answer::Refused {
-            number,
-            field,
+            number: _,
+            field: _,
             place,
-        } => {
-            say::refusal(number, field, place);
-            point(piece, place);
-        }
+        } => n + draw(piece, place, &mut out[n..]),
     }
 }
 
-fn each_piece(s: &[u8])
-    requires { ⌜ length (now s) ≤ 65536 ⌝ }
+// Writes the same of each piece of an input at the front of `out`.
+fn put_marks(s: &[u8], out: &mut [u8]) -> usize
+    requires { ⌜ 14 * length (now s) ≤ length (now out) ⌝ }
+    ensures { λ r. ⌜ (r ≡ length (marked (now (s .entry)))) × (now (out .exit) ≡ front (marked (now (s .entry))) (now (out .entry))) ⌝ }
+    ensures { λ r. ⌜ Counts r (now (out .exit)) ⌝ }
 {
+    let mut o = 0;
     let mut at = pieces::skip_white(s, 0);
     while at < s.len() {
         let e = pieces::piece_end(s, at);
-        tell(&s[at..e]);
+        o += put_marked(&s[at..e], &mut out[o..]);
         at = pieces::skip_white(s, e);
     }
+    o
 }
 
-// One byte more than may be read shows that there is too much, before anything is printed.
+// The same, with room for every input that is read.
+fn mark(s: &[u8], out: &mut [u8; 917504]) -> usize
+    requires { ⌜ length (now s) ≤ 65536 ⌝ }
+    ensures { λ r. ⌜ (r ≡ length (marked (now (s .entry)))) × (now (out .exit) ≡ front (marked (now (s .entry))) (now (out .entry))) ⌝ }
+    ensures { λ r. ⌜ Counts r (now (out .exit)) ⌝ }
+{
+    put_marks(s, out)
+}
+
 fn main() {
     let mut buffer = [0u8; 65537];
-    let n = say::input(&mut buffer);
-    if MOST < n {
-        say::print(b"TOO LONG\n");
-        return;
-    }
-    each_piece(&buffer[..n]);
+    let n = say::messages(&mut buffer);
+    let mut out = [0u8; 917504];
+    let k = mark(&buffer[..n], &mut out);
+    say::print(&out[..k]);
 }

@@ -1,17 +1,16 @@
 -- `listing::put_list` meets its contract. Assumes nothing.
-use Prim.Native.Nat.{ℕ, _+_, _*_, _-_, _≤_, _<_}
-use mathlib.Core.Path.{_≡_, refl, sym, ap, _∙_}
+use Prim.Native.Nat.{ℕ, _+_, _*_, _-_, _≤_}
+use mathlib.Core.Path.{_≡_, refl, ap, _∙_}
 use mathlib.Core.List.{List, _++_}
 use native.Mathlib.Omega.{arith}
 use lib.ListN.{length, take, drop, length-drop}
-use lib.Seq.{length-take-le}
 use Rattle.text.specs.Lent.{front}
 use Rattle.text.proofs.Index.{rest}
 use Rattle.text.proofs.Lent.{lent}
 use Rattle.lines.specs.Lines.{lineOf}
 use Rattle.lines.proofs.Steps.{Whole, whole-told, nine-times}
 use Rattle.lines.proofs.Writing.{as-long, counted}
-use Rattle.lines.proofs.Pieces.{At, first, next, last}
+use Rattle.lines.proofs.Pieces.{Some, some, At, first, next, last}
 use borrow.Author.Needs.{needs}
 use Rattle.listing.proofs.put_list.Statement.{statement}
 use Rattle.listing.proofs.put_list.Tie as tie
@@ -45,14 +44,11 @@ module _ (c : tie.After-piece-end Inv-loop μ-loop) where
   abbrev piece : List ℕ
   piece = take (c .piece-end .result - at) (drop at s)
 
-  long : at + length piece ≡ c .piece-end .result
-  long = omega (arith, c .piece-end .ensures, length-take-le (c .piece-end .result - at) (drop at s) (omega (arith, c .piece-end .ensures, length-drop at s)))
-
-  some : 1 ≤ length piece
-  some = omega (arith, long, c .piece-end .ensures, c .before .loop-test .taken)
+  bytes : Some s at (c .piece-end .result)
+  bytes = some s at (c .piece-end .result) (c .before .loop-test .taken) (c .piece-end .ensures)
 
   room : o + (length piece + 12) ≤ length out
-  room = omega (arith, long, some, c .piece-end .ensures, looped .loop .inv .1, looped .loop .inv .2, start .pre)
+  room = omega (arith, bytes .long, bytes .least, bytes .inside, looped .loop .inv .1, looped .loop .inv .2, start .pre)
 
 -- once its line is written
 module _ (c : tie.After-line Inv-loop μ-loop) where
@@ -73,7 +69,7 @@ module _ (c : tie.After-line Inv-loop μ-loop) where
   further = ap (λ (k : ℕ). o p + k) (told .length-is)
 
   few : c .line .result .length ≤ 9 * length (piece p)
-  few = nine-times (piece p) part _ _ (c .line .ensures) told (some p)
+  few = nine-times (piece p) part _ _ (c .line .ensures) told (bytes p .least)
 
   fits : o p + length (lineOf (piece p)) ≤ length (out p)
   fits = omega (arith, further, room p, c .line .ensures .short)
@@ -123,7 +119,7 @@ loop-again c =
     let q = p l in
     let w = c .skip-white2 .ensures in (
       next lineOf (s q) _ (looped q .loop .inv .0) (q .piece-end .result) _ (q .before .loop-test .taken) (q .piece-end .ensures) w _ _ (further l) (held l),
-      omega (arith, few l, looped q .loop .inv .1, long q, q .piece-end .ensures, w),
+      omega (arith, few l, looped q .loop .inv .1, bytes q .long, w),
       as-long (out q) (lineOf (piece q)) _ (o q) (held l) (fits l) ∙ looped q .loop .inv .2,
     )
 

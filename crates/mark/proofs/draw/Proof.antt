@@ -1,11 +1,9 @@
 -- `mark::draw` meets its contract. Assumes nothing.
-use Prim.Native.Nat.{ℕ, min}
-use mathlib.Core.Path.{_≡_, ap, _∙_}
-use mathlib.Core.List.{List}
+use Prim.Native.Nat.{min}
+use mathlib.Core.Path.{_≡_, ap}
 use lib.ListN.{length}
-use Rattle.text.specs.Lent.{front}
+use Rattle.canonical.proofs.Turns.{put-same}
 use Rattle.mark.specs.Mark.{drawnAt, drawn}
-use Rattle.mark.proofs.Lines.{front-long}
 use native.Mathlib.Omega.{arith}
 use borrow.Author.Needs.{needs}
 use Rattle.mark.proofs.draw.Statement.{statement}
@@ -25,10 +23,7 @@ returns c =
     let s = a .s .now in
     let m : length s ≡ min (length s) (a .place) = omega (arith, tested .if1 .taken) in
     let whole : drawnAt s (length s) ≡ drawn s (a .place) = ap (drawnAt s) m in
-    let r = d .draw-at .ensures in (
-      (r .0 ∙ ap length whole, r .1 ∙ ap (λ (w : List ℕ). front w (a .out .now)) whole),
-      omega (arith, r .0, front-long (drawnAt s (length s)) (a .out .now), ap length (r .1), d .draw-at .kept .1 .1 .0),
-    )
+    put-same (a .out .now) whole (d .draw-at .ensures)
 
 draw-at-requires-2 : tie.Need-draw-at-requires-2
 draw-at-requires-2 c κs = search needs
@@ -44,10 +39,7 @@ returns-2 c =
     let s = a .s .now in
     let m : a .place ≡ min (length s) (a .place) = omega (arith, tested .if1 .left) in
     let whole : drawnAt s (a .place) ≡ drawn s (a .place) = ap (drawnAt s) m in
-    let r = d .draw-at2 .ensures in (
-      (r .0 ∙ ap length whole, r .1 ∙ ap (λ (w : List ℕ). front w (a .out .now)) whole),
-      omega (arith, r .0, front-long (drawnAt s (a .place)) (a .out .now), ap length (r .1), d .draw-at2 .kept .1 .1 .0),
-    )
+    put-same (a .out .now) whole (d .draw-at2 .ensures)
 
 pub draw-spec : {M : Type 1} → statement M
 draw-spec =
