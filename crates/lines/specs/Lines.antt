@@ -9,7 +9,7 @@ use lib.ListN.{length}
 use Rattle.alphabet.specs.Text.{bytes}
 use Rattle.text.specs.Words.{Word}
 use Rattle.text.specs.Lent.{front}
-use Rattle.outer.specs.Outer.{most}
+use Rattle.outer.specs.Outer.{parensFrom, parens, most, outer}
 use Rattle.kinds.specs.declared.MessageType.{MessageType}
 use Rattle.kinds.specs.declared.MessageType.the-variants.{Cnl}
 use Rattle.kinds.specs.Kinds.{nameOf}
@@ -58,13 +58,16 @@ abbrev pub each : (Word → List ℕ) → List Word → List ℕ
 each f [] = []
 each f (m ∷ ms) = f m ++ each f ms
 
--- WHERE IT IS WRITTEN: a line takes at most twelve bytes more than its piece. Where fewer are lent nothing is written, and the answer is 11
+-- WHERE IT IS WRITTEN: where the output has not so many bytes more than the piece, nothing is written, and the answer is 11
+
+abbrev pub lineMore : ℕ
+lineMore = 12
 
 abbrev pub answerIn : List ℕ → ℕ → Answer
-answerIn m room = cond (ltb room (length m + 12)) (Refused 11 0 0) (answerOf m most)
+answerIn m room = cond (ltb room (length m + lineMore)) (Refused 11 0 0) (answerOf m most)
 
 abbrev pub lineIn : List ℕ → ℕ → List ℕ
-lineIn m room = cond (ltb room (length m + 12)) [] (lineOf m)
+lineIn m room = cond (ltb room (length m + lineMore)) [] (lineOf m)
 
 abbrev pub noRoom : Told
 noRoom = record { answer = Refused 11 0 0; length = 0 }
@@ -74,7 +77,7 @@ pub record Tells (m out : List ℕ) (r : Told) (after : List ℕ) : Type 0 where
   pub answer-is : r .answer ≡ answerIn m (length out)
   pub length-is : r .length ≡ length (lineIn m (length out))
   pub written : after ≡ front (lineIn m (length out)) out
-  pub short : r .length ≤ length m + 12
+  pub short : r .length ≤ length m + lineMore
 
 -- EXAMPLES, computed
 
@@ -88,3 +91,14 @@ as-listed : (acceptedLine Cnl (bytes "(CNL-ABC12-EHAM0930-EDDF-0)") ≡ bytes "O
     × (refusedLine 7 13 16 ≡ bytes "NO 7 13 16\n") × (refusedLine 5 3 0 ≡ bytes "NO 5 3 0\n") × (refusedLine 1 0 1800 ≡ bytes "NO 1 0 1800\n")
 unfolding acceptedLine opening refusedLine decimal
 as-listed = (refl, refl, refl, refl)
+
+no-room : (lineIn (bytes ")") 12 ≡ []) × (answerIn (bytes ")") 12 ≡ Refused 11 0 0)
+no-room = (refl, refl)
+
+some-room : (lineIn (bytes ")") 13 ≡ bytes "NO 2 0 0\n") × (answerIn (bytes ")") 13 ≡ Refused 2 0 0)
+unfolding lineOf answerOf outer parens refusedLine decimal
+some-room = (refl, refl)
+
+in-turn : each lineOf (bytes ")" ∷ bytes "(" ∷ []) ≡ bytes "NO 2 0 0\nNO 2 0 1\n"
+unfolding lineOf answerOf outer parens parensFrom refusedLine decimal
+in-turn = refl

@@ -4,7 +4,7 @@ ghost use mathlib.Core.List.{_++_};
 ghost use Prim.Native.Nat.{_+_, _≤_};
 ghost use lib.ListN.{length, take, drop};
 ghost use Rattle.text.specs.Lent.{front};
-ghost use Rattle.lines.specs.Lines.{numbered, opening, acceptedLine, refusedLine, noRoom, Tells};
+ghost use Rattle.lines.specs.Lines.{numbered, opening, acceptedLine, refusedLine, lineMore, noRoom, Tells};
 use kinds::MessageType;
 use message::Answer;
 
@@ -70,7 +70,7 @@ fn put_around(t: MessageType, n: usize, out: &mut [u8]) -> usize
 
 // Reads a piece, the spelling straight into its place in the line, and writes the rest of the line.
 fn put_line(piece: &[u8], out: &mut [u8]) -> Told
-    requires { ⌜ length (now piece) + 12 ≤ length (now out) ⌝ }
+    requires { ⌜ length (now piece) + lineMore ≤ length (now out) ⌝ }
     ensures { λ r. ⌜ Tells (now (piece .entry)) (now (out .entry)) r (now (out .exit)) ⌝ }
 {
     match message::read(piece, &mut out[7..]) {
