@@ -317,28 +317,27 @@ fn read(msg: &[u8], room: usize) {
     read_into(msg, room, &mut out);
 }
 
-// A part of some bytes: where it stands, and what it is.
-fn say_part(place: &[u8], s: &[u8], from: usize, to: usize)
-    requires { ⌜ (from ≤ to) × (to ≤ length (now s)) ⌝ }
-{
+// A part of a strip or of a CHG: where it stands, and what it is.
+fn say_part(place: &[u8], from: usize, to: usize, content: &[u8]) {
     print(place);
     say::decimal(from as u64);
     print(b" ");
     say::decimal(to as u64);
     print(b" ");
-    print(&s[from..to]);
+    print(content);
     print(b"\n");
 }
 
-// Asks for the field in force of a strip and a CHG.
-fn show(chg: &[u8], number: usize, held: Strip, strip: &[u8]) {
+// Asks for the field in force of a strip and a CHG: where it stands, and its content.
+fn show<'a>(chg: &'a [u8], number: usize, held: Strip, strip: &'a [u8]) {
     if MOST_ASKED < number {
         say_bad();
         return;
     }
+    let content = asked::in_force(strip, held, chg, number as u8);
     match asked::ask(strip, held, chg, number as u8) {
-        Asked::InStrip { from, to } => say_part(b"IN STRIP ", strip, from, to),
-        Asked::InChange { from, to } => say_part(b"IN CHG ", chg, from, to),
+        Asked::InStrip { from, to } => say_part(b"IN STRIP ", from, to, content),
+        Asked::InChange { from, to } => say_part(b"IN CHG ", from, to, content),
         Asked::Refused {
             number: n,
             field,
@@ -356,7 +355,7 @@ fn say_fit(form: Form, content: &[u8]) {
 }
 
 // What leaves the strip as it is.
-fn tell(q: Question, bytes: &[u8], held: Strip, strip: &[u8]) {
+fn tell<'a>(q: Question, bytes: &'a [u8], held: Strip, strip: &'a [u8]) {
     match q {
         Question::Read(room) => read(bytes, room),
         Question::Show(number) => show(bytes, number, held, strip),
