@@ -80,11 +80,20 @@ pub fn number(digits: &[u8]) -> Option<u16> {
     some_of(digits, 4, is_digit).then(|| digits.iter().fold(0, |sum, d| sum * 10 + u16::from(d - b'0')))
 }
 
-/// The minutes of a time, of day or elapsed: four digits, hours to 23, minutes to 59.
-pub fn minutes(time: &[u8]) -> Option<u16> {
+/// The minutes of a time of day: four digits, hours to 23, minutes to 59.
+pub fn time_of_day(time: &[u8]) -> Option<u16> {
+    minutes(time).filter(|minutes| *minutes < 24 * 60)
+}
+
+/// The minutes of an elapsed time: four digits, hours to 99, minutes to 59.
+pub fn elapsed_time(time: &[u8]) -> Option<u16> {
+    minutes(time)
+}
+
+fn minutes(time: &[u8]) -> Option<u16> {
     let (hours, minutes) = time.split_at_checked(2)?;
     match (time.len(), number(hours)?, number(minutes)?) {
-        (4, h @ 0..=23, m @ 0..=59) => Some(h * 60 + m),
+        (4, hours, minutes @ 0..=59) => Some(hours * 60 + minutes),
         _ => None,
     }
 }

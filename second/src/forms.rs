@@ -211,15 +211,20 @@ pub fn is_right_code(letter: u8, digit: u8) -> bool {
     }
 }
 
-/// Four letters and a time: field 13, and the first words of 16 and 17.
+/// Four letters and a time of day: field 13, and the first word of 17.
 fn aerodrome_and_time(word: &[u8]) -> bool {
-    word.split_at_checked(4).is_some_and(|(aerodrome, time)| is_four_letters(aerodrome) && minutes(time).is_some())
+    word.split_at_checked(4).is_some_and(|(aerodrome, time)| is_four_letters(aerodrome) && time_of_day(time).is_some())
+}
+
+/// Four letters and an elapsed time: the first word of 16.
+fn aerodrome_and_elapsed(word: &[u8]) -> bool {
+    word.split_at_checked(4).is_some_and(|(aerodrome, time)| is_four_letters(aerodrome) && elapsed_time(time).is_some())
 }
 
 /// Field 16 of FPL and SPL: the destination, then at most two alternates.
 fn destination_with_alternates(words: &mut Words) -> bool {
     let alternate = |words: &mut Words| words.word().is_none_or(is_four_letters);
-    words.word().is_some_and(aerodrome_and_time) && alternate(words) && alternate(words)
+    words.word().is_some_and(aerodrome_and_elapsed) && alternate(words) && alternate(words)
 }
 
 /// Field 17: a name is due after ZZZZ and after no other.

@@ -96,5 +96,5 @@ pub fn days_of(year: u16, month: u16) -> u16 {
 
 /// 6 to 15 signs, the last four an elapsed time.
 fn is_place_and_elapsed(word: &[u8]) -> bool {
-    word.len() >= 6 && some_of(word, 15, is_sign) && minutes(&word[word.len() - 4..]).is_some()
+    word.len() >= 6 && some_of(word, 15, is_sign) && elapsed_time(&word[word.len() - 4..]).is_some()
 }

@@ -3,7 +3,7 @@
 use std::fmt;
 use std::ops::Range;
 
-use crate::alphabet::{is_four_letters, minutes};
+use crate::alphabet::{is_four_letters, time_of_day};
 use crate::explained::unexplained;
 use crate::kind::Kind;
 use crate::message::{Reading, LONGEST};
@@ -182,7 +182,7 @@ fn arrived(departed: Option<u16>, arrival: &[u8]) -> Option<State> {
 
 /// The time behind an aerodrome.
 fn time_of(content: &[u8]) -> Option<u16> {
-    minutes(content.get(4..8)?)
+    time_of_day(content.get(4..8)?)
 }
 
 /// The plan's contents as the message leaves them.

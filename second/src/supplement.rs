@@ -1,6 +1,6 @@
 //! Field 19, which alone is rewritten.
 
-use crate::alphabet::{at_oblique, is_digit, is_letter, is_text_word, minutes, some_of};
+use crate::alphabet::{at_oblique, elapsed_time, is_digit, is_letter, is_text_word, some_of};
 use crate::words::Words;
 
 /// The items in their order.
@@ -24,7 +24,7 @@ pub fn supplement(words: &mut Words) -> bool {
 
 fn take_item<'a>(item: u8, first: &'a [u8], words: &mut Words<'a>) -> bool {
     match item {
-        b'E' => minutes(first).is_some() && spelled(first, words),
+        b'E' => elapsed_time(first).is_some() && spelled(first, words),
         b'P' => spell_count(first, 3, words),
         b'R' => spell_letters(first, b"UVE", words),
         b'S' => spell_letters(first, b"PDMJ", words),

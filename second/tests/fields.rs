@@ -183,10 +183,10 @@ fn field_15() {
 fn fields_16_and_17() {
     fit("16", &["EDDF", "ZZZZ"]);
     do_not_fit("16", &["EDDF0100", "EDDF EDDK", "EDD", "EDDFX", "EDD1"]);
-    fit("16plan", &["EINN0630", "EHAM0645 EBBR", "EHAM0645 EBBR EDDL", "EKCH0400 EKVB", "ZZZZ2359 ZZZZ ZZZZ"]);
+    fit("16plan", &["EINN0630", "EHAM0645 EBBR", "EHAM0645 EBBR EDDL", "EKCH0400 EKVB", "ZZZZ2359 ZZZZ ZZZZ", "EHAM2600", "EHAM9959"]);
     do_not_fit(
         "16plan",
-        &["CYQX0455 CYR", "EHAM", "EHAM0645 EBBR EDDL EDDK", "EHAM2400", "EHAM0645EBBR", "EHAM0645 EBBR0100"],
+        &["CYQX0455 CYR", "EHAM", "EHAM0645 EBBR EDDL EDDK", "EHAM2460", "EHAM0645EBBR", "EHAM0645 EBBR0100"],
     );
     fit("17", &["EHAM1433", "ZZZZ1620 DEN HELDER", "ZZZZ1620 SOBKIVKA", "ZZZZ1620 ?", "ZZZZ1620 A B C."]);
     do_not_fit(
@@ -242,7 +242,7 @@ fn field_18() {
     );
     do_not_fit(
         "18",
-        &["CODE/F0000G", "CODE/F0000", "EET/A0100", "EET/ABCDEFGHIJKL0100", "EET/AB2400", "EET/AB.0100", "/X", "STS/X"],
+        &["CODE/F0000G", "CODE/F0000", "EET/A0100", "EET/ABCDEFGHIJKL0100", "EET/AB2460", "EET/AB.0100", "/X", "STS/X"],
     );
     do_not_fit("18", &["REG/A SEL/FJEL MORE", "STS/HOSP X", "DLE/AB", "RMK"]);
 }
@@ -266,6 +266,7 @@ fn field_19() {
         "D/2 8 RED",
         "A/C N/C C/C",
         "E/2359",
+        "E/9959",
     ];
     for content in same {
         assert_eq!(spelling19(content.as_bytes()).as_deref(), Some(content.as_bytes()), "{content}");
@@ -299,7 +300,7 @@ fn field_19() {
             "P/",
             "P/1234",
             "P/1A",
-            "E/2400",
+            "E/2460",
             "E/100",
             "P/9 E/0640",
         ],

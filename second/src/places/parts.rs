@@ -15,7 +15,7 @@ pub fn time_of_day(trail: &mut Trail) -> bool {
 
 /// An elapsed time.
 pub fn elapsed_time(trail: &mut Trail) -> bool {
-    hours_and_minutes(trail, 23)
+    hours_and_minutes(trail, 99)
 }
 
 fn hours_and_minutes(trail: &mut Trail, most_hours: u32) -> bool {
