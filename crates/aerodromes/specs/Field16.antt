@@ -78,10 +78,16 @@ unfolding fits16plan joined fourLetters timeFits
 planned-16 = (refl, refl, refl)
 
 refused-16 : (fits16plan (bytes "EDDF0100 EDDK EDDL EDDM") ≡ false) × (fits16plan (bytes "EDDF0100 ") ≡ false) × (fits16plan (bytes "EDDF 0100") ≡ false)
-    × (fits16plan (bytes "EDDF0100 EDD") ≡ false) × (fits16plan (bytes "EDDF2400") ≡ false) × (fits16plan (bytes "EDDF") ≡ false) × (fits16plan [] ≡ false)
+    × (fits16plan (bytes "EDDF0100 EDD") ≡ false) × (fits16plan (bytes "EDDF0060") ≡ false) × (fits16plan (bytes "EDDF") ≡ false) × (fits16plan [] ≡ false)
 unfolding fits16plan joined fourLetters timeFits
 refused-16 = (refl, refl, refl, refl, refl, refl, refl)
 
 read-16 : record16plan (bytes "EDDF0100 EDDK EDDL")
     ≡ record { destination = bytes "EDDF"; elapsed = record { 0 = 60 }; alternates = bytes "EDDK" ∷ (bytes "EDDL" ∷ []) }
 read-16 = refl
+
+-- an elapsed time of more than a day
+long-16 : (fits16plan (bytes "EDDF2600") ≡ true) × (fits16plan (bytes "EDDF9959") ≡ true) × (fits16plan (bytes "EDDF9960") ≡ false)
+    × (record16plan (bytes "EDDF2600") ≡ record { destination = bytes "EDDF"; elapsed = record { 0 = 1560 }; alternates = [] })
+unfolding fits16plan joined fourLetters timeFits
+long-16 = (refl, refl, refl, refl)

@@ -80,7 +80,7 @@ unfolding timePlace
 placed-13 = (refl, refl, refl, refl, refl, refl, refl, refl)
 
 placed-16 : (place16plan (bytes "EDDF0100 EDDK EDDL EDDM") ≡ 18) × (place16plan (bytes "EDDF0100 ") ≡ 9) × (place16plan (bytes "EDDF 0100") ≡ 4)
-    × (place16plan (bytes "EDDF0100 EDD") ≡ 12) × (place16plan (bytes "EDDF2400") ≡ 5) × (place16plan (bytes "EDDF") ≡ 4) × (place16plan [] ≡ 0)
+    × (place16plan (bytes "EDDF0100 EDD") ≡ 12) × (place16plan (bytes "EDDF2460") ≡ 6) × (place16plan (bytes "EDDF") ≡ 4) × (place16plan [] ≡ 0)
     × (place16plan (bytes "EDDF0100  EDDK") ≡ 9)
 unfolding place16plan timePlace joined fourLetters timeFits
 placed-16 = (refl, refl, refl, refl, refl, refl, refl, refl)

@@ -17,6 +17,7 @@ use Rattle.route.specs.Points.{within, radialFits, indicators, nameFits, pointF
 use Rattle.route.specs.Field15.{pairFits, elementFits, fits15, record15}
 use Rattle.other.specs.Rules.{statuses, approvals, approved, daysIn, date, timed as timedWord, hexadecimal, base}
 use Rattle.other.specs.Field18.{fitsIn, hasKey}
+use Rattle.supplement.specs.Field19.{fits19, keyed}
 use Rattle.head.specs.Field3.{types, fits3, numbersFit}
 use Rattle.space.specs.Reduced.{opens, closes, standsForRun, reducedFrom, reduced}
 use Rattle.space.specs.Hyphens.{hyphens, upToHyphen, placeOfHyphen, behindHyphen}
@@ -33,7 +34,7 @@ use Rattle.opening.specs.Opening.{canonicalPlan, openingOf}
 use Rattle.amending.specs.Amended.{newStrip}
 use Rattle.strip.specs.Updating.{offeredAs, updateOf, outAfter}
 use Rattle.asked.specs.Asking.{typeAs, askedOf}
-use Rattle.demands.specs.Examples.{Example, AllHold, ofFields, ofMessages, ofStrips, examples}
+use Rattle.demands.specs.Examples.{Example, AllHold, ofFields, ofElapsed, ofMessages, ofStrips, examples}
 
 -- two lists joined
 both-hold : (xs ys : List Example) → AllHold xs → AllHold ys → AllHold (xs ++ ys)
@@ -48,6 +49,10 @@ fields-hold =
     both-hold (take 11 ofFields) (drop 11 ofFields)
     (refl, (refl, (refl, (refl, ((refl, refl), (refl, ((refl, refl), (refl, ((refl, refl), (refl, (refl, tt)))))))))))
     (refl, (refl, (refl, (refl, (refl, (refl, (refl, (refl, (refl, (refl, tt))))))))))
+
+elapsed-hold : AllHold ofElapsed
+unfolding fits16plan joined fourLetters timeFits fitsIn base timedWord letters fits19 keyed
+elapsed-hold = (refl, (refl, (refl, (refl, (refl, (refl, tt))))))
 
 messages-hold : AllHold ofMessages
 unfolding answerOf placeOf7 sentPlace sentFrom behindHyphen timePlace countAs faultIn spellingOf outer parens parensFrom lettersFrom inAlphabet white
@@ -64,4 +69,6 @@ unfolding answerOf countAs faultIn spellingOf outer parens parensFrom lettersFro
 strips-hold = ((refl, refl), (refl, (refl, tt)))
 
 pub examples-hold : AllHold examples
-examples-hold = both-hold ofFields (ofMessages ++ ofStrips) fields-hold (both-hold ofMessages ofStrips messages-hold strips-hold)
+examples-hold =
+    both-hold ofFields (ofElapsed ++ (ofMessages ++ ofStrips)) fields-hold
+    (both-hold ofElapsed (ofMessages ++ ofStrips) elapsed-hold (both-hold ofMessages ofStrips messages-hold strips-hold))

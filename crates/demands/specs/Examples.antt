@@ -12,10 +12,13 @@ use Rattle.shape.specs.Time.{clockFits}
 use Rattle.head.specs.Field7.{field7}
 use Rattle.head.specs.Field9.{field9}
 use Rattle.equipment.specs.Field10.{field10, present}
+use Rattle.aerodromes.specs.Field13.{field13}
+use Rattle.aerodromes.specs.Field16.{field16plan}
 use Rattle.aerodromes.specs.Field17.{field17}
 use Rattle.route.specs.Points.{inDegrees, inMinutes, withBearing}
 use Rattle.route.specs.Field15.{Element, plain, record15, field15}
 use Rattle.other.specs.Field18.{field18}
+use Rattle.canonical.specs.Canonical.{field19}
 use Rattle.kinds.specs.declared.MessageType.{MessageType}
 use Rattle.kinds.specs.declared.MessageType.the-variants.{Cnl}
 use Rattle.outer.specs.Outer.{most}
@@ -98,6 +101,16 @@ ofFields =
     ∷ (noTime "2400"
     ∷ (no (field10 present) "SE/C" ∷ []))))))))))))))))))))
 
+-- elapsed times of more than a day (document 02, request 1)
+abbrev pub ofElapsed : List Example
+ofElapsed =
+    fitsAs field16plan "EDDF2600" (record { destination = bytes "EDDF"; elapsed = record { 0 = 1560 }; alternates = [] })
+    ∷ (fits field16plan "EDDF9959"
+    ∷ (no field16plan "EDDF0060"
+    ∷ (no field13 "EHAM2400"
+    ∷ (fits field18 "EET/EISN9959"
+    ∷ (fits field19 "E/2400" ∷ [])))))
+
 -- whole messages
 abbrev pub ofMessages : List Example
 ofMessages =
@@ -116,4 +129,4 @@ ofStrips =
     ∷ (asked "(FPL-ABC12-IS-B738/M-SDFG/S-EHAM0930-N0440F310 DCT PAM DCT-EDDF0100 EDDK-0)" "(CHG-ABC12-EHAM0930-EDDF-0-9/B39M/M-8/IN)" 10 (InStrip 21 27) ∷ []))
 
 abbrev pub examples : List Example
-examples = ofFields ++ (ofMessages ++ ofStrips)
+examples = ofFields ++ (ofElapsed ++ (ofMessages ++ ofStrips))

@@ -100,7 +100,7 @@ dates = (refl, refl, refl, refl, refl, refl, refl)
 abbrev lasting : Word → ℕ → Bool
 lasting w n = validElement Timed (timed w (record { 0 = n }))
 
-times : (lasting (bytes "EISN") 1439 ≡ true) × (lasting (bytes "EISN") 1440 ≡ false) × (lasting (bytes "E") 26 ≡ false) × (lasting (bytes "E1") 26 ≡ true)
+times : (lasting (bytes "EISN") 5999 ≡ true) × (lasting (bytes "EISN") 6000 ≡ false) × (lasting (bytes "E") 26 ≡ false) × (lasting (bytes "E1") 26 ≡ true)
     × (lasting (bytes "ABCDEFGHIJK") 26 ≡ true) × (lasting (bytes "ABCDEFGHIJKL") 26 ≡ false) × (lasting (bytes "A.B") 26 ≡ false)
 times = (refl, refl, refl, refl, refl, refl, refl)
 

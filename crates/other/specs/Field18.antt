@@ -188,7 +188,7 @@ codes-fit : (fits18 (bytes "PBN/A1B1C1D1L1O1S1T1") ≡ true) × (fits18 (bytes "
 unfolding fitsIn base approved approvalCodes
 codes-fit = (refl, refl, refl, refl)
 
-times-fit : (fits18 (bytes "EET/EISN0026 EGGX0111") ≡ true) × (fits18 (bytes "EET/EISN0060") ≡ false) × (fits18 (bytes "EET/EISN2400") ≡ false)
+times-fit : (fits18 (bytes "EET/EISN0026 EGGX0111") ≡ true) × (fits18 (bytes "EET/EISN0060") ≡ false) × (fits18 (bytes "EET/EISN9959") ≡ true)
 unfolding fitsIn base timedWord timeFits letters
 times-fit = (refl, refl, refl)
 

@@ -223,7 +223,7 @@ codes-tried : (approved (bytes "A1B1C1D1L1O1S1T1") ≡ true) × (approved (bytes
 unfolding approved approvals
 codes-tried = (refl, refl, refl, refl, refl)
 
-times-tried : (timed (bytes "EISN0026") ≡ true) × (timed (bytes "EISN0060") ≡ false) × (timed (bytes "EISN2400") ≡ false) × (timed (bytes "E0026") ≡ false)
+times-tried : (timed (bytes "EISN0026") ≡ true) × (timed (bytes "EISN0060") ≡ false) × (timed (bytes "EISN9959") ≡ true) × (timed (bytes "E0026") ≡ false)
 unfolding timed timeFits letters
 times-tried = (refl, refl, refl, refl)
 

@@ -14,11 +14,13 @@ use Rattle.text.proofs.Tests.{both, and-both}
 use Rattle.shape.specs.Numbers.{digits}
 use Rattle.shape.specs.Shape.{fits, wide, values}
 use Rattle.shape.specs.Time.{hoursMinutes, hours, minutes, timeFits, timeMinutes, spellTime, validTime}
+use Rattle.shape.specs.Time.{clockHours, elapsedHours, clockFits, clockOf, elapsedOf, spellElapsed, elapsedRead}
 use Rattle.shape.specs.Time.{pickClock, pickElapsed, isTimeOfDay, isElapsed}
 use Rattle.shape.specs.declared.Clock.{Clock}
 use Rattle.shape.specs.declared.ClockRead.{ClockRead}
 use Rattle.shape.specs.declared.Elapsed.{Elapsed}
 use Rattle.shape.specs.declared.ElapsedRead.{ElapsedRead}
+use Rattle.shape.specs.declared.ElapsedRead.the-variants.{ElapsedTime}
 use Rattle.shape.proofs.Index.{fits-lengths}
 use Rattle.shape.proofs.Exact.{spells-values, values-spells, fits-all}
 
@@ -108,3 +110,20 @@ by-clock {b = b} t p q = q ∙ ap isTimeOfDay p ∙ told-clock b t
 
 pub by-elapsed : {x : ElapsedRead} {r b : Bool} (t : Elapsed) → x ≡ pickElapsed b t → r ≡ isElapsed x → r ≡ b
 by-elapsed {b = b} t p q = q ∙ ap isElapsed p ∙ told-elapsed b t
+
+-- A GREATER GREATEST HOUR, as request 1 of document 02 gave elapsed times: what was a time before is one still, and every time of day is an elapsed
+-- time of as many minutes. Minutes and spelling do not speak of the greatest hour.
+
+pub time-longer : (least most : ℕ) (w : Word) → least ≤ most → timeFits least w ≡ true → timeFits most w ≡ true
+unfolding timeFits
+time-longer least most w l e =
+    let p = parts least w e in
+    and-both (fits (wide hoursMinutes) w) (leb (hours w) most && leb (minutes w) 59) (p .shaped)
+    (and-both (leb (hours w) most) (leb (minutes w) 59) (le-leb (hours w) most (omega (arith, l, p .hours-in)))
+    (le-leb (minutes w) 59 (p .minutes-in)))
+
+pub day-elapsed : (w : Word) → clockFits w ≡ true
+    → (elapsedRead w ≡ ElapsedTime (elapsedOf w)) × (elapsedOf w .0 ≡ clockOf w .0) × (spellElapsed (elapsedOf w) ≡ w)
+day-elapsed w e =
+    let f = time-longer clockHours elapsedHours w (omega arith) e in
+    (ap (λ (b : Bool). pickElapsed b (elapsedOf w)) f, refl, time-exact clockHours w e)

@@ -17,13 +17,13 @@ use Rattle.shape.specs.declared.ClockRead.the-variants.{TimeOfDay, NoTim
 use Rattle.shape.specs.declared.ElapsedRead.{ElapsedRead}
 use Rattle.shape.specs.declared.ElapsedRead.the-variants.{ElapsedTime, NoElapsedTime}
 
--- THE GREATEST HOURS of a time of day, and of an elapsed time
+-- THE GREATEST HOURS of a time of day, and of an elapsed time (document 02, request 1)
 
 abbrev pub clockHours : ℕ
 clockHours = 23
 
 abbrev pub elapsedHours : ℕ
-elapsedHours = 23
+elapsedHours = 99
 
 -- HOURS AND MINUTES, for a greatest hour
 
@@ -112,6 +112,13 @@ told : (isTimeOfDay (clockRead (bytes "2359")) ≡ true) × (isTimeOfDay (clockR
     × (isElapsed (elapsedRead (bytes "0100")) ≡ true) × (isElapsed (elapsedRead (bytes "0160")) ≡ false)
 unfolding timeFits
 told = (refl, refl, refl, refl)
+
+-- an elapsed time goes beyond a day, and is not brought into one
+beyond-a-day : (elapsedRead (bytes "2359") ≡ ElapsedTime (record { 0 = 1439 })) × (elapsedRead (bytes "2400") ≡ ElapsedTime (record { 0 = 1440 }))
+    × (elapsedRead (bytes "2600") ≡ ElapsedTime (record { 0 = 1560 })) × (elapsedRead (bytes "9959") ≡ ElapsedTime (record { 0 = 5999 }))
+    × (elapsedRead (bytes "9960") ≡ NoElapsedTime) × (elapsedRead (bytes "2460") ≡ NoElapsedTime) × (spellElapsed (record { 0 = 1560 }) ≡ bytes "2600")
+unfolding timeFits
+beyond-a-day = (refl, refl, refl, refl, refl, refl, refl)
 
 minute : (timeMinutes (bytes "0930") ≡ 570) × (spellTime 570 ≡ bytes "0930")
 minute = (refl, refl)

@@ -147,7 +147,7 @@ pub enum ElapsedRead {
 
 pub const CLOCK_HOURS: usize = 23;
 
-pub const ELAPSED_HOURS: usize = 23;
+pub const ELAPSED_HOURS: usize = 99;
 
 // Whether w is four digits, hours of at most so many and minutes of at most 59.
 fn is_time(most: usize, w: &[u8]) -> bool

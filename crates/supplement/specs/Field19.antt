@@ -372,6 +372,7 @@ jackets-fit : (fits19 (bytes "J/LF UV") ≡ true) × (fits19 (bytes "J/FL VU") �
 unfolding fits19 keyed timeFits text inAlphabet white
 jackets-fit = (refl, refl, refl)
 
-others : (fits19 (bytes "E/2400") ≡ false) × (fits19 (bytes "S/PDMJ E/0100") ≡ false) × (fits19 (bytes "") ≡ false) × (fits19 (bytes "C/SMITH JONES") ≡ true)
+others : (fits19 (bytes "E/2400") ≡ true) × (fits19 (bytes "E/2460") ≡ false) × (fits19 (bytes "S/PDMJ E/0100") ≡ false)
+    × (fits19 (bytes "") ≡ false) × (fits19 (bytes "C/SMITH JONES") ≡ true)
 unfolding fits19 keyed timeFits text inAlphabet white
-others = (refl, refl, refl, refl)
+others = (refl, refl, refl, refl, refl)

@@ -117,7 +117,7 @@ unfolding place19 step keyed timeFits timePlace text inAlphabet white
 ordered = (refl, refl, refl, refl, refl, refl, refl)
 
 -- hours, minutes, four digits
-endurance-placed : (at "E/2400" ≡ 3) × (at "E/0760" ≡ 4) × (at "E/075" ≡ 5) × (at "E/07451" ≡ 6) × (at "E/07:45" ≡ 4)
+endurance-placed : (at "E/2460" ≡ 4) × (at "E/0760" ≡ 4) × (at "E/075" ≡ 5) × (at "E/07451" ≡ 6) × (at "E/07:45" ≡ 4)
 unfolding place19 step keyed timeFits timePlace text inAlphabet white
 endurance-placed = (refl, refl, refl, refl, refl)
 
