@@ -232,6 +232,15 @@ fn time(dice: &mut Dice) -> Vec<u8> {
     [number_to(dice, 23, 2), number_to(dice, 59, 2)].concat()
 }
 
+/// An elapsed time: every second one could be a time of day.
+fn elapsed(dice: &mut Dice) -> Vec<u8> {
+    if dice.wild() {
+        return one_of(dice, &[b"2460", b"9960", b"0060", b"2360", b"9999", b"093", b"09300", b"0A30", b"24:0", b""]);
+    }
+    let most_hours = if dice.chance(50) { 23 } else { 99 };
+    [number_to(dice, most_hours, 2), number_to(dice, 59, 2)].concat()
+}
+
 fn aerodrome(dice: &mut Dice) -> Vec<u8> {
     bytes(dice, LETTERS, 4, 4)
 }
@@ -456,7 +465,7 @@ fn level(dice: &mut Dice) -> Vec<u8> {
 
 /// Field 16's FPL form, and whether an alternate in it is ZZZZ.
 fn with_alternates(dice: &mut Dice, destination: &[u8]) -> (Vec<u8>, bool) {
-    let mut made = [destination, &time(dice)].concat();
+    let mut made = [destination, &elapsed(dice)].concat();
     let mut unnamed = false;
     let most = if dice.wild() { 3 } else { 2 };
     for _ in 0..dice.from_to(0, most) {
@@ -522,7 +531,7 @@ fn item_words(dice: &mut Dice, key: &[u8]) -> Vec<u8> {
         b"SEL" => bytes(dice, LETTERS, 4, 4),
         b"CODE" if dice.wild() => exact(dice, SIGNS, 6, 6),
         b"CODE" => bytes(dice, b"0123456789ABCDEF", 6, 6),
-        b"EET" | b"DLE" => words(dice, 1, 4, |dice| [bytes(dice, SIGNS, 2, 11), time(dice)].concat()),
+        b"EET" | b"DLE" => words(dice, 1, 4, |dice| [bytes(dice, SIGNS, 2, 11), elapsed(dice)].concat()),
         _ => text(dice),
     };
     if one_more {
@@ -574,7 +583,7 @@ fn supplement(dice: &mut Dice) -> Vec<u8> {
 
 fn supplement_words(dice: &mut Dice, item: u8) -> Vec<u8> {
     match item {
-        b'E' => time(dice),
+        b'E' => elapsed(dice),
         b'P' => count(dice, 3),
         b'R' => letters_of(dice, b"UVE"),
         b'S' => letters_of(dice, b"PDMJ"),

@@ -185,7 +185,7 @@ fn change_type(dice: &mut Dice, draft: &mut Draft) {
     }
 }
 
-/// A time that is no time, wherever four digits stand.
+/// A time that is no time, of day at least, wherever four digits stand.
 fn replace_four_digits(dice: &mut Dice, draft: &mut Draft) {
     let wrong = **dice.pick(&[b"2400", b"2460", b"2360", b"0060", b"9999"]);
     let mut fields: Vec<usize> = (0..draft.len()).collect();
