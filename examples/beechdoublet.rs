@@ -144,7 +144,7 @@ pub fn field(message: &[u8], field: u64) -> Result<(Range<usize>, &[u8]), Refusa
     Ok((at.clone(), &message[at]))
 }
 
-/// The parts of a plan. Times are minutes, the date is year, month and day.
+/// The parts of a plan. The off-block time is a minute of the day, 0 to 1439, the elapsed time 0 to 5999 minutes, the date year, month and day.
 #[derive(Clone, Debug, PartialEq, Eq)]
 pub struct Plan<'a> {
     pub identification: &'a [u8],

@@ -92,7 +92,7 @@ typedef struct {
 
 /*
  * The parts of a plan. A place is that of a first byte, counted from 0, in the strip; where two are given, the second is behind the last byte. An
- * aerodrome is four letters. Minutes are 0 to 1439.
+ * aerodrome is four letters.
  */
 typedef struct {
     uint64_t number;
@@ -104,9 +104,9 @@ typedef struct {
     uint64_t type_from; /* the type, without the number before it; behind it stand the oblique and the wake category */
     uint64_t type_to;
     uint64_t departure;    /* field 13: the place of the aerodrome */
-    uint64_t off_block;    /* the minute of the day */
+    uint64_t off_block;    /* the minute of the day, 0 to 1439 */
     uint64_t destination;  /* field 16: the place of the aerodrome */
-    uint64_t elapsed;      /* the total estimated elapsed time, in minutes */
+    uint64_t elapsed;      /* the total estimated elapsed time, in minutes, 0 to 5999 */
     uint64_t alternates;   /* how many, 0 to 2 */
     uint64_t alternate[2]; /* the place of each aerodrome; 0 where there is none */
     uint64_t date_known;   /* DOF of field 18: 1, or 0 and no date */
