@@ -1,20 +1,23 @@
--- Field 16 is proved: alone, and in its form with an elapsed time and alternates. Assumes nothing.
+-- Field 16 is proved: alone, in its form with an elapsed time and alternates, and as an entry of a CHG. Assumes nothing.
 use Prim.Native.Nat.{ℕ}
-use mathlib.Core.Path.{_≡_, refl, ap, ap₂, _∙_}
-use mathlib.Core.Bool.{true}
+use mathlib.Core.Path.{_≡_, refl, sym, ap, ap₂, _∙_}
+use mathlib.Core.Bool.{Bool, true, false, _||_, cond, or-true}
 use mathlib.Core.List.{List}
 use native.Mathlib.Omega.{arith}
 use lib.Dec.{leb}
 use lib.ListN.{length}
 use Rattle.text.specs.Words.{Word, all, split, tidyWord, tidy}
 use Rattle.text.proofs.Tests.{both, and-both, all-imp}
-use Rattle.text.proofs.Tidy.{tidy-one}
+use Rattle.text.proofs.Joined.{split-one}
+use Rattle.text.proofs.Tidy.{tidy-one, word-free}
 use Rattle.shape.specs.Time.{elapsedHours, elapsedOf, timeMinutes}
 use Rattle.shape.specs.Field.{Laws}
 use Rattle.shape.proofs.Fields.{Facts, plain}
 use Rattle.aerodromes.specs.Aerodromes.{fourLetters, aerodromeOf, joinedOf, joined, validJoined, spellJoined, first, others}
-use Rattle.aerodromes.specs.Field16.{field16, fewAerodromes, mostAlternates, Field16Plan, valid16plan, spell16plan, fits16plan, record16plan, field16plan}
-use Rattle.aerodromes.proofs.Aerodromes.{four-tidy, joined-valid, joined-tidy, joined-aerodrome, joined-minutes, joined-fits}
+use Rattle.aerodromes.specs.Field16.{fits16, record16, field16, fewAerodromes, mostAlternates}
+use Rattle.aerodromes.specs.Field16.{Field16Plan, valid16plan, spell16plan, fits16plan, record16plan, field16plan}
+use Rattle.aerodromes.specs.Field16.{Field16Entry, bare, whole, valid16entry, spell16entry, fits16entry, record16entry, field16entry}
+use Rattle.aerodromes.proofs.Aerodromes.{four-length, four-tidy, joined-length, joined-valid, joined-tidy, joined-aerodrome, joined-minutes, joined-fits}
 use Rattle.aerodromes.proofs.Aerodromes.{tidy-words, words-spelled, first-back, others-back}
 
 -- FIELD 16 ALONE
@@ -84,3 +87,53 @@ facts16plan =
 
 pub field16plan-laws : Laws field16plan
 field16plan-laws = plain field16plan (λ r. refl) facts16plan
+
+-- FIELD 16 AS AN ENTRY OF A CHG
+
+-- its two forms share no content: the first word of a plan's has eight bytes
+pub plan-not-bare : (s : List ℕ) → fits16plan s ≡ true → fits16 s ≡ false
+plan-not-bare s e = go (fits16 s) refl
+  where
+    go : (b : Bool) → fits16 s ≡ b → b ≡ false
+    go true q =
+        let f : first (split 32 s) ≡ s = ap first (split-one 32 s (word-free s (four-tidy s q))) in
+        absurd (omega (arith, sym (ap length f) ∙ joined-length elapsedHours (first (split 32 s)) (plan-parts s e .0), four-length s q))
+    go false q = refl
+
+module _ (s : List ℕ) where
+  abbrev told : Bool → Field16Entry
+  told b = cond b (bare (record16 s)) (whole (record16plan s))
+
+  spelled16entry : fits16entry s ≡ true → spell16entry (record16entry s) ≡ s
+  spelled16entry = go (fits16 s)
+    where
+      go : (b : Bool) → (b || fits16plan s) ≡ true → spell16entry (told b) ≡ s
+      go true e = refl
+      go false e = facts16plan .spelled s e
+
+  held16entry : fits16entry s ≡ true → valid16entry (record16entry s) ≡ true
+  held16entry = go (fits16 s) refl
+    where
+      go : (b : Bool) → fits16 s ≡ b → (b || fits16plan s) ≡ true → valid16entry (told b) ≡ true
+      go true q e = q
+      go false q e = facts16plan .held s e
+
+  tidied16entry : fits16entry s ≡ true → tidy s ≡ true
+  tidied16entry = go (fits16 s) refl
+    where
+      go : (b : Bool) → fits16 s ≡ b → (b || fits16plan s) ≡ true → tidy s ≡ true
+      go true q e = facts16 .tidied s q
+      go false q e = facts16plan .tidied s e
+
+taken16entry : (r : Field16Entry) → valid16entry r ≡ true → fits16entry (spell16entry r) ≡ true
+taken16entry (bare r) v = rw v
+taken16entry (whole r) v = rw (facts16plan .taken r v) (or-true (fits16 (spell16plan r)))
+
+back16entry : (r : Field16Entry) → valid16entry r ≡ true → record16entry (spell16entry r) ≡ r
+back16entry (bare r) v = rw v
+back16entry (whole r) v = rw (plan-not-bare (spell16plan r) (facts16plan .taken r v)) (ap whole (facts16plan .back r v))
+
+pub field16entry-laws : Laws field16entry
+field16entry-laws =
+    plain field16entry (λ r. refl)
+    (record { spelled = spelled16entry; held = held16entry; taken = taken16entry; back = back16entry; tidied = tidied16entry })

@@ -1,7 +1,8 @@
--- Field 16 (document 01): four letters; and its form in FPL and SPL, with an elapsed time and 0 to 2 alternates. Assumes nothing.
+-- Field 16 (document 01): four letters; its form in FPL and SPL, with an elapsed time and 0 to 2 alternates; and as an entry of a CHG, which has
+-- either (document 02, request 2). Assumes nothing.
 use Prim.Native.Nat.{ℕ}
 use mathlib.Core.Path.{_≡_, refl}
-use mathlib.Core.Bool.{Bool, true, false, _&&_}
+use mathlib.Core.Bool.{Bool, true, false, _&&_, _||_, cond}
 use mathlib.Core.List.{List, [], _∷_}
 use lib.Dec.{leb}
 use lib.ListN.{length}
@@ -67,6 +68,30 @@ abbrev pub field16plan : Field
 field16plan =
     record { Record = Field16Plan; valid = valid16plan; spell = spell16plan; fits = fits16plan; recordOf = record16plan; canonical = λ r. r }
 
+-- FIELD 16 AS AN ENTRY OF A CHG: four letters alone, a bare new destination, or its form in FPL; the record says which
+
+pub data Field16Entry : Type 0 where
+  bare : Field16 → Field16Entry
+  whole : Field16Plan → Field16Entry
+
+abbrev pub valid16entry : Field16Entry → Bool
+valid16entry (bare r) = valid16 r
+valid16entry (whole r) = valid16plan r
+
+abbrev pub spell16entry : Field16Entry → List ℕ
+spell16entry (bare r) = spell16 r
+spell16entry (whole r) = spell16plan r
+
+abbrev pub fits16entry : List ℕ → Bool
+fits16entry s = fits16 s || fits16plan s
+
+abbrev pub record16entry : List ℕ → Field16Entry
+record16entry s = cond (fits16 s) (bare (record16 s)) (whole (record16plan s))
+
+abbrev pub field16entry : Field
+field16entry =
+    record { Record = Field16Entry; valid = valid16entry; spell = spell16entry; fits = fits16entry; recordOf = record16entry; canonical = λ r. r }
+
 -- EXAMPLES, computed
 
 alone-16 : (fits16 (bytes "EDDF") ≡ true) × (fits16 (bytes "EDDF0100") ≡ false) × (fits16 (bytes "EDDF ") ≡ false) × (fits16 [] ≡ false)
@@ -91,3 +116,13 @@ long-16 : (fits16plan (bytes "EDDF2600") ≡ true) × (fits16plan (bytes "EDDF99
     × (record16plan (bytes "EDDF2600") ≡ record { destination = bytes "EDDF"; elapsed = record { 0 = 1560 }; alternates = [] })
 unfolding fits16plan joined fourLetters timeFits
 long-16 = (refl, refl, refl, refl)
+
+entered-16 : (fits16entry (bytes "EDDN") ≡ true) × (fits16entry (bytes "EDDN0100 EDDK") ≡ true) × (fits16entry (bytes "EDDN EDDK") ≡ false)
+    × (fits16entry (bytes "EDD") ≡ false) × (fits16entry (bytes "EDDN0") ≡ false) × (fits16entry (bytes "EDD1") ≡ false) × (fits16entry [] ≡ false)
+unfolding fits16plan joined fourLetters timeFits
+entered-16 = (refl, refl, refl, refl, refl, refl, refl)
+
+told-16 : (record16entry (bytes "EDDN") ≡ bare (record { destination = bytes "EDDN" }))
+    × (record16entry (bytes "EDDN0100") ≡ whole (record { destination = bytes "EDDN"; elapsed = record { 0 = 60 }; alternates = [] }))
+unfolding fourLetters
+told-16 = (refl, refl)

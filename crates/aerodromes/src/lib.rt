@@ -5,7 +5,7 @@ ghost use lib.ListN.{take, getD};
 ghost use Rattle.text.specs.Words.{all, split, textWord};
 ghost use Rattle.aerodromes.specs.Aerodromes.{fourLetters, atClock, atElapsed, aerodromeOf};
 ghost use Rattle.aerodromes.specs.Field13.{fits13, fits13open};
-ghost use Rattle.aerodromes.specs.Field16.{fits16, fits16plan, fewAerodromes, mostAlternates};
+ghost use Rattle.aerodromes.specs.Field16.{fits16, fits16plan, fits16entry, fewAerodromes, mostAlternates};
 ghost use Rattle.aerodromes.specs.Field17.{fits17};
 ghost use Rattle.aerodromes.specs.Asked.{clockAt, elapsedAt, hasAlternate, aerodromeIn, isLetters};
 
@@ -103,6 +103,16 @@ pub fn fits_field16_plan(s: &[u8]) -> bool
         return true;
     }
     alternates(&s[e + 1..])
+}
+
+// Field 16 as an entry of a CHG: four letters alone, or as in FPL.
+pub fn fits_field16_entry(s: &[u8]) -> bool
+    ensures { λ r. ⌜ r ≡ fits16entry (now (s .entry)) ⌝ }
+{
+    if four_letters(s) {
+        return true;
+    }
+    fits_field16_plan(s)
 }
 
 // Whether the words of a list, which have one space between them, are text words.

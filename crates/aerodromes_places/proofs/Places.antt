@@ -2,7 +2,7 @@
 use Prim.Native.Nat.{ℕ, zero, suc, _+_, _<_, _≤_}
 use mathlib.Core.Path.{_≡_, refl, sym, ap, _∙_}
 use mathlib.Core.Bool.{Bool, true, false, _&&_, _||_, cond, and-true, and-false, false≢true, true≢false}
-use mathlib.Core.List.{List, [], _∷_}
+use mathlib.Core.List.{List, [], _∷_, _++_}
 use mathlib.Core.Option.{none, some}
 use native.Mathlib.Omega.{arith}
 use native.Mathlib.Nat.{zero-add}
@@ -14,6 +14,7 @@ use Rattle.alphabet.specs.Alphabet.{letter}
 use Rattle.text.specs.Words.{Word, all, null, free, split}
 use Rattle.text.proofs.Tests.{both}
 use Rattle.text.proofs.Index.{null-split}
+use Rattle.text.proofs.Joined.{split-one}
 use Rattle.text.proofs.Tidy.{word-free}
 use Rattle.shape.specs.Time.{timeFits, clockHours, elapsedHours}
 use Rattle.places.specs.Place.{IsPlace}
@@ -21,15 +22,15 @@ use Rattle.places.specs.Parts.{noMore, fixedFits, fixedPlace, timePlace}
 use Rattle.places.specs.Given.{given}
 use Rattle.places.specs.Words.{ended, wordsFit, contentFits, wordsPlace}
 use Rattle.places.proofs.Given.{given-ended, given-some, given-place}
-use Rattle.places.proofs.Place.{place-of-language, no-place}
+use Rattle.places.proofs.Place.{place-of-language, no-place, absorbed}
 use Rattle.places.proofs.Leaves.{nil-place, maybe-place}
 use Rattle.places.proofs.Fixed.{fixed-place, time-place}
 use Rattle.places.proofs.Words.{none-of, none-fits, words-place}
 use Rattle.aerodromes.specs.Aerodromes.{fourLetters, joined, aerodromeOf, joinedOf, first, others}
 use Rattle.aerodromes.specs.Field13.{fits13, fits13open, clockOrNone}
-use Rattle.aerodromes.specs.Field16.{fits16, fits16plan, fewAerodromes, mostAlternates}
-use Rattle.aerodromes_places.specs.Places.{aerodromePlace, joinedPlace, place13, place16, plan, planPlace, place16plan}
-use Rattle.aerodromes.proofs.Aerodromes.{joined-tidy, four-tidy}
+use Rattle.aerodromes.specs.Field16.{fits16, fits16plan, fits16entry, fewAerodromes, mostAlternates}
+use Rattle.aerodromes_places.specs.Places.{aerodromePlace, joinedPlace, place13, place16, plan, planPlace, place16plan, place16entry}
+use Rattle.aerodromes.proofs.Aerodromes.{joined-tidy, four-tidy, cut-aerodrome, cut-joined}
 
 -- FOUR LETTERS, and what follows them
 
@@ -172,6 +173,22 @@ unfolding place16plan
 placed16plan s =
     place-of-language (contentFits plan 0) fits16plan plan-is s (wordsPlace plan planPlace 0 (split 32 s))
     (words-place plan planPlace plan-right plan-free plan-alive plan-more plan-closed 0 s)
+
+-- FIELD 16 AS AN ENTRY OF A CHG
+
+-- behind four letters alone a time may stand
+bare-joined : (w : List ℕ) → fits16 w ≡ true → joined elapsedHours (w ++ bytes "0000") ≡ true
+unfolding joined
+bare-joined w e = rw (cut-aerodrome w e (bytes "0000"), cut-joined w e (bytes "0000"), e) (midnight elapsedHours)
+
+bare-goes : (w : List ℕ) → fits16 w ≡ true → (t : List ℕ) × (fits16plan (w ++ t) ≡ true)
+unfolding fits16plan
+bare-goes w e =
+    let j = bare-joined w e in
+    (bytes "0000", rw (split-one 32 (w ++ bytes "0000") (joined-free elapsedHours (w ++ bytes "0000") j), j))
+
+pub placed16entry : (s : List ℕ) → IsPlace fits16entry s (place16entry s)
+placed16entry s = absorbed fits16 fits16plan bare-goes s (place16plan s) (placed16plan s)
 
 -- FOR THE CODE
 

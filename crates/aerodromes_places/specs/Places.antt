@@ -48,6 +48,11 @@ planPlace n w = cond (eqb n 0) (joinedPlace elapsedHours w) (cond (leb n mostAlt
 unfoldable pub place16plan : List ℕ → ℕ
 place16plan s = wordsPlace plan planPlace 0 (split 32 s)
 
+-- FIELD 16 AS AN ENTRY OF A CHG: four letters alone may always go on as the longer form does, so it has that form's place
+
+abbrev pub place16entry : List ℕ → ℕ
+place16entry s = place16plan s
+
 -- FIELD 17, by words: 0 nothing yet, 1 an aerodrome that is listed, 2 one that is not, 3 words behind it
 
 abbrev pub landed : Words
@@ -84,6 +89,10 @@ placed-16 : (place16plan (bytes "EDDF0100 EDDK EDDL EDDM") ≡ 18) × (place16pl
     × (place16plan (bytes "EDDF0100  EDDK") ≡ 9)
 unfolding place16plan timePlace joined fourLetters timeFits
 placed-16 = (refl, refl, refl, refl, refl, refl, refl, refl)
+
+entered-16 : (place16entry (bytes "EDDN0") ≡ 5) × (place16entry (bytes "EDD1") ≡ 3) × (place16entry (bytes "EDD") ≡ 3) × (place16entry (bytes "EDDN EDDK") ≡ 4)
+unfolding place16plan timePlace joined fourLetters timeFits
+entered-16 = (refl, refl, refl, refl)
 
 placed-17 : (place17 (bytes "EHAM1433 X") ≡ 8) × (place17 (bytes "ZZZZ1620") ≡ 8) × (place17 (bytes "ZZZZ1620 ") ≡ 9)
     × (place17 (bytes "ZZZZ1620 A  B") ≡ 11) × (place17 (bytes "ZZZZ1620 A/B") ≡ 10) × (place17 (bytes "EHAM") ≡ 4)

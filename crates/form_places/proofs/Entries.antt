@@ -33,7 +33,7 @@ use Rattle.route.specs.Field15.{pairFits, elementFits, fits15}
 use Rattle.other.specs.Field18.{fitsIn}
 use Rattle.head_places.proofs.Places.{placed7, placed8, placed9}
 use Rattle.equipment_places.proofs.Places.{placed10}
-use Rattle.aerodromes_places.proofs.Places.{placed13, placed16plan}
+use Rattle.aerodromes_places.proofs.Places.{placed13, placed16entry}
 use Rattle.route_places.proofs.Places.{placed15}
 use Rattle.other_places.proofs.Places.{placed18}
 use Rattle.forms.specs.Field22.{labels, labelOf, fieldNamed, whichOf, fits22}
@@ -119,7 +119,7 @@ all-right =
     (and-then (record { right = placed10; one = (bytes "N/N", refl); plain = refl })
     (and-then (record { right = placed13; one = (bytes "EHAM0930", refl); plain = refl })
     (and-then (record { right = placed15; one = (bytes "N0440F310 DCT", refl); plain = refl })
-    (and-then (record { right = placed16plan; one = (bytes "EDDF0100", refl); plain = refl })
+    (and-then (record { right = placed16entry; one = (bytes "EDDF0100", refl); plain = refl })
     (and-then (record { right = placed18; one = (bytes "0", refl); plain = refl })
     none-left)))))))
 

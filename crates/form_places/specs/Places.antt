@@ -15,7 +15,7 @@ use Rattle.head_places.specs.Places.{place3, place7, place8, place9}
 use Rattle.equipment.specs.Field10.{present}
 use Rattle.equipment_places.specs.Places.{place10}
 use Rattle.aerodromes.specs.Aerodromes.{fourLetters, joined}
-use Rattle.aerodromes_places.specs.Places.{place13, place16, place16plan, place17}
+use Rattle.aerodromes_places.specs.Places.{place13, place16, place16plan, place16entry, place17}
 use Rattle.route_places.specs.Places.{place15}
 use Rattle.supplement_places.specs.Places.{place19}
 use Rattle.other.specs.Rules.{base}
@@ -29,7 +29,7 @@ use Rattle.forms.specs.Field22.{labels, whichOf}
 
 -- the places of the eight, in the order of their numbers
 abbrev pub placesNamed : List (List ℕ → ℕ)
-placesNamed = place7 ∷ (place8 ∷ (place9 ∷ (place10 present ∷ (place13 ∷ (place15 ∷ (place16plan ∷ (place18 base ∷ [])))))))
+placesNamed = place7 ∷ (place8 ∷ (place9 ∷ (place10 present ∷ (place13 ∷ (place15 ∷ (place16entry ∷ (place18 base ∷ [])))))))
 
 abbrev pub placeNamed : ℕ → List ℕ → ℕ
 placeNamed n s = getD placesNamed (n - 1) (place18 base) s
@@ -63,6 +63,6 @@ placeIn Field22 s = place22 s
 
 entered : (place22 [] ≡ 0) × (place22 (bytes "/IN") ≡ 0) × (place22 (bytes "123/X") ≡ 1) × (place22 (bytes "1") ≡ 1) × (place22 (bytes "8 /IN") ≡ 1)
     × (place22 (bytes "8") ≡ 1) × (place22 (bytes "8/II") ≡ 3) × (place22 (bytes "8/I") ≡ 3) × (place22 (bytes "13/EHAM2460") ≡ 8)
-    × (place22 (bytes "16/EDDN") ≡ 7) × (place22 (bytes "7/ABC12/A7780") ≡ 11)
+    × (place22 (bytes "16/EDDN0") ≡ 8) × (place22 (bytes "16/EDD1") ≡ 6) × (place22 (bytes "7/ABC12/A7780") ≡ 11)
 unfolding place22 labels letters place7 place8 place16plan timePlace fourLetters joined timeFits
-entered = (refl, refl, refl, refl, refl, refl, refl, refl, refl, refl, refl)
+entered = (refl, refl, refl, refl, refl, refl, refl, refl, refl, refl, refl, refl)

@@ -54,7 +54,7 @@ spelled s e =
     ∙ seam 47 s (p .cut)
 
 held : (s : List ℕ) → fits22 s ≡ true → valid22 (record22 s) ≡ true
-unfolding valid22
+unfolding valid22 labels
 held s e =
     let p = fitting s e in
     and-both (leb 1 (whichOf s)) _ (le-leb 1 (whichOf s) (p .some))
@@ -77,7 +77,7 @@ record Valid (r : Field22) : Type 0 where
   good : fieldNamed (r .which) .valid (r .content) ≡ true
 
 parts : (r : Field22) → valid22 r ≡ true → Valid r
-unfolding valid22
+unfolding valid22 labels
 parts r v =
     let g = both (leb 1 (r .which)) _ v in
     let h = both (leb (r .which) 8) _ (g .1) in

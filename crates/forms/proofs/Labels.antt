@@ -16,14 +16,14 @@ use Rattle.head.specs.Field8.{field8}
 use Rattle.head.specs.Field9.{field9}
 use Rattle.equipment.specs.Field10.{field10, present}
 use Rattle.aerodromes.specs.Field13.{field13}
-use Rattle.aerodromes.specs.Field16.{field16plan}
+use Rattle.aerodromes.specs.Field16.{field16entry}
 use Rattle.route.specs.Field15.{field15}
 use Rattle.head.proofs.Field7.{field7-laws}
 use Rattle.head.proofs.Field8.{field8-laws}
 use Rattle.head.proofs.Field9.{field9-laws}
 use Rattle.equipment.proofs.Field10.{present-laws}
 use Rattle.aerodromes.proofs.Field13.{field13-laws}
-use Rattle.aerodromes.proofs.Field16.{field16plan-laws}
+use Rattle.aerodromes.proofs.Field16.{field16entry-laws}
 use Rattle.route.proofs.Field15.{field15-laws}
 use Rattle.other.specs.Field18.{field18}
 use Rattle.other.proofs.Field18.{field18-laws}
@@ -103,7 +103,7 @@ rank-most w = go (rank w labels) refl
 -- THE FORMS NAMED keep the laws of a field form
 
 named-laws : LawsAll named
-named-laws = (field7-laws, (field8-laws, (field9-laws, (present-laws, (field13-laws, (field15-laws, (field16plan-laws, (field18-laws, tt))))))))
+named-laws = (field7-laws, (field8-laws, (field9-laws, (present-laws, (field13-laws, (field15-laws, (field16entry-laws, (field18-laws, tt))))))))
 
 nth-laws : (fs : List Field) → LawsAll fs → (d : Field) → Laws d → (n : ℕ) → Laws (getD fs n d)
 nth-laws [] ks d k n = k
@@ -123,4 +123,4 @@ last-of (f ∷ fs) d (suc k) h = last-of fs d k (omega arith)
 
 pub last-named : (n : ℕ) → 8 ≤ n → fieldNamed n ≡ field18
 last-named n h =
-    last-of (field7 ∷ (field8 ∷ (field9 ∷ (field10 present ∷ (field13 ∷ (field15 ∷ (field16plan ∷ []))))))) field18 (n - 1) (omega arith)
+    last-of (field7 ∷ (field8 ∷ (field9 ∷ (field10 present ∷ (field13 ∷ (field15 ∷ (field16entry ∷ []))))))) field18 (n - 1) (omega arith)

@@ -29,7 +29,7 @@ fn fits_named(k: usize, s: &[u8]) -> bool
         4 => equipment::fits_field10(s),
         5 => aerodromes::fits_field13(s),
         6 => route::fits_field15(s),
-        7 => aerodromes::fits_field16_plan(s),
+        7 => aerodromes::fits_field16_entry(s),
         _ => other::fits_field18(s),
     }
 }

@@ -28,8 +28,8 @@ fits-field13-requires c κs = search needs
 fits-field15-requires : tie.Need-fits-field15-requires
 fits-field15-requires c κs = search needs
 
-fits-field16-plan-requires : tie.Need-fits-field16-plan-requires
-fits-field16-plan-requires c κs = search needs
+fits-field16-entry-requires : tie.Need-fits-field16-entry-requires
+fits-field16-entry-requires c κs = search needs
 
 fits-field18-requires : tie.Need-fits-field18-requires
 fits-field18-requires c κs = search needs
@@ -70,7 +70,7 @@ returns-7 c =
 returns-8 : tie.Need-returns-8
 returns-8 c =
     let a = c .before .before .before .args in
-    c .fits-field16-plan .ensures ∙ sym (ap (λ (k : ℕ). ltb 0 k && fieldNamed k .fits (a .s .now)) (c .before .match .keys8))
+    c .fits-field16-entry .ensures ∙ sym (ap (λ (k : ℕ). ltb 0 k && fieldNamed k .fits (a .s .now)) (c .before .match .keys8))
 
 returns-9 : tie.Need-returns-9
 returns-9 c =
@@ -89,7 +89,7 @@ fits-named-spec =
     fits-field10-requires
     fits-field13-requires
     fits-field15-requires
-    fits-field16-plan-requires
+    fits-field16-entry-requires
     fits-field18-requires
     returns
     returns-2
