@@ -37,7 +37,7 @@ use Rattle.aerodromes_places.proofs.Places.{placed13, placed16entry}
 use Rattle.route_places.proofs.Places.{placed15}
 use Rattle.other_places.proofs.Places.{placed18}
 use Rattle.forms.specs.Field22.{labels, labelOf, fieldNamed, whichOf, fits22}
-use Rattle.forms.proofs.Labels.{label-ranked, ranked-label}
+use Rattle.forms.proofs.Labels.{label-ranked, ranked-label, rank-most}
 use Rattle.forms.proofs.Field22.{fitting}
 use Rattle.form_places.specs.Places.{placeNamed, place22}
 
@@ -105,7 +105,7 @@ entries-are s =
     iff (anyEntry entriesNamed s) (fits22 s) (λ e. any-fits 8 1 (omega arith) (omega arith) s e)
     (λ e.
     let f = fitting s e in
-    fits-any 8 1 (whichOf s) (f .some) (let h = ranked-label (before 47 s) (f .some) .most in omega arith) s (named-fits s e (whichOf s) refl))
+    fits-any 8 1 (whichOf s) (f .some) (let h = rank-most (before 47 s) in omega arith) s (named-fits s e (whichOf s) refl))
 
 -- EACH OF THE EIGHT has its place, a content that fits, and no oblique in its number
 
@@ -194,7 +194,7 @@ module _ (s : List ℕ) where
             omega (arith, short)
 
     found : entriesPlace entriesNamed s ≡ there
-    found = let m = ranked-label (before 47 s) (omega arith) .most in top n there here most 8 1 (omega arith) (omega arith) some (omega arith)
+    found = let m = rank-most (before 47 s) in top n there here most 8 1 (omega arith) (omega arith) some (omega arith)
 
 place-is : (s : List ℕ) → entriesPlace entriesNamed s ≡ place22 s
 unfolding place22

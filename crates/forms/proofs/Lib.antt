@@ -1,3 +1,4 @@
+pub mod Entry
 pub mod Labels
 pub mod Field22
 pub mod Faults

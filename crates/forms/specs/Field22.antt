@@ -56,6 +56,10 @@ module _ (es : Entries) where
   abbrev pub recordEntry : List ℕ → Entry
   recordEntry s = record { which = rankNamed s; content = formNamed (rankNamed s) .recordOf (behind 47 s) }
 
+  abbrev pub entryForm : Field
+  entryForm =
+      record { Record = Entry; valid = validEntry; spell = spellEntry; fits = fitsEntry; recordOf = recordEntry; canonical = λ r. r }
+
 -- FIELD 22 OF A CHG: eight numbers
 
 unfoldable pub labels : List Word
