@@ -4,7 +4,7 @@ use Prim.Native.Nat.{ℕ, zero, suc, _+_, _-_, _≤_}
 use mathlib.Core.Path.{_≡_, refl, sym, ap, ap₂, _∙_}
 use mathlib.Core.Bool.{Bool, true, false, cond, _&&_, not, false≢true}
 use mathlib.Core.List.{List, [], _∷_, _++_, map}
-use mathlib.Core.Option.{Option, none, some, Option·getD}
+use mathlib.Core.Option.{Option, none, some}
 use native.Mathlib.Omega.{arith}
 use lib.Dec.{ltb, eqb}
 use lib.ListN.{length, drop, getD, set, length-set}
@@ -12,7 +12,7 @@ use lib.Seq.{getD-set-same, getD-set-other, set-comm, drop-cons}
 use borrow.Author.Tests.{eq-eqb, ne-eqb, eqb-true, eqb-false, ltb-true, not-true}
 use Rattle.alphabet.specs.Alphabet.{oneOf}
 use Rattle.text.specs.Words.{Word, onto, split, join, upTo, before, behind, holds, all, free}
-use Rattle.text.proofs.Tests.{both, and-both, all-drop}
+use Rattle.text.proofs.Tests.{both, and-both, all-append, all-drop}
 use Rattle.text.proofs.Joined.{split-join}
 use Rattle.shape.specs.Field.{Field}
 use Rattle.kinds.specs.declared.MessageType.the-variants.{Chg}
@@ -22,7 +22,8 @@ use Rattle.forms.specs.Field22.{whichOf, fits22}
 use Rattle.forms.specs.Forms.{fieldOf}
 use Rattle.forms.proofs.Labels.{rank-most}
 use Rattle.message.specs.Message.{ranksIn, noneTwice}
-use Rattle.force.specs.InForce.{entriesOf, lookup, namedBy, fieldAt, inForce, fieldsFrom, amendedBy, replacedBy, ranksOf, allNamed, Reordered}
+use Rattle.force.specs.InForce.{entriesOf, lookup, namedBy, fieldAt, bare, putIn, changedBy, fieldsFrom, amendedBy, replaced, replacedBy}
+use Rattle.force.specs.InForce.{ranksOf, allNamed, Reordered}
 use Rattle.force.specs.InForce.Reordered.{empty, keep, swap, join as both-orders}
 
 -- FIELDS by their places
@@ -71,35 +72,43 @@ named-lookup chg k h = go (eqb k 0) refl
 
 length-replaced : (cs es : List Word) → length (replacedBy cs es) ≡ length cs
 length-replaced cs [] = refl
-length-replaced cs (e ∷ es) = length-replaced (set cs (whichOf e) (behind 47 e)) es ∙ length-set cs (whichOf e) (behind 47 e)
+length-replaced cs (e ∷ es) = length-replaced (replaced cs e) es ∙ length-set cs (whichOf e) (putIn (whichOf e) (behind 47 e) (getD cs (whichOf e) []))
 
--- a field after all entries: what the one that names it has, or what it was
+-- a field after one entry: what the entry makes of it where it names it, otherwise as it was
+replaced-here : (cs : List Word) (e : Word) → length cs ≡ 9 → getD (replaced cs e) (whichOf e) [] ≡ putIn (whichOf e) (behind 47 e) (getD cs (whichOf e) [])
+replaced-here cs e l =
+    getD-set-same cs (whichOf e) (putIn (whichOf e) (behind 47 e) (getD cs (whichOf e) [])) [] (omega (arith, rank-most (before 47 e)))
+
+replaced-other : (cs : List Word) (e : Word) (k : ℕ) → (k ≡ whichOf e → ⊥) → getD (replaced cs e) k [] ≡ getD cs k []
+replaced-other cs e k h = getD-set-other cs (whichOf e) k (putIn (whichOf e) (behind 47 e) (getD cs (whichOf e) [])) [] h
+
+-- a field after all entries: what the one that names it makes of it, or what it was
 pub replaced-at : (cs es : List Word) (k : ℕ) → length cs ≡ 9 → noneTwice (ranksOf es) ≡ true
-    → getD (replacedBy cs es) k [] ≡ Option·getD (lookup k es) (getD cs k [])
+    → getD (replacedBy cs es) k [] ≡ changedBy k (lookup k es) (getD cs k [])
 replaced-at cs [] k l h = refl
 replaced-at cs (e ∷ es) k l h =
-    replaced-at (set cs (whichOf e) (behind 47 e)) es k (length-set cs (whichOf e) (behind 47 e) ∙ l) (p .1) ∙ go (eqb (whichOf e) k) refl
+    replaced-at (replaced cs e) es k (length-replaced cs (e ∷ []) ∙ l) (p .1) ∙ go (eqb (whichOf e) k) refl
   where
     p : (not (oneOf (whichOf e) (ranksOf es)) ≡ true) × (noneTwice (ranksOf es) ≡ true)
     p = both (not (oneOf (whichOf e) (ranksOf es))) (noneTwice (ranksOf es)) h
 
     go : (b : Bool) → eqb (whichOf e) k ≡ b
-        → Option·getD (lookup k es) (getD (set cs (whichOf e) (behind 47 e)) k []) ≡ Option·getD (cond b (some (behind 47 e)) (lookup k es)) (getD cs k [])
+        → changedBy k (lookup k es) (getD (replaced cs e) k []) ≡ changedBy k (cond b (some (behind 47 e)) (lookup k es)) (getD cs k [])
     go true q =
         let z = eqb-true (whichOf e) k q in
         let gone : lookup k es ≡ none
         = ap (λ (i : ℕ). lookup i es) (sym z) ∙ lookup-none (whichOf e) es (not-true (oneOf (whichOf e) (ranksOf es)) (p .0)) in
-        ap (λ (o : Option Word). Option·getD o (getD (set cs (whichOf e) (behind 47 e)) k [])) gone
-        ∙ ap (λ (i : ℕ). getD (set cs (whichOf e) (behind 47 e)) i []) (sym z)
-        ∙ getD-set-same cs (whichOf e) (behind 47 e) [] (omega (arith, rank-most (before 47 e)))
-    go false q =
-        ap (Option·getD (lookup k es)) (getD-set-other cs (whichOf e) k (behind 47 e) [] (λ z. eqb-false (whichOf e) k q (sym z)))
+        ap (λ (o : Option Word). changedBy k o (getD (replaced cs e) k [])) gone
+        ∙ ap (λ (i : ℕ). getD (replaced cs e) i []) (sym z)
+        ∙ replaced-here cs e l
+        ∙ ap (λ (i : ℕ). putIn i (behind 47 e) (getD cs i [])) z
+    go false q = ap (changedBy k (lookup k es)) (replaced-other cs e k (λ z. eqb-false (whichOf e) k q (sym z)))
 
 pub amended-replaced : (plan chg : List ℕ) → length (split 45 plan) ≡ 9 → allNamed (entriesOf chg) ≡ true → noneTwice (ranksOf (entriesOf chg)) ≡ true
     → amendedBy plan chg ≡ replacedBy (split 45 plan) (entriesOf chg)
 amended-replaced plan chg l a n =
-    fields-same (inForce plan chg) (λ i. getD (replacedBy (split 45 plan) (entriesOf chg)) i [])
-    (λ i. ap (λ (o : Option Word). Option·getD o (fieldAt plan i)) (named-lookup chg i a) ∙ sym (replaced-at (split 45 plan) (entriesOf chg) i l n)) 0 9
+    fields-same (λ i. changedBy i (namedBy chg i) (fieldAt plan i)) (λ i. getD (replacedBy (split 45 plan) (entriesOf chg)) i [])
+    (λ i. ap (λ (o : Option Word). changedBy i o (fieldAt plan i)) (named-lookup chg i a) ∙ sym (replaced-at (split 45 plan) (entriesOf chg) i l n)) 0 9
     ∙ fields-are (replacedBy (split 45 plan) (entriesOf chg)) 0 9 (omega (arith, length-replaced (split 45 plan) (entriesOf chg)))
 
 -- IN ANY ORDER
@@ -139,15 +148,23 @@ twice-moved (swap e f {es}) =
     go false false false = refl
 twice-moved (both-orders r s) = twice-moved r ∙ twice-moved s
 
+-- two entries that name different fields
+replaced-two : (cs : List Word) (e f : Word) → (whichOf e ≡ whichOf f → ⊥) → replaced (replaced cs e) f ≡ replaced (replaced cs f) e
+replaced-two cs e f h =
+    let a = putIn (whichOf e) (behind 47 e) (getD cs (whichOf e) []) in
+    let b = putIn (whichOf f) (behind 47 f) (getD cs (whichOf f) []) in
+    ap (λ (w : Word). set (replaced cs e) (whichOf f) (putIn (whichOf f) (behind 47 f) w)) (replaced-other cs e (whichOf f) (λ z. h (sym z)))
+    ∙ set-comm cs (whichOf e) (whichOf f) a b h
+    ∙ ap (λ (w : Word). set (replaced cs f) (whichOf e) (putIn (whichOf e) (behind 47 e) w)) (sym (replaced-other cs f (whichOf e) h))
+
 pub replaced-moved : (cs : List Word) {es fs : List Word} → Reordered es fs → noneTwice (ranksOf es) ≡ true → replacedBy cs es ≡ replacedBy cs fs
 replaced-moved cs empty h = refl
 replaced-moved cs (keep e {es} r) h =
-    replaced-moved (set cs (whichOf e) (behind 47 e)) r (both (not (oneOf (whichOf e) (ranksOf es))) (noneTwice (ranksOf es)) h .1)
+    replaced-moved (replaced cs e) r (both (not (oneOf (whichOf e) (ranksOf es))) (noneTwice (ranksOf es)) h .1)
 replaced-moved cs (swap e f {es}) h =
     let p = both (not (oneOf (whichOf e) (ranksOf (f ∷ es)))) (noneTwice (ranksOf (f ∷ es))) h in
     ap (λ (l : List Word). replacedBy l es)
-    (set-comm cs (whichOf e) (whichOf f) (behind 47 e) (behind 47 f)
-    (apart (eqb (whichOf e) (whichOf f)) refl (not-true (oneOf (whichOf e) (ranksOf (f ∷ es))) (p .0))))
+    (replaced-two cs e f (apart (eqb (whichOf e) (whichOf f)) refl (not-true (oneOf (whichOf e) (ranksOf (f ∷ es))) (p .0))))
   where
     apart : (b : Bool) → eqb (whichOf e) (whichOf f) ≡ b → cond b true (oneOf (whichOf e) (ranksOf es)) ≡ false → whichOf e ≡ whichOf f → ⊥
     apart true q n = absurd (false≢true (sym n))
@@ -214,22 +231,29 @@ getD-free (w ∷ ws) (suc j) h = getD-free ws j (both (free 45 w) (all (free 45)
 pub field-free : (s : List ℕ) (j : ℕ) → free 45 (fieldAt s j) ≡ true
 field-free s j = getD-free (split 45 s) j (pieces-free s)
 
-lookup-free : (k : ℕ) (es : List Word) (w : Word) → all (free 45) es ≡ true → free 45 w ≡ true → free 45 (Option·getD (lookup k es) w) ≡ true
-lookup-free k [] w h f = f
-lookup-free k (e ∷ es) w h f = go (lookup-free k es w (p .1) f) (eqb (whichOf e) k)
+put-free : (k : ℕ) (c own : Word) → free 45 c ≡ true → free 45 own ≡ true → free 45 (putIn k c own) ≡ true
+put-free k c own p q = go (bare k c)
+  where
+    go : (b : Bool) → free 45 (cond b (c ++ drop 4 own) c) ≡ true
+    go true = all-append (λ b. not (eqb b 45)) c (drop 4 own) p (all-drop (λ b. not (eqb b 45)) 4 own q)
+    go false = p
+
+lookup-free : (k : ℕ) (es : List Word) (own : Word) → all (free 45) es ≡ true → free 45 own ≡ true → free 45 (changedBy k (lookup k es) own) ≡ true
+lookup-free k [] own h f = f
+lookup-free k (e ∷ es) own h f = go (lookup-free k es own (p .1) f) (eqb (whichOf e) k)
   where
     p : (free 45 e ≡ true) × (all (free 45) es ≡ true)
     p = both (free 45 e) (all (free 45) es) h
 
-    go : free 45 (Option·getD (lookup k es) w) ≡ true → (b : Bool) → free 45 (Option·getD (cond b (some (behind 47 e)) (lookup k es)) w) ≡ true
-    go ih true = all-drop (λ b. not (eqb b 45)) (suc (upTo 47 e)) e (p .0)
+    go : free 45 (changedBy k (lookup k es) own) ≡ true → (b : Bool) → free 45 (changedBy k (cond b (some (behind 47 e)) (lookup k es)) own) ≡ true
+    go ih true = put-free k (behind 47 e) own (all-drop (λ b. not (eqb b 45)) (suc (upTo 47 e)) e (p .0)) f
     go ih false = ih
 
-pub in-force-free : (plan chg : List ℕ) (k : ℕ) → free 45 (inForce plan chg k) ≡ true
+pub changed-free : (plan chg : List ℕ) (k : ℕ) → free 45 (changedBy k (namedBy chg k) (fieldAt plan k)) ≡ true
 unfolding namedBy
-in-force-free plan chg k = go (eqb k 0)
+changed-free plan chg k = go (eqb k 0)
   where
-    go : (b : Bool) → free 45 (Option·getD (cond b none (lookup k (entriesOf chg))) (fieldAt plan k)) ≡ true
+    go : (b : Bool) → free 45 (changedBy k (cond b none (lookup k (entriesOf chg))) (fieldAt plan k)) ≡ true
     go true = field-free plan k
     go false = lookup-free k (entriesOf chg) (fieldAt plan k) (all-drop (free 45) firstEntry (split 45 chg) (pieces-free chg)) (field-free plan k)
 

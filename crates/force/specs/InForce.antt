@@ -1,10 +1,10 @@
--- The fields in force (document 01, "The strip"): what a CHG puts in place of a plan's fields, and where it stands. A plan and a CHG are given
--- by their texts, which stand between the parentheses. The fields that an entry can name have ranks 1 to 8, and the plan's field of rank k is
--- its k-th, counted from 0: the field of rank 0 is field 3, which no entry names. Assumes nothing.
+-- The fields in force (document 01, "The strip"): what a CHG has in place of a plan's fields, where it stands, and what its entries make of the plan.
+-- A plan and a CHG are given by their texts, which stand between the parentheses. The fields that an entry can name have ranks 1 to 8, and the plan's
+-- field of rank k is its k-th, counted from 0: the field of rank 0 is field 3, which no entry names. Assumes nothing.
 use Prim.Native.Nat.{ℕ, zero, suc, _+_, _-_, _≤_}
 use mathlib.Core.Path.{_≡_, refl}
-use mathlib.Core.Bool.{Bool, cond}
-use mathlib.Core.List.{List, [], _∷_, map}
+use mathlib.Core.Bool.{Bool, true, false, _&&_, cond}
+use mathlib.Core.List.{List, [], _∷_, _++_, map}
 use mathlib.Core.Option.{Option, none, some, Option·getD}
 use lib.Dec.{ltb, eqb}
 use lib.ListN.{length, take, drop, getD, set}
@@ -12,7 +12,9 @@ use Rattle.alphabet.specs.Text.{bytes}
 use Rattle.text.specs.Words.{Word, split, behind, all}
 use Rattle.space.specs.Hyphens.{behindHyphen}
 use Rattle.sent.specs.Sent.{messageOf}
-use Rattle.kinds.specs.Kinds.{firstEntry}
+use Rattle.aerodromes.specs.Aerodromes.{fourLetters}
+use Rattle.aerodromes.specs.Field16.{fits16}
+use Rattle.kinds.specs.Kinds.{plan7, plan16, firstEntry}
 use Rattle.forms.specs.Field22.{labels, whichOf}
 use Rattle.force.specs.declared.Found.{Found}
 use Rattle.force.specs.declared.Found.the-variants.{At, Nowhere}
@@ -39,15 +41,6 @@ fieldAt s j = getD (split 45 s) j []
 abbrev pub inForce : List ℕ → List ℕ → ℕ → Word
 inForce plan chg k = Option·getD (namedBy chg k) (fieldAt plan k)
 
--- n fields from the j-th on
-abbrev pub fieldsFrom : (ℕ → Word) → ℕ → ℕ → List Word
-fieldsFrom f j zero = []
-fieldsFrom f j (suc n) = f j ∷ fieldsFrom f (suc j) n
-
--- the nine fields of the amended plan
-abbrev pub amendedBy : List ℕ → List ℕ → List Word
-amendedBy plan chg = fieldsFrom (inForce plan chg) 0 9
-
 -- WHERE IT STANDS
 
 -- field j of a text begins so many bytes on; at the end where there are fewer fields
@@ -71,12 +64,40 @@ abbrev pub FoundIn : List ℕ → ℕ → Found → Type 0
 FoundIn chg k (At from to) = (from ≤ to) × (to ≤ length chg) × (namedBy chg k ≡ some (take (to - from) (drop from chg))) × (namedAt chg k ≡ some from)
 FoundIn chg k Nowhere = (namedBy chg k ≡ none) × (namedAt chg k ≡ none)
 
+-- THE AMENDED PLAN: an entry's content stands in the place of the plan's own; four letters alone for field 16 are a new destination, and what stands
+-- behind the plan's own destination stays (document 02, request 2)
+
+-- a destination alone, for the field of rank k
+abbrev pub bare : ℕ → Word → Bool
+bare k c = eqb k plan16 && fits16 c
+
+-- the plan's own field of rank k with such a content put in
+abbrev pub putIn : ℕ → Word → Word → Word
+putIn k c own = cond (bare k c) (c ++ drop 4 own) c
+
+-- and with what is had for it, if anything is
+abbrev pub changedBy : ℕ → Option Word → Word → Word
+changedBy k none own = own
+changedBy k (some c) own = putIn k c own
+
+-- n fields from the j-th on
+abbrev pub fieldsFrom : (ℕ → Word) → ℕ → ℕ → List Word
+fieldsFrom f j zero = []
+fieldsFrom f j (suc n) = f j ∷ fieldsFrom f (suc j) n
+
+-- the nine fields of the amended plan
+abbrev pub amendedBy : List ℕ → List ℕ → List Word
+amendedBy plan chg = fieldsFrom (λ k. changedBy k (namedBy chg k) (fieldAt plan k)) 0 9
+
 -- ONE ENTRY AFTER THE OTHER
 
--- the fields with each entry's content put in the place of the field that it names
+-- the fields with one entry's content put in, and with that of each
+abbrev pub replaced : List Word → Word → List Word
+replaced cs e = set cs (whichOf e) (putIn (whichOf e) (behind 47 e) (getD cs (whichOf e) []))
+
 abbrev pub replacedBy : List Word → List Word → List Word
 replacedBy cs [] = cs
-replacedBy cs (e ∷ es) = replacedBy (set cs (whichOf e) (behind 47 e)) es
+replacedBy cs (e ∷ es) = replacedBy (replaced cs e) es
 
 -- the same entries in another order
 pub data Reordered : List Word → List Word → Type 0 where
@@ -104,10 +125,25 @@ amended : messageOf (amendedBy plan chg) ≡ bytes "(FPL-ABC12-IN-B39M/M-SDFG/S-
 unfolding namedBy labels
 amended = refl
 
+-- a destination alone: elapsed time and alternates keep their bytes. Four letters are none for field 7, nor is a whole field 16
+put-in : (bare plan16 (bytes "EDDN") ≡ true) × (bare plan16 (bytes "EDDN0100") ≡ false) × (bare plan7 (bytes "EDDN") ≡ false)
+    × (putIn plan16 (bytes "EDDN") (bytes "EDDF0100 EDDK") ≡ bytes "EDDN0100 EDDK")
+    × (putIn plan16 (bytes "EDDN0200") (bytes "EDDF0100 EDDK") ≡ bytes "EDDN0200")
+    × (putIn plan7 (bytes "EDDN") (bytes "ABC12/A7777") ≡ bytes "EDDN")
+unfolding fourLetters
+put-in = (refl, refl, refl, refl, refl, refl)
+
+abbrev rerouted : List ℕ
+rerouted = bytes "CHG-ABC12-EHAM0930-EDDF-0-16/EDDN-8/IN"
+
+new-destination : messageOf (amendedBy plan rerouted) ≡ bytes "(FPL-ABC12-IN-B738/M-SDFG/S-EHAM0930-N0440F310 DCT PAM DCT-EDDN0100 EDDK-0)"
+unfolding namedBy labels fourLetters
+new-destination = refl
+
 -- one entry after the other gives the same
-replaced : replacedBy (split 45 plan) (entriesOf chg) ≡ amendedBy plan chg
-unfolding namedBy labels
-replaced = refl
+one-by-one : (replacedBy (split 45 plan) (entriesOf chg) ≡ amendedBy plan chg) × (replacedBy (split 45 plan) (entriesOf rerouted) ≡ amendedBy plan rerouted)
+unfolding namedBy labels fourLetters
+one-by-one = (refl, refl)
 
 in-force : (inForce plan chg 3 ≡ bytes "B39M/M") × (inForce plan chg 4 ≡ bytes "SDFG/S") × (inForce plan chg 0 ≡ bytes "FPL") × (inForce plan chg 9 ≡ [])
 unfolding namedBy labels

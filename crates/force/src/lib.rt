@@ -3,7 +3,7 @@ ghost use mathlib.Core.Path.{_≡_};
 ghost use Prim.Native.Nat.{ℕ, _≤_, _<_};
 ghost use lib.ListN.{length, drop};
 ghost use Rattle.space.specs.Hyphens.{behindHyphen};
-ghost use Rattle.force.specs.InForce.{AtEntries, FoundIn};
+ghost use Rattle.force.specs.InForce.{AtEntries, FoundIn, bare};
 use kinds::Form;
 use text::Cursor;
 
@@ -67,4 +67,14 @@ pub fn named(chg: &[u8], k: usize) -> Found
     ensures { λ r. ⌜ FoundIn (now (chg .entry)) k r ⌝ }
 {
     named_from(chg, first_entry(chg), k)
+}
+
+// Whether a content for the field of rank k is a destination alone.
+pub fn is_bare(k: usize, content: &[u8]) -> bool
+    ensures { λ r. ⌜ r ≡ bare k (now (content .entry)) ⌝ }
+{
+    if k != kinds::PLAN_16 {
+        return false;
+    }
+    aerodromes::fits_field16(content)
 }
