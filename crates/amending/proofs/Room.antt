@@ -18,8 +18,8 @@ use Rattle.kinds.specs.declared.Role.{Role}
 use Rattle.kinds.specs.declared.Role.the-variants.{Files, Changes, Delays, Cancels, Departs, Arrives, Neither}
 use Rattle.kinds.specs.Kinds.{plan13, brief13, firstEntry}
 use Rattle.forms.specs.Field22.{whichOf}
-use Rattle.force.specs.InForce.{entriesOf, lookup, namedBy, fieldAt, fieldsFrom}
-use Rattle.force.proofs.Laws.{fields-are, field-free, in-force-free, nine-cut}
+use Rattle.force.specs.InForce.{entriesOf, lookup, namedBy, fieldAt, bare, changedBy, fieldsFrom}
+use Rattle.force.proofs.Laws.{fields-are, field-free, changed-free, nine-cut}
 use Rattle.amending.specs.Amended.{contentOf, amended, newStrip}
 
 -- SUMS over n places from j on
@@ -122,9 +122,14 @@ named-sum said =
       total-fields firstEntry said,
     )
 
-either-long : (o : Option Word) (own : Word) → suc (length (Option·getD o own)) ≤ suc (length own) + length (Option·getD o [])
-either-long none own = omega arith
-either-long (some w) own = omega arith
+-- what an entry makes of a field is no longer than the two together
+either-long : (k : ℕ) (o : Option Word) (own : Word) → suc (length (changedBy k o own)) ≤ suc (length own) + length (Option·getD o [])
+either-long k none own = omega arith
+either-long k (some w) own = go (bare k w)
+  where
+    go : (b : Bool) → suc (length (cond b (w ++ drop 4 own) w)) ≤ suc (length own) + length w
+    go true = omega (arith, length-append w (drop 4 own), length-drop 4 own)
+    go false = omega arith
 
 module _ (plan said : List ℕ) where
   abbrev own : ℕ → ℕ
@@ -137,7 +142,7 @@ module _ (plan said : List ℕ) where
   changed-sum =
       omega (
         arith,
-        sum-least (new Changes) (λ k. own k + length (Option·getD (namedBy said k) [])) 0 9 (λ k l. either-long (namedBy said k) (fieldAt plan k)),
+        sum-least (new Changes) (λ k. own k + length (Option·getD (namedBy said k) [])) 0 9 (λ k l. either-long k (namedBy said k) (fieldAt plan k)),
         sum-plus own (λ k. length (Option·getD (namedBy said k) [])) 0 9,
         named-sum said,
       )
@@ -187,7 +192,7 @@ module _ (plan said : List ℕ) where
   all-take p (suc n) (x ∷ w) e = let h = both (p x) (all p w) e in and-both (p x) (all p (take n w)) (h .0) (all-take p n w (h .1))
 
   content-free : (role : Role) (k : ℕ) → free 45 (contentOf role plan said k) ≡ true
-  content-free Changes k = in-force-free plan said k
+  content-free Changes k = changed-free plan said k
   content-free Delays k = go (eqb k 5)
     where
       go : (b : Bool) → free 45 (cond b (take 4 (fieldAt plan k) ++ drop 4 (fieldAt said brief13)) (fieldAt plan k)) ≡ true

@@ -4,7 +4,6 @@ use Prim.Native.Nat.{ℕ}
 use mathlib.Core.Path.{_≡_, refl}
 use mathlib.Core.Bool.{cond}
 use mathlib.Core.List.{List, _++_}
-use mathlib.Core.Option.{Option·getD}
 use lib.Dec.{eqb}
 use lib.ListN.{length, take, drop}
 use Rattle.alphabet.specs.Text.{bytes}
@@ -16,13 +15,14 @@ use Rattle.kinds.specs.declared.Role.{Role}
 use Rattle.kinds.specs.declared.Role.the-variants.{Files, Changes, Delays, Cancels, Departs, Arrives, Neither}
 use Rattle.kinds.specs.Kinds.{roleOf, plan13, brief13}
 use Rattle.forms.specs.Field22.{labels}
-use Rattle.force.specs.InForce.{namedBy, fieldAt, fieldsFrom}
+use Rattle.aerodromes.specs.Aerodromes.{fourLetters}
+use Rattle.force.specs.InForce.{namedBy, fieldAt, changedBy, fieldsFrom}
 
--- FIELD k OF THE AMENDED PLAN, from the plan's own: a CHG's where it names it; of a DLA the time in 13, behind the aerodrome of the plan; otherwise the
--- plan's own
+-- FIELD k OF THE AMENDED PLAN, from the plan's own: what a CHG's entry makes of it where one names it; of a DLA the time in 13, behind the aerodrome of
+-- the plan; otherwise the plan's own
 
 abbrev pub contentIn : Role → Word → List ℕ → ℕ → Word
-contentIn Changes own said k = Option·getD (namedBy said k) own
+contentIn Changes own said k = changedBy k (namedBy said k) own
 contentIn Delays own said k = cond (eqb k plan13) (take 4 own ++ drop 4 (fieldAt said brief13)) own
 contentIn Cancels own said k = own
 contentIn Departs own said k = own
@@ -54,6 +54,17 @@ changed : newStrip (roleOf Chg) filed (bytes "CHG-ABC12-EHAM0930-EDDF-0-9/B39M/M
     ≡ bytes "(FPL-ABC12-IN-B39M/M-SDFG/S-EHAM0930-N0440F310 DCT PAM DCT-EDDF0100 EDDK-0)"
 unfolding newStrip namedBy labels
 changed = refl
+
+-- of field 16 the destination alone, where the entry has no more; otherwise the whole field
+diverted : newStrip (roleOf Chg) filed (bytes "CHG-ABC12-EHAM0930-EDDF-0-16/EDDN")
+    ≡ bytes "(FPL-ABC12-IS-B738/M-SDFG/S-EHAM0930-N0440F310 DCT PAM DCT-EDDN0100 EDDK-0)"
+unfolding newStrip namedBy labels fourLetters
+diverted = refl
+
+redirected : newStrip (roleOf Chg) filed (bytes "CHG-ABC12-EHAM0930-EDDF-0-16/EDDN0100")
+    ≡ bytes "(FPL-ABC12-IS-B738/M-SDFG/S-EHAM0930-N0440F310 DCT PAM DCT-EDDN0100-0)"
+unfolding newStrip namedBy labels fourLetters
+redirected = refl
 
 delayed : newStrip (roleOf Dla) filed (bytes "DLA-ABC12-EHAM1015-EDDF-0") ≡ bytes "(FPL-ABC12-IS-B738/M-SDFG/S-EHAM1015-N0440F310 DCT PAM DCT-EDDF0100 EDDK-0)"
 unfolding newStrip

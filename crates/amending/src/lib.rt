@@ -5,7 +5,7 @@ ghost use Prim.Native.Nat.{suc, _≤_};
 ghost use lib.ListN.{length, drop, getD};
 ghost use Rattle.text.specs.Words.{split};
 ghost use Rattle.message.specs.Reading.{leadOf};
-ghost use Rattle.force.specs.InForce.{AtEntries};
+ghost use Rattle.force.specs.InForce.{AtEntries, putIn};
 ghost use Rattle.amending.specs.Amended.{contentIn, newStrip, Puts};
 use force::Found;
 use kinds::Role;
@@ -31,17 +31,6 @@ pub fn behind_aerodrome<'a>(s: &'a [u8]) -> &'a [u8]
     &s[4..]
 }
 
-// Writes field k of a plan after a CHG at the front of `out`: the content that names it, otherwise the plan's own. The entries begin at `first`.
-fn put_changed<'a>(own: &'a [u8], said: &'a [u8], first: Cursor, k: usize, out: &mut [u8]) -> usize
-    requires { ⌜ AtEntries (now said) (first .at) × (length (contentIn Role.Changes (now own) (now said) k) ≤ length (now out)) ⌝ }
-    ensures { λ r. ⌜ Puts (contentIn Role.Changes (now (own .entry)) (now (said .entry)) k) r (now (out .entry)) (now (out .exit)) ⌝ }
-{
-    match force::named_from(said, first, k) {
-        Found::At { from, to } => text::put(&said[from..to], out),
-        Found::Nowhere => text::put(own, out),
-    }
-}
-
 // Writes two parts, one behind the other, at the front of `out`.
 fn put_two<'a>(first: &'a [u8], second: &'a [u8], out: &mut [u8]) -> usize
     requires { ⌜ length (now first ++ now second) ≤ length (now out) ⌝ }
@@ -49,6 +38,29 @@ fn put_two<'a>(first: &'a [u8], second: &'a [u8], out: &mut [u8]) -> usize
 {
     let n = text::put(first, out);
     n + text::put(second, &mut out[n..])
+}
+
+// Writes the plan's own field of rank k with an entry's content put in: behind a destination alone, what stands behind the plan's own.
+fn put_entry<'a>(own: &'a [u8], content: &'a [u8], k: usize, out: &mut [u8]) -> usize
+    requires { ⌜ length (putIn k (now content) (now own)) ≤ length (now out) ⌝ }
+    ensures { λ r. ⌜ Puts (putIn k (now (content .entry)) (now (own .entry))) r (now (out .entry)) (now (out .exit)) ⌝ }
+{
+    if force::is_bare(k, content) {
+        return put_two(content, behind_aerodrome(own), out);
+    }
+    text::put(content, out)
+}
+
+// Writes field k of a plan after a CHG at the front of `out`: what the entry that names it makes of it, otherwise the plan's own. The entries begin
+// at `first`.
+fn put_changed<'a>(own: &'a [u8], said: &'a [u8], first: Cursor, k: usize, out: &mut [u8]) -> usize
+    requires { ⌜ AtEntries (now said) (first .at) × (length (contentIn Role.Changes (now own) (now said) k) ≤ length (now out)) ⌝ }
+    ensures { λ r. ⌜ Puts (contentIn Role.Changes (now (own .entry)) (now (said .entry)) k) r (now (out .entry)) (now (out .exit)) ⌝ }
+{
+    match force::named_from(said, first, k) {
+        Found::At { from, to } => put_entry(own, &said[from..to], k, out),
+        Found::Nowhere => text::put(own, out),
+    }
 }
 
 // Writes field k of a plan after a DLA: of field 13 the plan's aerodrome and the DLA's time, otherwise the plan's own.

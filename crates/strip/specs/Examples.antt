@@ -6,10 +6,17 @@ use Prim.Native.Nat.{ℕ}
 use Rattle.alphabet.specs.Text.{bytes}
 use Rattle.text.specs.Words.{split}
 use Rattle.shape.specs.Time.{timeFits}
-use Rattle.kinds.specs.declared.MessageType.the-variants.{Cnl, Dla, Dep, Arr, Rqp}
+use Rattle.kinds.specs.declared.MessageType.the-variants.{Chg, Cnl, Dla, Dep, Arr, Rqp}
 use Rattle.kinds.specs.Kinds.{roleOf}
 use Rattle.state.specs.declared.Event.the-variants.{Depart, Arrive}
+use Rattle.aerodromes.specs.Aerodromes.{fourLetters}
 use Rattle.aerodromes.specs.Asked.{aerodromeIn}
+use Rattle.other.specs.Field18.{hasKey}
+use Rattle.forms.specs.Field22.{labels}
+use Rattle.plan.specs.Unexplained.{unexplained}
+use Rattle.message.specs.Reading.{unexplainedIn}
+use Rattle.force.specs.InForce.{namedBy}
+use Rattle.amending.specs.Amended.{amended}
 use Rattle.strip.specs.declared.Offered.the-variants.{Says, Unfit}
 use Rattle.strip.specs.Updating.{eventOf, differences, differs}
 
@@ -31,3 +38,17 @@ compared : (differs (differences (roleOf Cnl) (split 45 filed) (split 45 (bytes 
     × (differs (differences (roleOf Arr) (split 45 filed) (split 45 (bytes "ARR-ABC12-EHAM0930-EDDF1042"))) ≡ false)
     × (differs (differences (roleOf Arr) (split 45 filed) (split 45 (bytes "ARR-ABC12-EHAM0930-EDDK1042"))) ≡ true)
 compared = (refl, refl, refl, refl, refl, refl)
+
+-- after a new destination alone a message must name it
+diverted : (differs (differences (roleOf Chg) (amended (roleOf Chg) filed (bytes "CHG-ABC12-EHAM0930-EDDF-0-16/EDDN"))
+    (split 45 (bytes "CHG-ABC12-EHAM0930-EDDN-0-8/IN"))) ≡ false)
+    × (differs (differences (roleOf Chg) (amended (roleOf Chg) filed (bytes "CHG-ABC12-EHAM0930-EDDF-0-16/EDDN"))
+    (split 45 (bytes "CHG-ABC12-EHAM0930-EDDF-0-8/IN"))) ≡ true)
+unfolding namedBy labels fourLetters
+diverted = (refl, refl)
+
+-- 10 is asked of the amended plan: a new destination ZZZZ must be explained, by the plan's own field 18 or by an entry's
+unlisted : (unexplainedIn (amended (roleOf Chg) filed (bytes "CHG-ABC12-EHAM0930-EDDF-0-16/ZZZZ")) ≡ 16)
+    × (unexplainedIn (amended (roleOf Chg) filed (bytes "CHG-ABC12-EHAM0930-EDDF-0-16/ZZZZ-18/DEST/SOBKIVKA")) ≡ 0)
+unfolding namedBy labels fourLetters unexplained hasKey
+unlisted = (refl, refl)

@@ -1,18 +1,19 @@
 -- `amending::put_changed` meets its contract. Assumes nothing.
+use Prim.Native.Nat.{ℕ}
 use mathlib.Core.Path.{_≡_, sym, ap}
-use mathlib.Core.Option.{Option, Option·getD}
+use mathlib.Core.Option.{Option}
 use Rattle.text.specs.Words.{Word}
 use Rattle.canonical.proofs.Turns.{put-same, room-same}
 use Rattle.force.specs.declared.Found.the-variants.{At}
-use Rattle.force.specs.InForce.{FoundIn}
+use Rattle.force.specs.InForce.{changedBy, FoundIn}
 use Rattle.force.proofs.Walk.{as-found}
 use borrow.Author.Needs.{needs}
 use Rattle.amending.proofs.put_changed.Statement.{statement}
 use Rattle.amending.proofs.put_changed.Tie as tie
 
 -- the content, once it is known whether the text names the field
-given-by : (own : Word) {o v : Option Word} → o ≡ v → Option·getD v own ≡ Option·getD o own
-given-by own e = sym (ap (λ (o : Option Word). Option·getD o own) e)
+given-by : (k : ℕ) (own : Word) {o v : Option Word} → o ≡ v → changedBy k v own ≡ changedBy k o own
+given-by k own e = sym (ap (λ (o : Option Word). changedBy k o own) e)
 
 -- where it stands in the text
 module _ (c : tie.After-known-told) where
@@ -28,28 +29,29 @@ named-from-requires c κs = c .before .before .before .pre .0
 enum-known-from : tie.Need-enum-known-from
 enum-known-from c = search needs
 
-sub-put : tie.Need-sub-put
-sub-put c = found c .0
+sub-put-entry : tie.Need-sub-put-entry
+sub-put-entry c = found c .0
 
-part-put-start : tie.Need-part-put-start
-part-put-start c = found c .0
+part-put-entry-start : tie.Need-part-put-entry-start
+part-put-entry-start c = found c .0
 
-part-put-end : tie.Need-part-put-end
-part-put-end c = found c .1
+part-put-entry-end : tie.Need-part-put-entry-end
+part-put-entry-end c = found c .1
 
-put-requires : tie.Need-put-requires
-put-requires c κs =
+put-entry-requires : tie.Need-put-entry-requires
+put-entry-requires c κs =
     let d = c .before .before in
-    room-same (start d .args .out .now) (sym (given-by (start d .args .own .now) (found d .2))) (start d .pre .1)
+    let a = start d .args in
+    room-same (a .out .now) (sym (given-by (a .k) (a .own .now) (found d .2))) (start d .pre .1)
 
 enum-told : tie.Need-enum-told
 enum-told c = search needs
 
-put-requires-2 : tie.Need-put-requires-2
-put-requires-2 c κs =
+put-requires : tie.Need-put-requires
+put-requires c κs =
     let s = c .before .before .before .before .before .before .before in
     let nowhere = as-found _ _ (c .before .before .before .named-from .ensures) (c .before .enum-told .given .1) .0 in
-    room-same (s .args .out .now) (sym (given-by (s .args .own .now) nowhere)) (s .pre .1)
+    room-same (s .args .out .now) (sym (given-by (s .args .k) (s .args .own .now) nowhere)) (s .pre .1)
 
 same-length : tie.Need-same-length
 same-length c = search needs
@@ -57,7 +59,8 @@ same-length c = search needs
 returns : tie.Need-returns
 returns c =
     let d = c .before .before .before .before .before in
-    put-same (start d .args .out .now) (given-by (start d .args .own .now) (found d .2)) (c .before .before .put .ensures)
+    let a = start d .args in
+    put-same (a .out .now) (given-by (a .k) (a .own .now) (found d .2)) (c .before .before .put-entry .ensures)
 
 same-length-2 : tie.Need-same-length-2
 same-length-2 c = search needs
@@ -67,7 +70,7 @@ returns-2 c =
     let p = c .before .before .before in
     let s = p .before .before .before .before .before .before .before in
     let nowhere = as-found _ _ (p .before .before .before .named-from .ensures) (p .before .enum-told .given .1) .0 in
-    put-same (s .args .out .now) (given-by (s .args .own .now) nowhere) (c .before .before .put2 .ensures)
+    put-same (s .args .out .now) (given-by (s .args .k) (s .args .own .now) nowhere) (c .before .before .put .ensures)
 
 pub put-changed-spec : {M : Type 1} → statement M
 put-changed-spec =
@@ -75,12 +78,12 @@ put-changed-spec =
     (tie.spec
     named-from-requires
     enum-known-from
-    sub-put
-    part-put-start
-    part-put-end
-    put-requires
+    sub-put-entry
+    part-put-entry-start
+    part-put-entry-end
+    put-entry-requires
     enum-told
-    put-requires-2
+    put-requires
     same-length
     returns
     same-length-2
