@@ -21,12 +21,12 @@ use Rattle.opening.specs.declared.Opening.{Opening}
 use Rattle.opening.specs.declared.Opening.the-variants.{Read, Refused as NotOpened}
 use Rattle.opening.specs.Opening.{openingOf}
 use Rattle.force.specs.declared.Found.the-variants.{At, Nowhere}
-use Rattle.force.specs.InForce.{inForce, placeOf, FoundIn}
+use Rattle.force.specs.InForce.{inForce, namedBy, bare, placeOf, FoundIn}
 use Rattle.force.proofs.Walk.{in-chg, in-plan, place-at, drop-take}
 use Rattle.strip.specs.Updating.{differences, differs}
 use Rattle.asked.specs.declared.Asked.{Asked}
 use Rattle.asked.specs.declared.Asked.the-variants.{InStrip, InChange, Refused}
-use Rattle.asked.specs.Asking.{rankOf, standsIn, standsAs, fieldAs, flightAs, isChange, typeAs, openedAs, askedOf, shown, StandsAt}
+use Rattle.asked.specs.Asking.{rankOf, standsIn, standsAs, fieldAs, isBare, bareAs, flightAs, isChange, typeAs, openedAs, askedOf, shown, StandsAt}
 use Rattle.asked.specs.Parts.{PartOf, PartBehind, Shows, ShowsText}
 
 -- WHERE IT STANDS, from the texts
@@ -61,29 +61,48 @@ module _ (plan said : List ℕ) (k : ℕ) where
       let t : suc (placeOf plan k) + length (inForce plan said k) ≡ e + 1 = omega (arith, place-at k at plan l d, ae, long plan at e ae el c) in
       (sym (ap (λ (o : Option ℕ). standsIn o plan said k) (h .1) ∙ ap₂ InStrip f t), one-less plan at e ae el c)
 
--- 12 AND 8
+-- A DESTINATION ALONE, in the CHG's text
+
+module _ (said : List ℕ) (k : ℕ) where
+  pub bare-there : (from to : ℕ) → FoundIn said k (At from to) → bare k (take (to - from) (drop from said)) ≡ isBare k (namedBy said k)
+  bare-there from to h = sym (ap (isBare k) (h .2))
+
+  pub bare-nowhere : FoundIn said k Nowhere → false ≡ isBare k (namedBy said k)
+  bare-nowhere h = sym (ap (isBare k) (h .0))
+
+-- 12, 17 AND 8
 
 module _ (plan said : List ℕ) (number : ℕ) where
   abbrev pub Told : Asked → Type 0
   Told r = (r ≡ flightAs plan said number) × ShowsText r plan said (inForce plan said (rankOf number))
 
   by-differences : (b : Bool) → differs (differences Changes (split 45 plan) (split 45 said)) ≡ b
-      → flightAs plan said number ≡ cond b (Refused 12 0 0) (fieldAs plan said number)
-  by-differences b e = ap (λ (x : Bool). cond x (Refused 12 0 0) (fieldAs plan said number)) e
+      → flightAs plan said number ≡ cond b (Refused 12 0 0) (bareAs plan said number)
+  by-differences b e = ap (λ (x : Bool). cond x (Refused 12 0 0) (bareAs plan said number)) e
 
   pub other-flight : differs (differences Changes (split 45 plan) (split 45 said)) ≡ true → Told (Refused 12 0 0)
   other-flight e = (sym (by-differences true e), tt)
 
-  module _ (same-flight : differs (differences Changes (split 45 plan) (split 45 said)) ≡ false) where
-    pub not-named : rankOf number ≡ 0 → Told (Refused 8 number 0)
-    not-named z = (sym (by-differences false same-flight ∙ rw (eq-eqb (rankOf number) 0 z)), tt)
+  module _ (same-flight : differs (differences Changes (split 45 plan) (split 45 said)) ≡ false) (k : ℕ) (rank : k ≡ rankOf number) where
+    by-bare : (b : Bool) → isBare k (namedBy said k) ≡ b → flightAs plan said number ≡ cond b (Refused 17 0 0) (fieldAs plan said number)
+    by-bare b e =
+        by-differences false same-flight
+        ∙ ap (λ (i : ℕ). cond (isBare i (namedBy said i)) (Refused 17 0 0) (fieldAs plan said number)) (sym rank)
+        ∙ ap (λ (x : Bool). cond x (Refused 17 0 0) (fieldAs plan said number)) e
 
-    pub asked-for : (k : ℕ) → k ≡ rankOf number → (k ≡ 0 → ⊥) → (r : Asked) → Stood plan said k r → Told r
-    asked-for k e z r h =
-        let n : eqb (rankOf number) 0 ≡ false = ne-eqb (rankOf number) 0 (λ q. z (e ∙ q)) in (
-          h .0 ∙ ap (standsAs plan said) e ∙ sym (by-differences false same-flight ∙ rw n),
-          subst (λ (i : ℕ). ShowsText r plan said (inForce plan said i)) e (h .1),
-        )
+    pub neither-whole : isBare k (namedBy said k) ≡ true → Told (Refused 17 0 0)
+    neither-whole e = (sym (by-bare true e), tt)
+
+    module _ (whole : isBare k (namedBy said k) ≡ false) where
+      pub not-named : k ≡ 0 → Told (Refused 8 number 0)
+      not-named z = (sym (by-bare false whole ∙ rw (eq-eqb (rankOf number) 0 (sym rank ∙ z))), tt)
+
+      pub asked-for : (k ≡ 0 → ⊥) → (r : Asked) → Stood plan said k r → Told r
+      asked-for z r h =
+          let n : eqb (rankOf number) 0 ≡ false = ne-eqb (rankOf number) 0 (λ q. z (rank ∙ q)) in (
+            h .0 ∙ ap (standsAs plan said) rank ∙ sym (by-bare false whole ∙ rw n),
+            subst (λ (i : ℕ). ShowsText r plan said (inForce plan said i)) rank (h .1),
+          )
 
 -- FROM THE TEXTS TO THE MESSAGES
 

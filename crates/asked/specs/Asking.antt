@@ -16,13 +16,14 @@ use Rattle.kinds.specs.declared.MessageType.the-variants.{Chg, Cnl}
 use Rattle.kinds.specs.declared.Role.{Role}
 use Rattle.kinds.specs.declared.Role.the-variants.{Files, Changes, Delays, Cancels, Departs, Arrives, Neither}
 use Rattle.kinds.specs.Kinds.{roleOf, plan7, plan8, plan9, plan10, plan13, plan15, plan16, plan18}
+use Rattle.aerodromes.specs.Aerodromes.{fourLetters}
 use Rattle.forms.specs.Field22.{labels}
 use Rattle.message.specs.Reading.{spellingOf}
 use Rattle.state.specs.declared.Strip.{Strip}
 use Rattle.opening.specs.declared.Opening.{Opening}
 use Rattle.opening.specs.declared.Opening.the-variants.{Read, Refused as NotOpened}
 use Rattle.opening.specs.Opening.{openingOf}
-use Rattle.force.specs.InForce.{inForce, namedBy, namedAt, placeOf}
+use Rattle.force.specs.InForce.{inForce, namedBy, namedAt, bare, placeOf}
 use Rattle.strip.specs.Updating.{differences, differs}
 use Rattle.asked.specs.declared.Asked.{Asked}
 use Rattle.asked.specs.declared.Asked.the-variants.{InStrip, InChange, Refused}
@@ -49,15 +50,23 @@ standsIn none plan said k = InStrip (suc (placeOf plan k)) (suc (placeOf plan k)
 abbrev pub standsAs : List ℕ → List ℕ → ℕ → Asked
 standsAs plan said k = standsIn (namedAt said k) plan said k
 
--- THE ANSWER: 15, 1 to 9 and 14 as the strip is opened, 14, 17, 12, 8
+-- THE ANSWER: 15, 1 to 9 and 14 as the strip is opened, 14, 17, 12, 17 of a destination alone, 8
 
 -- 8, with the number asked as its field
 abbrev pub fieldAs : List ℕ → List ℕ → ℕ → Asked
 fieldAs plan said number = cond (eqb (rankOf number) 0) (Refused 8 number 0) (standsAs plan said (rankOf number))
 
+-- 17: field 16, where the CHG has a destination alone for it, so that the field in force lies in neither message whole
+abbrev pub isBare : ℕ → Option Word → Bool
+isBare k none = false
+isBare k (some c) = bare k c
+
+abbrev pub bareAs : List ℕ → List ℕ → ℕ → Asked
+bareAs plan said number = cond (isBare (rankOf number) (namedBy said (rankOf number))) (Refused 17 0 0) (fieldAs plan said number)
+
 -- 12: the message is for another flight
 abbrev pub flightAs : List ℕ → List ℕ → ℕ → Asked
-flightAs plan said number = cond (differs (differences Changes (split 45 plan) (split 45 said))) (Refused 12 0 0) (fieldAs plan said number)
+flightAs plan said number = cond (differs (differences Changes (split 45 plan) (split 45 said))) (Refused 12 0 0) (bareAs plan said number)
 
 abbrev pub changes : Role → Bool
 changes Changes = true
@@ -117,10 +126,21 @@ parts : (take 6 (drop 29 (bytes "(CHG-ABC12-EHAM0930-EDDF-0-9/B39M/M-8/IN)")) �
     × (take 6 (drop 21 (bytes "(FPL-ABC12-IS-B738/M-SDFG/S-EHAM0930-N0440F310 DCT PAM DCT-EDDF0100 EDDK-0)")) ≡ bytes "SDFG/S")
 parts = (refl, refl)
 
+-- under a destination alone 16 is refused, and every other field shown as before; a whole entry shows it in the CHG, and none in the strip
+abbrev diverted : List ℕ
+diverted = bytes "CHG-ABC12-EHAM0930-EDDF-0-16/EDDN-8/IN"
+
+destinations : (flightAs plan diverted 16 ≡ Refused 17 0 0) × (flightAs plan diverted 8 ≡ InChange 37 39) × (flightAs plan diverted 9 ≡ InStrip 14 20)
+    × (flightAs plan diverted 17 ≡ Refused 8 17 0)
+    × (flightAs plan (bytes "CHG-ABC12-EHAM0930-EDDF-0-16/EDDN0100") 16 ≡ InChange 30 38) × (flightAs plan said 16 ≡ InStrip 59 72)
+unfolding namedAt namedBy labels behindHyphen fourLetters
+destinations = (refl, refl, refl, refl, refl, refl)
+
 -- another flight; the number asked is looked at last
 other : (flightAs plan (bytes "CHG-ABC13-EHAM0930-EDDF-0-9/B39M/M") 9 ≡ Refused 12 0 0)
     × (flightAs plan (bytes "CHG-ABC13-EHAM0930-EDDF-0-9/B39M/M") 3 ≡ Refused 12 0 0)
-other = (refl, refl)
+    × (flightAs plan (bytes "CHG-ABC13-EHAM0930-EDDF-0-16/EDDN") 16 ≡ Refused 12 0 0)
+other = (refl, refl, refl)
 
 -- not a CHG; not its own spelling
 unfit : (typeAs Cnl (bytes "(CNL)") (bytes "(FPL)") (bytes "(CNL)") 9 ≡ Refused 14 0 0)

@@ -2,8 +2,8 @@
 ghost use mathlib.Core.Path.{_≡_};
 ghost use Prim.Native.Nat.{_≤_};
 ghost use lib.ListN.{length};
-ghost use Rattle.asked.specs.Asking.{rankOf, isChange, standsAs, flightAs, typeAs, askedOf, shown, StandsAt};
-ghost use Rattle.force.specs.InForce.{inForce};
+ghost use Rattle.asked.specs.Asking.{rankOf, isChange, standsAs, isBare, flightAs, typeAs, askedOf, shown, StandsAt};
+ghost use Rattle.force.specs.InForce.{inForce, namedBy};
 ghost use Rattle.space.specs.Fields.{inner};
 ghost use Rattle.outer.specs.Outer.{most};
 ghost use Rattle.asked.specs.Parts.{Shows, ShowsText};
@@ -74,7 +74,17 @@ fn stands(plan: &[u8], said: &[u8], k: usize) -> Asked
     }
 }
 
-// Numbers 12 and 8, and the place.
+// Whether a CHG has a destination alone for the field of rank k.
+fn named_bare(said: &[u8], k: usize) -> bool
+    ensures { λ r. ⌜ r ≡ isBare k (namedBy (now (said .entry)) k) ⌝ }
+{
+    match force::named(said, k) {
+        Found::At { from, to } => force::is_bare(k, &said[from..to]),
+        Found::Nowhere => false,
+    }
+}
+
+// Numbers 12, 17 of a destination alone, and 8, and the place.
 fn ask_texts(plan: &[u8], said: &[u8], number: u8) -> Asked
     requires { ⌜ (length (now plan) ≤ most) × (length (now said) ≤ most) ⌝ }
     ensures { λ r. ⌜ r ≡ flightAs (now (plan .entry)) (now (said .entry)) number ⌝ }
@@ -88,6 +98,13 @@ fn ask_texts(plan: &[u8], said: &[u8], number: u8) -> Asked
         };
     }
     let k = rank_of(number);
+    if named_bare(said, k) {
+        return Asked::Refused {
+            number: 17,
+            field: 0,
+            place: 0,
+        };
+    }
     if k == 0 {
         return Asked::Refused {
             number: 8,
