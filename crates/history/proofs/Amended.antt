@@ -14,9 +14,15 @@ use Rattle.text.proofs.Tests.{both, and-both, same-eq, same-self}
 use Rattle.shape.specs.Field.{Field}
 use Rattle.shape.specs.Time.{clockHours, timeFits}
 use Rattle.head.specs.Field3.{field3}
+use Rattle.head.specs.Field7.{field7}
+use Rattle.head.specs.Field8.{field8}
+use Rattle.head.specs.Field9.{field9}
+use Rattle.equipment.specs.Field10.{field10, present}
 use Rattle.aerodromes.specs.Aerodromes.{fourLetters, joined}
-use Rattle.aerodromes.specs.Field13.{fits13}
+use Rattle.aerodromes.specs.Field13.{fits13, field13}
+use Rattle.aerodromes.specs.Field16.{field16plan}
 use Rattle.aerodromes.proofs.Aerodromes.{joined-four, joined-time, cut-aerodrome, cut-joined}
+use Rattle.route.specs.Field15.{field15}
 use Rattle.other.specs.Field18.{field18}
 use Rattle.records.specs.Records.{fitAll}
 use Rattle.kinds.specs.declared.MessageType.{MessageType}
@@ -34,11 +40,13 @@ use Rattle.forms.proofs.Labels.{label-ranked, ranked-label}
 use Rattle.message.specs.Reading.{unexplainedIn}
 use Rattle.message.specs.Message.{fieldsOf}
 use Rattle.message.proofs.Valid.{Fitting}
-use Rattle.force.specs.InForce.{lookup, namedBy, fieldsFrom}
+use Rattle.force.specs.InForce.{lookup, namedBy, putIn, changedBy, fieldsFrom}
 use Rattle.force.proofs.Laws.{fields-are}
 use Rattle.amending.specs.Amended.{amended}
-use Rattle.history.specs.History.{Part, placeFor, numberFor, within, planIn, nine, Told, named, givenBy, withTold}
-use Rattle.history.specs.History.Part.{heading, identification, rules, aircraft, equipment, aerodrome, offBlock, route, destination, other}
+use Rattle.history.specs.History.{Part, placeFor, numberFor, within, planIn, nine, Told, entered, named, givenBy, withTold}
+use Rattle.history.specs.History.Part.{heading, identification, rules, aircraft, equipment, aerodrome, offBlock, route, destination}
+use Rattle.history.specs.History.Part.{elapsedAndAlternates, other}
+use Rattle.history.proofs.Destination.{put-destination, put-behind, put-fits}
 
 -- A LIST OF FIELDS BY THEIR PLACES
 
@@ -62,10 +70,10 @@ fit-from d g (f ∷ fs) j h =
     shifted : (i : ℕ) → getD fs i d .fits (g (j + suc i)) ≡ true → getD fs i d .fits (g (suc j + i)) ≡ true
     shifted i e = let z : j + suc i ≡ suc j + i = omega arith in subst (λ (k : ℕ). getD fs i d .fits (g k) ≡ true) z e
 
--- THE NINE FIELDS OF AN FPL: field 3, and those that an entry can name
+-- THE NINE FIELDS OF AN FPL
 
 abbrev planFields : List Field
-planFields = field3 ∷ namedFields
+planFields = field3 ∷ field7 ∷ field8 ∷ field9 ∷ field10 present ∷ field13 ∷ field15 ∷ field16plan ∷ field18 ∷ []
 
 plan-fields : fieldsOf Fpl 9 ≡ planFields
 unfolding formsOf planForms
@@ -127,20 +135,23 @@ ranked-same v k l g = go (eqb (whichOf v) k) refl (same (before 47 v) (labelOf k
         absurd (eqb-false (whichOf v) k p e)
     go false p false q = refl
 
-module _ (f : Part) (k : ℕ) (q : numberFor f ≡ labelOf k) (l : 1 ≤ k) (g : k ≤ 8) (c : Word) where
-  -- what the history looks up by number is what is looked up by rank
-  lookup-named : (es : List Word) → Option·getD (named f es) (within f c) ≡ within f (Option·getD (lookup k es) c)
-  lookup-named [] = refl
-  lookup-named (v ∷ es) =
-      ap (λ (b : Bool). Option·getD (cond b (some (within f (behind 47 v))) (named f es)) (within f c))
+-- what the history looks up by number is what is looked up by rank, if that is so of each content
+module _ (f : Part) (k : ℕ) (q : numberFor f ≡ labelOf k) (l : 1 ≤ k) (g : k ≤ 8) (c : Word)
+    (alike : (w : Word) → fieldNamed k .fits w ≡ true → Option·getD (entered f w) (within f c) ≡ within f (putIn k w c)) where
+  lookup-named : (es : List Word) → all fits22 es ≡ true → Option·getD (named f es) (within f c) ≡ within f (changedBy k (lookup k es) c)
+  lookup-named [] a = refl
+  lookup-named (v ∷ es) a =
+      ap (λ (b : Bool). Option·getD (cond b (entered f (behind 47 v)) (named f es)) (within f c))
       (ap (same (before 47 v)) q ∙ ranked-same v k l g)
-      ∙ go (lookup-named es) (eqb (whichOf v) k)
+      ∙ go (lookup-named es (both (fits22 v) (all fits22 es) a .1)) (eqb (whichOf v) k) refl
     where
-      go : Option·getD (named f es) (within f c) ≡ within f (Option·getD (lookup k es) c) → (b : Bool)
-          → Option·getD (cond b (some (within f (behind 47 v))) (named f es)) (within f c)
-          ≡ within f (Option·getD (cond b (some (behind 47 v)) (lookup k es)) c)
-      go ih true = refl
-      go ih false = ih
+      go : Option·getD (named f es) (within f c) ≡ within f (changedBy k (lookup k es) c) → (b : Bool) → eqb (whichOf v) k ≡ b
+          → Option·getD (cond b (entered f (behind 47 v)) (named f es)) (within f c)
+          ≡ within f (changedBy k (cond b (some (behind 47 v)) (lookup k es)) c)
+      go ih true p =
+          let h = fitting v (both (fits22 v) (all fits22 es) a .0) .rest in
+          alike (behind 47 v) (subst (λ (n : ℕ). fieldNamed n .fits (behind 47 v) ≡ true) (eqb-true (whichOf v) k p) h)
+      go ih false p = ih
 
 -- no entry names field 3
 three-unranked : rank (bytes "3") labels ≡ 0
@@ -158,18 +169,20 @@ no-heading (v ∷ es) a = go (no-heading es (both (fits22 v) (all fits22 es) a .
     go ih false p = ih
 
 changed-part : (f : Part) (es : List Word) → all fits22 es ≡ true → (c : Word)
-    → within f (Option·getD (cond (eqb (placeFor f) 0) none (lookup (placeFor f) es)) c) ≡ Option·getD (named f es) (within f c)
+    → within f (changedBy (placeFor f) (cond (eqb (placeFor f) 0) none (lookup (placeFor f) es)) c) ≡ Option·getD (named f es) (within f c)
 unfolding labels
 changed-part heading es a c = sym (ap (λ (o : Option (List ℕ)). Option·getD o c) (no-heading es a))
-changed-part identification es a c = sym (lookup-named identification 1 refl (omega arith) (omega arith) c es)
-changed-part rules es a c = sym (lookup-named rules 2 refl (omega arith) (omega arith) c es)
-changed-part aircraft es a c = sym (lookup-named aircraft 3 refl (omega arith) (omega arith) c es)
-changed-part equipment es a c = sym (lookup-named equipment 4 refl (omega arith) (omega arith) c es)
-changed-part aerodrome es a c = sym (lookup-named aerodrome 5 refl (omega arith) (omega arith) c es)
-changed-part offBlock es a c = sym (lookup-named offBlock 5 refl (omega arith) (omega arith) c es)
-changed-part route es a c = sym (lookup-named route 6 refl (omega arith) (omega arith) c es)
-changed-part destination es a c = sym (lookup-named destination 7 refl (omega arith) (omega arith) c es)
-changed-part other es a c = sym (lookup-named other 8 refl (omega arith) (omega arith) c es)
+changed-part identification es a c = sym (lookup-named identification 1 refl (omega arith) (omega arith) c (λ w h. refl) es a)
+changed-part rules es a c = sym (lookup-named rules 2 refl (omega arith) (omega arith) c (λ w h. refl) es a)
+changed-part aircraft es a c = sym (lookup-named aircraft 3 refl (omega arith) (omega arith) c (λ w h. refl) es a)
+changed-part equipment es a c = sym (lookup-named equipment 4 refl (omega arith) (omega arith) c (λ w h. refl) es a)
+changed-part aerodrome es a c = sym (lookup-named aerodrome 5 refl (omega arith) (omega arith) c (λ w h. refl) es a)
+changed-part offBlock es a c = sym (lookup-named offBlock 5 refl (omega arith) (omega arith) c (λ w h. refl) es a)
+changed-part route es a c = sym (lookup-named route 6 refl (omega arith) (omega arith) c (λ w h. refl) es a)
+changed-part destination es a c = sym (lookup-named destination 7 refl (omega arith) (omega arith) c (λ w h. put-destination w c h) es a)
+changed-part elapsedAndAlternates es a c =
+    sym (lookup-named elapsedAndAlternates 7 refl (omega arith) (omega arith) c (λ w h. put-behind w c h) es a)
+changed-part other es a c = sym (lookup-named other 8 refl (omega arith) (omega arith) c (λ w h. refl) es a)
 
 -- A TIME PUT IN
 
@@ -187,10 +200,24 @@ module _ (a b : Word) (p : fits13 a ≡ true) (q : fits13 b ≡ true) where
       (ap fourLetters retimed-aerodrome ∙ joined-four clockHours a p)
       (ap (timeFits clockHours) retimed-time ∙ joined-time clockHours b q)
 
+-- AN ENTRY'S CONTENT PUT IN: what fits the form of the entry makes of the plan's field one that fits an FPL's
+
+entry-fits : (i : ℕ) → i < 8 → (w own : Word) → getD namedFields i field18 .fits w ≡ true → getD planFields (suc i) field18 .fits own ≡ true
+    → getD planFields (suc i) field18 .fits (putIn (suc i) w own) ≡ true
+entry-fits zero l w own p q = p
+entry-fits (suc zero) l w own p q = p
+entry-fits (suc (suc zero)) l w own p q = p
+entry-fits (suc (suc (suc zero))) l w own p q = p
+entry-fits (suc (suc (suc (suc zero)))) l w own p q = p
+entry-fits (suc (suc (suc (suc (suc zero))))) l w own p q = p
+entry-fits (suc (suc (suc (suc (suc (suc zero)))))) l w own p q = put-fits w own p q
+entry-fits (suc (suc (suc (suc (suc (suc (suc zero))))))) l w own p q = p
+entry-fits (suc (suc (suc (suc (suc (suc (suc (suc i)))))))) l w own p q = absurd (omega arith)
+
 -- THE FIELDS AFTER A MESSAGE of contents ds, by their places
 
 abbrev after : Role → List Word → List Word → ℕ → Word
-after Changes cs ds k = Option·getD (cond (eqb k 0) none (lookup k (drop firstEntry ds))) (getD cs k [])
+after Changes cs ds k = changedBy k (cond (eqb k 0) none (lookup k (drop firstEntry ds))) (getD cs k [])
 after Delays cs ds k = cond (eqb k 5) (take 4 (getD cs plan13 []) ++ drop 4 (getD ds brief13 [])) (getD cs k [])
 after Cancels cs ds k = getD cs k []
 after Departs cs ds k = getD cs k []
@@ -209,7 +236,8 @@ amended-after Files plan text = refl
 amended-after Neither plan text = refl
 
 nine-parts : (g : ℕ → Word) → nine (λ f. within f (g (placeFor f))) ≡ fieldsFrom g 0 9
-nine-parts g = ap (λ (w : Word). g 0 ∷ g 1 ∷ g 2 ∷ g 3 ∷ g 4 ∷ w ∷ g 6 ∷ g 7 ∷ g 8 ∷ []) (take-append-drop 4 (g 5))
+nine-parts g =
+    ap₂ (λ (v w : Word). g 0 ∷ g 1 ∷ g 2 ∷ g 3 ∷ g 4 ∷ v ∷ g 6 ∷ w ∷ g 8 ∷ []) (take-append-drop 4 (g 5)) (take-append-drop 4 (g 7))
 
 place-after : (g : ℕ → Word) (p : Part) → getD (fieldsFrom g 0 9) (placeFor p) [] ≡ g (placeFor p)
 place-after g heading = refl
@@ -221,6 +249,7 @@ place-after g aerodrome = refl
 place-after g offBlock = refl
 place-after g route = refl
 place-after g destination = refl
+place-after g elapsedAndAlternates = refl
 place-after g other = refl
 
 -- the contents of the plan of nine contents
@@ -247,6 +276,7 @@ module _ (cs ds : List Word) (f : Fitting Fpl 9 cs) where
   part-after Delays s offBlock = retimed-time (getD cs plan13 []) (getD ds brief13 []) thirteen (s .time-right refl)
   part-after Delays s route = refl
   part-after Delays s destination = refl
+  part-after Delays s elapsedAndAlternates = refl
   part-after Delays s other = refl
   part-after Cancels s p = refl
   part-after Departs s p = refl
@@ -257,15 +287,17 @@ module _ (cs ds : List Word) (f : Fitting Fpl 9 cs) where
   changed-fit : all fits22 (drop firstEntry ds) ≡ true → (i : ℕ) → i < 9 → getD planFields i field18 .fits (after Changes cs ds i) ≡ true
   changed-fit a zero l = plan-fit cs f 0 l
   changed-fit a (suc i) l =
-      ap (λ (b : Bool). getD planFields (suc i) field18 .fits (Option·getD (cond b none (lookup (suc i) (drop firstEntry ds))) (getD cs (suc i) [])))
+      ap (λ (b : Bool). getD planFields (suc i) field18 .fits (changedBy (suc i) (cond b none (lookup (suc i) (drop firstEntry ds))) (getD cs (suc i) [])))
       (ne-eqb (suc i) 0 (λ z. omega arith))
       ∙ go (lookup (suc i) (drop firstEntry ds)) refl
     where
-      go : (o : Option Word) → lookup (suc i) (drop firstEntry ds) ≡ o → getD planFields (suc i) field18 .fits (Option·getD o (getD cs (suc i) [])) ≡ true
+      go : (o : Option Word) → lookup (suc i) (drop firstEntry ds) ≡ o → getD planFields (suc i) field18 .fits (changedBy (suc i) o (getD cs (suc i) [])) ≡ true
       go none q = plan-fit cs f (suc i) l
       go (some w) q =
           let z : suc i - 1 ≡ i = omega arith in
-          subst (λ (k : ℕ). getD namedFields k field18 .fits w ≡ true) z (lookup-fits (suc i) (drop firstEntry ds) a w q)
+          entry-fits i (omega arith) w (getD cs (suc i) [])
+          (subst (λ (k : ℕ). getD namedFields k field18 .fits w ≡ true) z (lookup-fits (suc i) (drop firstEntry ds) a w q))
+          (plan-fit cs f (suc i) l)
 
   delayed-fit : fits13 (getD ds brief13 []) ≡ true → (i : ℕ) → i < 9 → getD planFields i field18 .fits (after Delays cs ds i) ≡ true
   delayed-fit a i l = go (eqb i 5) refl

@@ -1,4 +1,5 @@
 pub mod Strip
+pub mod Destination
 pub mod Amended
 pub mod Late
 pub mod Causes

@@ -1,6 +1,6 @@
 -- Updaters that the third demand stops: one that refuses all, one that does nothing, one that copies the strip, one that applies only the first
 -- entry, one that applies only the first message, one that matches against the plan after the change, one by which a DEP overwrites the off-block
--- time, and one that searches the text. Assumes nothing.
+-- time, one that searches the text, one that drops elapsed time and alternates with a destination alone, and one that passes it by. Assumes nothing.
 use Prim.Native.Nat.{ℕ}
 use mathlib.Core.Path.{_≡_, refl, sym, ap, subst, fun-ext, _∙_}
 use mathlib.Core.Bool.{Bool, true, false, false≢true}
@@ -21,6 +21,7 @@ use Rattle.strip.specs.Updating.{offeredAs, updateOf, outAfter}
 use Rattle.history.specs.History.{planIn, spelled, given, planBy}
 use Rattle.history.specs.Demand3.{Updater, Offer, offeredAll, logAll, answered, Cause, filedAs, Meets}
 use Rattle.history.specs.Slips.{refusesAll, doesNothing, copies, firstEntry, firstMessage, matchesAfter, depOverwrites, searches}
+use Rattle.history.specs.Slips.{dropsAlternates, ignoresBare}
 use Rattle.history.proofs.Causes.{cause-refused}
 use Rattle.history.proofs.Latest.{left-latest}
 use Rattle.history.proofs.Examples.{filing, change, filing-read}
@@ -219,4 +220,43 @@ pub searches-fails : Meets searches → ⊥
 searches-fails h =
     let q = ap (λ (w : List ℕ). getD w 14 0) (meets-strip searches h filing 1800 75 filing-read (rerouting ∷ [])) in
     let z : _≡_ {A = ℕ} 78 66 = sym (found-byte .0) ∙ q ∙ found-byte .1 in
+    omega arith
+
+-- OF A DESTINATION ALONE: byte 63 is the first digit of the elapsed time, byte 62 the last letter of the destination
+
+abbrev diverting : Offer
+diverting = record { bytes = bytes "(CHG-ABC12-EHAM0930-EDDF-0-16/EDDN)"; lent = replicate 75 0 }
+
+-- ONE THAT DROPS ELAPSED TIME AND ALTERNATES with it
+
+dropped-byte : (getD (offeredAll dropsAlternates (filedAs filing) (diverting ∷ []) .strip) 63 0 ≡ 45)
+    × (getD (spelled (planBy (planIn (contents filing)) (logAll dropsAlternates (filedAs filing) [] (diverting ∷ [])))) 63 0 ≡ 48)
+unfolding answerOf countAs faultIn spellingOf outer parens parensFrom lettersFrom inAlphabet white text reduced reducedFrom standsForRun opens closes
+    hyphens typeNamed typeRanked typesRead types formsOf planForms briefForms fits3 numbersFit fits7 fits8 fits9 countFits aircraftFits fits10
+    valid10 present fits16plan fits15 starts speeds levels speedDigits levelDigits elementFits letters within radialFits indicators nameFits
+    pointFits fourLetters joined timeFits fitsIn unexplained hasKey labels fits22 fault22 canonicalPlan openingOf offeredAs updateOf namedBy newStrip outAfter
+    front
+dropped-byte = (refl, refl)
+
+pub drops-alternates-fails : Meets dropsAlternates → ⊥
+drops-alternates-fails h =
+    let q = ap (λ (w : List ℕ). getD w 63 0) (meets-strip dropsAlternates h filing 1800 75 filing-read (diverting ∷ [])) in
+    let z : _≡_ {A = ℕ} 45 48 = sym (dropped-byte .0) ∙ q ∙ dropped-byte .1 in
+    omega arith
+
+-- ONE THAT PASSES IT BY
+
+ignored-byte : (getD (offeredAll ignoresBare (filedAs filing) (diverting ∷ []) .strip) 62 0 ≡ 70)
+    × (getD (spelled (planBy (planIn (contents filing)) (logAll ignoresBare (filedAs filing) [] (diverting ∷ [])))) 62 0 ≡ 78)
+unfolding answerOf countAs faultIn spellingOf outer parens parensFrom lettersFrom inAlphabet white text reduced reducedFrom standsForRun opens closes
+    hyphens typeNamed typeRanked typesRead types formsOf planForms briefForms fits3 numbersFit fits7 fits8 fits9 countFits aircraftFits fits10
+    valid10 present fits16plan fits15 starts speeds levels speedDigits levelDigits elementFits letters within radialFits indicators nameFits
+    pointFits fourLetters joined timeFits fitsIn unexplained hasKey labels fits22 fault22 canonicalPlan openingOf offeredAs updateOf namedBy newStrip outAfter
+    front
+ignored-byte = (refl, refl)
+
+pub ignores-bare-fails : Meets ignoresBare → ⊥
+ignores-bare-fails h =
+    let q = ap (λ (w : List ℕ). getD w 62 0) (meets-strip ignoresBare h filing 1800 75 filing-read (diverting ∷ [])) in
+    let z : _≡_ {A = ℕ} 70 78 = sym (ignored-byte .0) ∙ q ∙ ignored-byte .1 in
     omega arith

@@ -110,7 +110,7 @@ fitType t = fitRole (roleOf t)
 pub record ForThis (p : Plan) (m : Told) : Type 0 where
   pub same-identification : before 47 (p identification) ≡ before 47 (getD (m .fields) brief7 [])
   pub same-aerodrome : p aerodrome ≡ take 4 (getD (m .fields) brief13 [])
-  pub same-destination : take 4 (p destination) ≡ take 4 (getD (m .fields) brief16 [])
+  pub same-destination : p destination ≡ take 4 (getD (m .fields) brief16 [])
 
 -- CHG, CNL and ARR must equal the off-block time too
 abbrev pub TimeToo : Role → Type 0 → Type 0

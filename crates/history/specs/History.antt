@@ -2,7 +2,7 @@
 -- the state and the actual times by the accepted messages. It names nothing of the update. Assumes nothing.
 use Prim.Native.Nat.{ℕ}
 use mathlib.Core.Path.{_≡_, refl}
-use mathlib.Core.Bool.{cond}
+use mathlib.Core.Bool.{Bool, false, cond}
 use mathlib.Core.List.{List, [], _∷_, _++_, List·Memᴰ}
 use mathlib.Core.Option.{Option, none, some, Option·getD}
 use lib.Dec.{eqb}
@@ -24,10 +24,11 @@ use Rattle.state.specs.declared.State.{State}
 use Rattle.state.specs.declared.State.the-variants.{Filed, Departed, Arrived, Cancelled}
 use Rattle.state.specs.declared.Strip.{Strip}
 
--- THE PARTS OF A PLAN that a message can set by themselves: its fields, and of field 13 the aerodrome and the off-block time
+-- THE PARTS OF A PLAN that a message can set by themselves: its fields; of field 13 the aerodrome and the off-block time; of field 16 the destination and
+-- what stands behind it, elapsed time and alternates
 
 pub data Part : Type 0 where
-  heading identification rules aircraft equipment aerodrome offBlock route destination other : Part
+  heading identification rules aircraft equipment aerodrome offBlock route destination elapsedAndAlternates other : Part
 
 abbrev pub Plan : Type 0
 Plan = Part → List ℕ
@@ -43,6 +44,7 @@ numberFor aerodrome = bytes "13"
 numberFor offBlock = bytes "13"
 numberFor route = bytes "15"
 numberFor destination = bytes "16"
+numberFor elapsedAndAlternates = bytes "16"
 numberFor other = bytes "18"
 
 -- which of an FPL's nine fields that is, counted from 0
@@ -56,9 +58,10 @@ placeFor aerodrome = plan13
 placeFor offBlock = plan13
 placeFor route = plan15
 placeFor destination = plan16
+placeFor elapsedAndAlternates = plan16
 placeFor other = plan18
 
--- the part's bytes of that field: field 13 is four letters and a time
+-- the part's bytes of that field: fields 13 and 16 begin with an aerodrome, which is four letters
 abbrev pub within : Part → Word → List ℕ
 within heading c = c
 within identification c = c
@@ -68,7 +71,8 @@ within equipment c = c
 within aerodrome c = take 4 c
 within offBlock c = drop 4 c
 within route c = c
-within destination c = c
+within destination c = take 4 c
+within elapsedAndAlternates c = drop 4 c
 within other c = c
 
 -- the plan of an FPL's nine contents
@@ -78,7 +82,8 @@ planIn cs = λ f. within f (getD cs (placeFor f) [])
 -- the nine contents of a plan, and its spelling
 abbrev pub nine : Plan → List Word
 nine p =
-    p heading ∷ p identification ∷ p rules ∷ p aircraft ∷ p equipment ∷ (p aerodrome ++ p offBlock) ∷ p route ∷ p destination ∷ p other ∷ []
+    p heading ∷ p identification ∷ p rules ∷ p aircraft ∷ p equipment ∷ (p aerodrome ++ p offBlock) ∷ p route
+    ∷ (p destination ++ p elapsedAndAlternates) ∷ p other ∷ []
 
 abbrev pub spelled : Plan → List ℕ
 spelled p = messageOf (nine p)
@@ -91,10 +96,27 @@ pub record Told : Type 0 where
 
 -- WHAT IT SAYS OF A PART: a CHG what its entry of the part's field holds, a DLA the off-block time, the others nothing
 
+-- an entry of field 16 that is a destination alone, four bytes, sets the destination and nothing else
+abbrev pub silent : Part → Word → Bool
+silent heading c = false
+silent identification c = false
+silent rules c = false
+silent aircraft c = false
+silent equipment c = false
+silent aerodrome c = false
+silent offBlock c = false
+silent route c = false
+silent destination c = false
+silent elapsedAndAlternates c = eqb (length c) 4
+silent other c = false
+
+abbrev pub entered : Part → Word → Option (List ℕ)
+entered f c = cond (silent f c) none (some (within f c))
+
 -- the entries stand behind a CHG's fields 3, 7, 13, 16 and 18, each with its number and an oblique in front
 abbrev pub named : Part → List Word → Option (List ℕ)
 named f [] = none
-named f (e ∷ es) = cond (same (before 47 e) (numberFor f)) (some (within f (behind 47 e))) (named f es)
+named f (e ∷ es) = cond (same (before 47 e) (numberFor f)) (entered f (behind 47 e)) (named f es)
 
 abbrev pub delayed : Part → Word → Option (List ℕ)
 delayed heading c = none
@@ -106,6 +128,7 @@ delayed aerodrome c = none
 delayed offBlock c = some (drop 4 c)
 delayed route c = none
 delayed destination c = none
+delayed elapsedAndAlternates c = none
 delayed other c = none
 
 abbrev pub givenBy : Role → List Word → Part → Option (List ℕ)
@@ -189,6 +212,12 @@ filed = split 45 (bytes "FPL-ABC12-IS-B738/M-SDFG/S-EHAM0930-N0440F310 DCT PAM D
 abbrev changed : Told
 changed = record { type = Chg; fields = split 45 (bytes "CHG-ABC12-EHAM0930-EDDF-0-9/B39M/M-8/IN") }
 
+abbrev diverted : Told
+diverted = record { type = Chg; fields = split 45 (bytes "CHG-ABC12-EHAM0930-EDDF-0-16/EDDN") }
+
+abbrev redirected : Told
+redirected = record { type = Chg; fields = split 45 (bytes "CHG-ABC12-EHAM0930-EDDF-0-16/EDDM0110") }
+
 abbrev postponed : Told
 postponed = record { type = Dla; fields = split 45 (bytes "DLA-ABC12-EHAM1015-EDDF-0") }
 
@@ -198,3 +227,13 @@ as-spelled = refl
 after-both : spelled (planBy (planIn filed) (postponed ∷ changed ∷ []))
     ≡ bytes "(FPL-ABC12-IN-B39M/M-SDFG/S-EHAM1015-N0440F310 DCT PAM DCT-EDDF0100 EDDK-0)"
 after-both = refl
+
+-- a destination alone says nothing of elapsed time and alternates; a whole field 16 says all of it
+of-sixteen : (given destination diverted ≡ some (bytes "EDDN")) × (given elapsedAndAlternates diverted ≡ none)
+    × (given destination redirected ≡ some (bytes "EDDM")) × (given elapsedAndAlternates redirected ≡ some (bytes "0110"))
+of-sixteen = (refl, refl, refl, refl)
+
+after-diverted : (spelled (planBy (planIn filed) (diverted ∷ [])) ≡ bytes "(FPL-ABC12-IS-B738/M-SDFG/S-EHAM0930-N0440F310 DCT PAM DCT-EDDN0100 EDDK-0)")
+    × (spelled (planBy (planIn filed) (redirected ∷ [])) ≡ bytes "(FPL-ABC12-IS-B738/M-SDFG/S-EHAM0930-N0440F310 DCT PAM DCT-EDDM0110-0)")
+    × (spelled (planBy (planIn filed) (diverted ∷ redirected ∷ [])) ≡ bytes "(FPL-ABC12-IS-B738/M-SDFG/S-EHAM0930-N0440F310 DCT PAM DCT-EDDN0110-0)")
+after-diverted = (refl, refl, refl)

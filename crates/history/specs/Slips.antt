@@ -1,9 +1,10 @@
--- Updaters that must not pass (document 01, "Examples on each side" and "How far each contract reaches"). But for its slip each does as the
+-- Updaters that must not pass (document 01, "Examples on each side" and "How far each contract reaches"; document 02). But for its slip each does as the
 -- update does. Assumes nothing.
 use Prim.Native.Nat.{ℕ, zero, suc}
 use mathlib.Core.Bool.{cond}
 use mathlib.Core.List.{List, [], _∷_, _++_}
 use mathlib.Core.Option.{Option, none, some, Option·getD}
+use lib.Dec.{eqb}
 use lib.ListN.{length, take, drop}
 use Rattle.text.specs.Words.{Word, split, same, before}
 use Rattle.text.specs.Lent.{front}
@@ -12,14 +13,15 @@ use Rattle.outer.specs.Outer.{most}
 use Rattle.sent.specs.Sent.{messageOf, contents}
 use Rattle.kinds.specs.declared.Role.{Role}
 use Rattle.kinds.specs.declared.Role.the-variants.{Files, Changes, Delays, Cancels, Departs, Arrives, Neither}
-use Rattle.kinds.specs.Kinds.{roleOf}
+use Rattle.aerodromes.specs.Field16.{fits16}
+use Rattle.kinds.specs.Kinds.{roleOf, plan16}
 use Rattle.forms.specs.Field22.{labelOf}
 use Rattle.message.specs.Reading.{answerOf}
-use Rattle.force.specs.InForce.{fieldAt, fieldsFrom}
+use Rattle.force.specs.InForce.{namedBy, fieldAt, fieldsFrom}
 use Rattle.strip.specs.declared.Updated.{Updated}
 use Rattle.strip.specs.declared.Updated.the-variants.{Accepted, Refused}
 use Rattle.opening.specs.Opening.{textSaid}
-use Rattle.amending.specs.Amended.{amended, newStrip}
+use Rattle.amending.specs.Amended.{contentOf, amended, newStrip}
 use Rattle.strip.specs.Updating.{differences, differs, updateOf, typeRead, outAfter}
 use Rattle.history.specs.Demand3.{Updater}
 
@@ -117,3 +119,30 @@ searches =
       answer = λ strip held m out. copiedAs (updateOf strip held m (length out)) (searchedAs strip m);
       output = λ strip held m out. copyAs (updateOf strip held m (length out)) (searchedAs strip m) out;
     }
+
+-- ones that make something else of field 16, from what an entry has for it, if one does, and the plan's own
+abbrev pub sixteenAs : (Option Word → Word → Word) → List ℕ → List ℕ → List ℕ
+sixteenAs makes strip m =
+    let t = typeRead (answerOf m most) in
+    let plan = inner strip in
+    let said = textSaid t m in
+    messageOf (fieldsFrom (λ k. cond (eqb k plan16) (makes (namedBy said k) (fieldAt plan k)) (contentOf (roleOf t) plan said k)) 0 9)
+
+abbrev pub makesSixteen : (Option Word → Word → Word) → Updater
+makesSixteen makes =
+    record {
+      answer = λ strip held m out. copiedAs (updateOf strip held m (length out)) (sixteenAs makes strip m);
+      output = λ strip held m out. copyAs (updateOf strip held m (length out)) (sixteenAs makes strip m) out;
+    }
+
+-- one by which a destination alone takes the place of the whole field, elapsed time and alternates with it
+abbrev pub dropsAlternates : Updater
+dropsAlternates = makesSixteen (λ o own. Option·getD o own)
+
+-- one that passes a destination alone by
+abbrev pub passedBy : Option Word → Word → Word
+passedBy none own = own
+passedBy (some c) own = cond (fits16 c) own c
+
+abbrev pub ignoresBare : Updater
+ignoresBare = makesSixteen passedBy
