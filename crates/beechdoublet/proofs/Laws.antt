@@ -36,13 +36,13 @@ use Rattle.strip.specs.declared.Updated.the-variants.{Accepted, Refused}
 use Rattle.opening.specs.declared.Opening.the-variants.{Refused as NotOpened}
 use Rattle.opening.specs.Opening.{canonicalPlan, readAs, openingOf}
 use Rattle.strip.specs.Updating.{differences, differs, updateOf}
-use Rattle.force.specs.InForce.{namedAt}
+use Rattle.force.specs.InForce.{namedBy, namedAt}
 use Rattle.history.specs.Demand3.{Cause, not-proper, not-read, not-fit, no-type, another-flight, not-allowed, unexplained, too-long, no-room}
 use Rattle.history.proofs.Causes.{Took, Verdict, verdict, refused-cause}
 use Rattle.history.proofs.Demand3.{took-proper}
 use Rattle.asked.specs.declared.Asked.{Asked}
 use Rattle.asked.specs.declared.Asked.the-variants.{InStrip, InChange, Refused as NotShown}
-use Rattle.asked.specs.Asking.{rankOf, standsIn, standsAs, fieldAs, flightAs, isChange, typeAs, openedAs, askedOf}
+use Rattle.asked.specs.Asking.{rankOf, standsIn, standsAs, fieldAs, isBare, bareAs, flightAs, isChange, typeAs, openedAs, askedOf}
 use Rattle.parts.specs.declared.Part.{Part}
 use Rattle.parts.specs.declared.Part.the-variants.{At, Refused as NoField}
 use Rattle.parts.specs.declared.FlightDate.{FlightDate}
@@ -265,12 +265,19 @@ field-told plan said number = go (eqb (rankOf number) 0)
     go true = omega arith
     go false = place-told (namedAt said (rankOf number)) plan said (rankOf number)
 
+bare-told : (plan said : List ℕ) (number : ℕ) → Told (bareAs plan said number)
+bare-told plan said number = go (isBare (rankOf number) (namedBy said (rankOf number)))
+  where
+    go : (b : Bool) → Told (cond b (NotShown 17 0 0) (fieldAs plan said number))
+    go true = omega arith
+    go false = field-told plan said number
+
 flight-told : (plan said : List ℕ) (number : ℕ) → Told (flightAs plan said number)
 flight-told plan said number = go (differs (differences Changes (split 45 plan) (split 45 said)))
   where
-    go : (b : Bool) → Told (cond b (NotShown 12 0 0) (fieldAs plan said number))
+    go : (b : Bool) → Told (cond b (NotShown 12 0 0) (bareAs plan said number))
     go true = omega arith
-    go false = field-told plan said number
+    go false = bare-told plan said number
 
 type-told : (t : MessageType) (spelled strip chg : List ℕ) (number : ℕ) → Told (typeAs t spelled strip chg number)
 unfolding typeAs
