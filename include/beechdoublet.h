@@ -145,8 +145,9 @@ static inline uint8_t beechdoublet_update(const uint8_t *strip, size_t strip_len
 
 /*
  * Says where the content of a field in force stands: in the CHG if one of its entries names the field, otherwise in the strip. The field is one of
- * 7 8 9 10 13 15 16 18. Refused: 15, 1 to 9, 14, 17, 12, 8; an 8 for the field asked for has that number as its field, however large it is. Gives
- * the number back; 255, not a call, where a pointer is null or answer overlaps something else.
+ * 7 8 9 10 13 15 16 18. Refused: 15, 1 to 9, 14, 17 for a CHG that is not its own spelling, 12, 17 for field 16 where the CHG has a new destination
+ * alone for it (16/EDDN), 8; an 8 for the field asked for has that number as its field, however large it is. Gives the number back; 255, not a call,
+ * where a pointer is null or answer overlaps something else.
  */
 static inline uint8_t beechdoublet_in_force(const uint8_t *strip, size_t strip_length, const beechdoublet_state *state, const uint8_t *change,
                                             size_t change_length, uint64_t field,

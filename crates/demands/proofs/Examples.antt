@@ -34,7 +34,7 @@ use Rattle.opening.specs.Opening.{canonicalPlan, openingOf}
 use Rattle.amending.specs.Amended.{newStrip}
 use Rattle.strip.specs.Updating.{offeredAs, updateOf, outAfter}
 use Rattle.asked.specs.Asking.{typeAs, askedOf}
-use Rattle.demands.specs.Examples.{Example, AllHold, ofFields, ofElapsed, ofMessages, ofStrips, examples}
+use Rattle.demands.specs.Examples.{Example, AllHold, ofFields, ofElapsed, ofMessages, ofStrips, ofDestinations, examples}
 
 -- two lists joined
 both-hold : (xs ys : List Example) → AllHold xs → AllHold ys → AllHold (xs ++ ys)
@@ -68,7 +68,17 @@ unfolding answerOf countAs faultIn spellingOf outer parens parensFrom lettersFro
     namedBy namedAt behindHyphen typeAs askedOf
 strips-hold = ((refl, refl), (refl, (refl, tt)))
 
+destinations-hold : AllHold ofDestinations
+unfolding answerOf countAs faultIn spellingOf outer parens parensFrom lettersFrom inAlphabet white text reduced reducedFrom standsForRun opens closes
+    hyphens typeNamed typeRanked typesRead types formsOf planForms briefForms fits3 numbersFit fits7 fits8 fits9 countFits aircraftFits fits10
+    valid10 present fits16plan fits15 starts speeds levels speedDigits levelDigits elementFits letters within radialFits indicators nameFits
+    pointFits fourLetters joined timeFits fitsIn unexplained hasKey labels fits22 fault22 canonicalPlan openingOf offeredAs newStrip updateOf outAfter front
+    namedBy namedAt behindHyphen typeAs askedOf formAt placeOfHyphen upToHyphen
+destinations-hold = (refl, (refl, (refl, ((refl, refl), (refl, ((refl, refl), (refl, (refl, (refl, tt)))))))))
+
 pub examples-hold : AllHold examples
 examples-hold =
-    both-hold ofFields (ofElapsed ++ (ofMessages ++ ofStrips)) fields-hold
-    (both-hold ofElapsed (ofMessages ++ ofStrips) elapsed-hold (both-hold ofMessages ofStrips messages-hold strips-hold))
+    let strips = ofStrips ++ ofDestinations in
+    both-hold ofFields (ofElapsed ++ (ofMessages ++ strips)) fields-hold
+    (both-hold ofElapsed (ofMessages ++ strips) elapsed-hold
+    (both-hold ofMessages strips messages-hold (both-hold ofStrips ofDestinations strips-hold destinations-hold)))

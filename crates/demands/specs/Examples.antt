@@ -1,4 +1,4 @@
--- The examples that document 01 marks to be proved, and some others of it: one list, and one statement over it. Assumes nothing.
+-- The examples that document 01 marks to be proved, some others of it and of document 02: one list, and one statement over it. Assumes nothing.
 use Prim.Native.Nat.{ℕ}
 use Prim.Native.String.{String}
 use mathlib.Core.Path.{_≡_}
@@ -13,7 +13,7 @@ use Rattle.head.specs.Field7.{field7}
 use Rattle.head.specs.Field9.{field9}
 use Rattle.equipment.specs.Field10.{field10, present}
 use Rattle.aerodromes.specs.Field13.{field13}
-use Rattle.aerodromes.specs.Field16.{field16plan}
+use Rattle.aerodromes.specs.Field16.{field16plan, field16entry}
 use Rattle.aerodromes.specs.Field17.{field17}
 use Rattle.route.specs.Points.{inDegrees, inMinutes, withBearing}
 use Rattle.route.specs.Field15.{Element, plain, record15, field15}
@@ -25,10 +25,10 @@ use Rattle.outer.specs.Outer.{most}
 use Rattle.message.specs.declared.Answer.the-variants.{Accepted, Refused}
 use Rattle.message.specs.Reading.{answerOf, spellingOf}
 use Rattle.state.specs.State.{justFiled}
-use Rattle.strip.specs.declared.Updated.the-variants.{Accepted as Taken}
+use Rattle.strip.specs.declared.Updated.the-variants.{Accepted as Taken, Refused as NotTaken}
 use Rattle.strip.specs.Updating.{updateOf, outAfter}
 use Rattle.asked.specs.declared.Asked.{Asked}
-use Rattle.asked.specs.declared.Asked.the-variants.{InStrip, InChange}
+use Rattle.asked.specs.declared.Asked.the-variants.{InStrip, InChange, Refused as NotShown}
 use Rattle.asked.specs.Asking.{askedOf}
 
 -- what an example says of the definitions
@@ -49,7 +49,9 @@ pub data Example : Type 1 where
   refused : String → ℕ → ℕ → ℕ → Example
   -- a strip as filed is given a new spelling by a message, in room for just that
   updated : String → String → String → Example
-  -- the field in force, by its number, stands at a place of the strip or of the CHG
+  -- or the message is refused with a number, a field and a place; the room is 1,800 bytes
+  notUpdated : String → String → ℕ → ℕ → ℕ → Example
+  -- the field in force, by its number, stands at a place of the strip or of the CHG, or is refused
   asked : String → String → ℕ → Asked → Example
 
 abbrev pub alone : String → List ℕ
@@ -68,6 +70,7 @@ Holds (refused s number field place) = answerOf (bytes s) most ≡ Refused numbe
 Holds (updated s m w) =
     (updateOf (bytes s) justFiled (bytes m) (length (bytes w)) ≡ Taken justFiled (length (bytes w)))
     × (outAfter (bytes s) justFiled (bytes m) (replicate (length (bytes w)) 0) ≡ bytes w)
+Holds (notUpdated s m number field place) = updateOf (bytes s) justFiled (bytes m) most ≡ NotTaken number field place
 Holds (asked s m number a) = askedOf (bytes s) justFiled (bytes m) number ≡ a
 
 abbrev pub AllHold : List Example → Type 0
@@ -120,6 +123,22 @@ ofMessages =
     ∷ (refused "(" 2 0 1
     ∷ (refused "((" 2 0 1 ∷ []))))
 
+-- a bare new destination, and then the CHG that must name it (document 02, request 2)
+abbrev pub ofDestinations : List Example
+ofDestinations =
+    fits field16entry "EDDN"
+    ∷ (no field16entry "EDDN EDDK"
+    ∷ (refused "(CHG-ABC12-EHAM0930-EDDF-0-16/EDDN-16/EDDM)" 9 22 34
+    ∷ (updated "(FPL-ABC12-IS-B738/M-SDFG/S-EHAM0930-N0440F310 DCT PAM DCT-EDDF0100 EDDK-0)" "(CHG-ABC12-EHAM0930-EDDF-0-16/EDDN)"
+    "(FPL-ABC12-IS-B738/M-SDFG/S-EHAM0930-N0440F310 DCT PAM DCT-EDDN0100 EDDK-0)"
+    ∷ (notUpdated "(FPL-ABC12-IS-B738/M-SDFG/S-EHAM0930-N0440F310 DCT PAM DCT-EDDN0100 EDDK-0)" "(CHG-ABC12-EHAM0930-EDDF-0-8/IN)" 12 0 0
+    ∷ (updated "(FPL-ABC12-IS-B738/M-SDFG/S-EHAM0930-N0440F310 DCT PAM DCT-EDDN0100 EDDK-0)" "(CHG-ABC12-EHAM0930-EDDN-0-16/EDDN0100)"
+    "(FPL-ABC12-IS-B738/M-SDFG/S-EHAM0930-N0440F310 DCT PAM DCT-EDDN0100-0)"
+    ∷ (notUpdated "(FPL-ABC12-IS-B738/M-SDFG/S-EHAM0930-N0440F310 DCT PAM DCT-EDDF0100 EDDK-0)" "(CHG-ABC12-EHAM0930-EDDF-0-16/ZZZZ)" 10 16 0
+    ∷ (asked "(FPL-ABC12-IS-B738/M-SDFG/S-EHAM0930-N0440F310 DCT PAM DCT-EDDF0100 EDDK-0)" "(CHG-ABC12-EHAM0930-EDDF-0-16/EDDN-8/IN)" 16 (NotShown 17 0 0)
+    ∷ (asked "(FPL-ABC12-IS-B738/M-SDFG/S-EHAM0930-N0440F310 DCT PAM DCT-EDDF0100 EDDK-0)" "(CHG-ABC12-EHAM0930-EDDF-0-16/EDDN-8/IN)" 8
+    (InChange 37 39) ∷ []))))))))
+
 -- document 01's strip and its CHG
 abbrev pub ofStrips : List Example
 ofStrips =
@@ -129,4 +148,4 @@ ofStrips =
     ∷ (asked "(FPL-ABC12-IS-B738/M-SDFG/S-EHAM0930-N0440F310 DCT PAM DCT-EDDF0100 EDDK-0)" "(CHG-ABC12-EHAM0930-EDDF-0-9/B39M/M-8/IN)" 10 (InStrip 21 27) ∷ []))
 
 abbrev pub examples : List Example
-examples = ofFields ++ (ofElapsed ++ (ofMessages ++ ofStrips))
+examples = ofFields ++ (ofElapsed ++ (ofMessages ++ (ofStrips ++ ofDestinations)))
