@@ -1,5 +1,5 @@
 -- A new destination put into a plan's field 16: the rest of the field stays, and it fits as before. Assumes nothing.
-use Prim.Native.Nat.{ℕ, _≤_}
+use Prim.Native.Nat.{_≤_}
 use mathlib.Core.Path.{_≡_, refl, sym, ap, _∙_}
 use mathlib.Core.Bool.{Bool, true, false, _||_, cond}
 use mathlib.Core.List.{List, [], _∷_, _++_, append-assoc}
@@ -13,7 +13,7 @@ use Rattle.text.specs.Words.{Word, split, join}
 use Rattle.text.proofs.Tests.{both, and-both}
 use Rattle.shape.specs.Time.{elapsedHours, spellTime, validTime}
 use Rattle.shape.proofs.Fields.{fits-spelling, spelling-fits}
-use Rattle.aerodromes.specs.Aerodromes.{fourLetters, joined, validJoined, first, others}
+use Rattle.aerodromes.specs.Aerodromes.{fourLetters, validJoined, first, others}
 use Rattle.aerodromes.specs.Field16.{fewAerodromes, mostAlternates, Field16Plan, valid16plan, spell16plan, fits16plan, record16plan, field16plan}
 use Rattle.aerodromes.specs.Field16.{fits16, fits16entry}
 use Rattle.aerodromes.proofs.Aerodromes.{four-length, cut-aerodrome, cut-joined, joined-length, joined-spelled, words-spelled}

@@ -1,6 +1,6 @@
 -- `amending::put_entry` meets its contract. Assumes nothing.
 use mathlib.Core.Path.{_≡_, sym, ap, _∙_}
-use mathlib.Core.Bool.{Bool, true, false, cond}
+use mathlib.Core.Bool.{Bool, false, cond}
 use mathlib.Core.List.{_++_}
 use lib.ListN.{drop}
 use Rattle.text.specs.Words.{Word}
