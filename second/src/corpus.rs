@@ -24,13 +24,14 @@ pub struct Listed {
 }
 
 /// The lists of questions. The first begins before any strip is held.
-const QUESTIONS: [&str; 8] = [
+const QUESTIONS: [&str; 9] = [
     include_str!("../data/bad-strips.txt"),
     include_str!("../data/document-01.txt"),
     include_str!("../data/document-01-further.txt"),
     include_str!("../data/decided.txt"),
     include_str!("../data/document-02-places.txt"),
     include_str!("../data/document-02-elapsed.txt"),
+    include_str!("../data/document-02-bare.txt"),
     include_str!("../data/printed-messages.txt"),
     include_str!("../data/lines.txt"),
 ];

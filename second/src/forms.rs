@@ -8,7 +8,7 @@ use crate::route::route;
 use crate::supplement::supplement;
 use crate::words::Words;
 
-/// A field's form. 13 and 16 have two each.
+/// A field's form. 13 has two, 16 three.
 #[derive(Clone, Copy, Debug, PartialEq, Eq)]
 #[allow(missing_docs)]
 pub enum Form {
@@ -24,6 +24,8 @@ pub enum Form {
     F16,
     /// FPL's and SPL's: with elapsed time and alternates.
     F16Plan,
+    /// A CHG's entry: FPL's, or the destination alone.
+    F16Entry,
     F17,
     F18,
     F19,
@@ -55,7 +57,7 @@ impl Form {
         Form::NAMED.into_iter().find(|(own, _)| *own == name).map(|(_, form)| form)
     }
 
-    /// The form that an entry with this number follows: the field's FPL form.
+    /// The form that an entry with this number follows: the field's FPL form, but for 16.
     pub fn of_entry(number: &[u8]) -> Option<Form> {
         match number {
             b"7" => Some(F7),
@@ -64,7 +66,7 @@ impl Form {
             b"10" => Some(F10),
             b"13" => Some(F13),
             b"15" => Some(F15),
-            b"16" => Some(F16Plan),
+            b"16" => Some(F16Entry),
             b"18" => Some(F18),
             _ => None,
         }
@@ -80,7 +82,7 @@ impl Form {
             F10 => 10,
             F13 | F13Open => 13,
             F15 => 15,
-            F16 | F16Plan => 16,
+            F16 | F16Plan | F16Entry => 16,
             F17 => 17,
             F18 => 18,
             F19 => 19,
@@ -93,6 +95,7 @@ impl Form {
         let fits = match self {
             F15 => route(words),
             F16Plan => destination_with_alternates(words),
+            F16Entry => new_destination(words),
             F17 => arrival(words),
             F18 => other_information(words),
             F19 => supplement(words),
@@ -223,8 +226,17 @@ fn aerodrome_and_elapsed(word: &[u8]) -> bool {
 
 /// Field 16 of FPL and SPL: the destination, then at most two alternates.
 fn destination_with_alternates(words: &mut Words) -> bool {
+    words.word().is_some_and(aerodrome_and_elapsed) && alternates(words)
+}
+
+/// An entry of 16: the destination alone, or all of field 16.
+fn new_destination(words: &mut Words) -> bool {
+    words.word().is_some_and(|word| is_four_letters(word) || (aerodrome_and_elapsed(word) && alternates(words)))
+}
+
+fn alternates(words: &mut Words) -> bool {
     let alternate = |words: &mut Words| words.word().is_none_or(is_four_letters);
-    words.word().is_some_and(aerodrome_and_elapsed) && alternate(words) && alternate(words)
+    alternate(words) && alternate(words)
 }
 
 /// Field 17: a name is due after ZZZZ and after no other.

@@ -106,6 +106,11 @@ impl Reading {
         entries.find(|field| field.number == number).map(|field| field.content.clone())
     }
 
+    /// The content of that entry.
+    pub fn entry(&self, number: u32) -> Option<&[u8]> {
+        self.entry_range(number).map(|range| &self.spelling[range])
+    }
+
     fn place(&self, number: u32) -> usize {
         self.own_field(number).map_or(0, |field| field.place)
     }

@@ -42,7 +42,8 @@ fn field(trail: &mut Trail, form: Form) -> bool {
         F13Open => four_letters(trail) && (trail.ended() || time_of_day(trail)),
         F15 => route(trail),
         F16 => four_letters(trail),
-        F16Plan => destination_with_alternates(trail),
+        F16Plan => four_letters(trail) && elapsed_and_alternates(trail),
+        F16Entry => four_letters(trail) && (trail.ended() || elapsed_and_alternates(trail)),
         F17 => arrival(trail),
         F18 => other_information(trail),
         F19 => supplement(trail),
@@ -94,9 +95,10 @@ fn equipment(trail: &mut Trail) -> bool {
     left && (trail.way(|trail| trail.byte(b'N') && trail.ended()) || codes(trail, is_right_code, 20))
 }
 
-fn destination_with_alternates(trail: &mut Trail) -> bool {
+/// What a plan's field 16 has behind the destination.
+fn elapsed_and_alternates(trail: &mut Trail) -> bool {
     let alternate = |trail: &mut Trail| trail.ended() || (trail.byte(b' ') && four_letters(trail));
-    four_letters(trail) && elapsed_time(trail) && alternate(trail) && alternate(trail)
+    elapsed_time(trail) && alternate(trail) && alternate(trail)
 }
 
 /// Behind ZZZZ and its time words must follow, behind any other none may.
@@ -112,7 +114,7 @@ fn arrival(trail: &mut Trail) -> bool {
 /// The fields that an entry may name.
 const NUMBERS: [&[u8]; 8] = [b"7", b"8", b"9", b"10", b"13", b"15", b"16", b"18"];
 
-/// A field's number, an oblique, and that field in its FPL form. Which numbers earlier entries have plays no part.
+/// A field's number, an oblique, and that field as an entry has it. Which numbers earlier entries have plays no part.
 fn entry(trail: &mut Trail) -> bool {
     let named = NUMBERS.into_iter().find(|number| trail.way(|trail| trail.word(number) && trail.byte(b'/')));
     named.and_then(Form::of_entry).is_some_and(|form| field(trail, form))

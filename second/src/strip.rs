@@ -1,5 +1,6 @@
 //! The strip: one plan and the state of its flight.
 
+use std::borrow::Cow;
 use std::fmt;
 use std::ops::Range;
 
@@ -74,7 +75,7 @@ pub struct Updated {
 /// The fields of a plan behind field 3, in their order; each may be named by an entry.
 pub(crate) const PLAN_FIELDS: [u32; 8] = [7, 8, 9, 10, 13, 15, 16, 18];
 
-type Contents<'a> = [&'a [u8]; PLAN_FIELDS.len()];
+type Contents<'a> = [Cow<'a, [u8]>; PLAN_FIELDS.len()];
 
 /// Offers a message to a strip; `room` is what the new strip may take.
 pub fn update(strip: &[u8], state: State, msg: &[u8], room: usize) -> Result<Updated, Refusal> {
@@ -128,6 +129,9 @@ pub fn field_in_force(strip: &[u8], state: State, chg: &[u8], field: u32) -> Res
     }
     if !is_for(&message, &plan) {
         return Err(Refusal::bare(12));
+    }
+    if field == 16 && new_destination(&message).is_some() {
+        return Err(Refusal::bare(17));
     }
     if !PLAN_FIELDS.contains(&field) {
         return Err(Refusal::new(8, field, 0));
@@ -188,16 +192,29 @@ fn time_of(content: &[u8]) -> Option<u16> {
 /// The plan's contents as the message leaves them.
 fn amended<'a>(plan: &'a Reading, message: &'a Reading) -> Contents<'a> {
     PLAN_FIELDS.map(|field| match message.kind {
-        Kind::Chg => message.entry_range(field).map_or_else(|| plan.own(field), |range| &message.spelling[range]),
+        Kind::Chg => changed(plan, message, field),
         // The aerodromes are equal, so DLA's whole field 13 brings the time alone.
-        Kind::Dla if field == 13 => message.own(13),
-        _ => plan.own(field),
+        Kind::Dla if field == 13 => message.own(13).into(),
+        _ => plan.own(field).into(),
     })
+}
+
+/// A field as a CHG leaves it: as its entry has it if there is one; of a bare new destination the rest stays.
+fn changed<'a>(plan: &'a Reading, message: &'a Reading, field: u32) -> Cow<'a, [u8]> {
+    match (field, new_destination(message)) {
+        (16, Some(destination)) => [destination, &plan.own(16)[4..]].concat().into(),
+        _ => message.entry(field).unwrap_or_else(|| plan.own(field)).into(),
+    }
+}
+
+/// The destination that a CHG's entry has alone.
+fn new_destination(message: &Reading) -> Option<&[u8]> {
+    message.entry(16).filter(|content| content.len() == 4)
 }
 
 /// Number 10 for the amended plan.
 fn check_amended(contents: &Contents) -> Result<(), Refusal> {
-    let [_, _, nine, _, thirteen, _, sixteen, eighteen] = *contents;
+    let [_, _, nine, _, thirteen, _, sixteen, eighteen] = contents;
     match unexplained(nine, thirteen, sixteen, eighteen) {
         Some(form) => Err(Refusal::new(10, form.number(), 0)),
         None => Ok(()),

@@ -183,7 +183,18 @@ fn field_15() {
 fn fields_16_and_17() {
     fit("16", &["EDDF", "ZZZZ"]);
     do_not_fit("16", &["EDDF0100", "EDDF EDDK", "EDD", "EDDFX", "EDD1"]);
-    fit("16plan", &["EINN0630", "EHAM0645 EBBR", "EHAM0645 EBBR EDDL", "EKCH0400 EKVB", "ZZZZ2359 ZZZZ ZZZZ", "EHAM2600", "EHAM9959"]);
+    fit(
+        "16plan",
+        &[
+            "EINN0630",
+            "EHAM0645 EBBR",
+            "EHAM0645 EBBR EDDL",
+            "EKCH0400 EKVB",
+            "ZZZZ2359 ZZZZ ZZZZ",
+            "EHAM2600",
+            "EHAM9959",
+        ],
+    );
     do_not_fit(
         "16plan",
         &["CYQX0455 CYR", "EHAM", "EHAM0645 EBBR EDDL EDDK", "EHAM2460", "EHAM0645EBBR", "EHAM0645 EBBR0100"],

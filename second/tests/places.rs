@@ -185,7 +185,7 @@ fn entries() {
         fits: &|entry| is_reduced(entry) && read_entry(entry).is_ok(),
         misfit: &|entry| read_entry(entry).err().and_then(place_of_7),
     };
-    let whole: [&str; 12] = [
+    let whole: [&str; 13] = [
         "7/AA/A0000",
         "8/IS",
         "9/2AA/H",
@@ -193,6 +193,7 @@ fn entries() {
         "13/AAAA0000",
         "15/M000VFR AA",
         "16/AAAA0000 AAAA",
+        "16/AAAA",
         "18/0",
         "18/RMK/A",
         "10/M1/N",

@@ -54,6 +54,23 @@ fn a_change_of_every_field() {
 }
 
 #[test]
+fn a_bare_new_destination() {
+    let chg = "(CHG-ABC12-EHAM0930-EDDF-0-16/EDDN )";
+    let strip = STRIP.replace("EDDF0100 EDDK", "EDDN0100 EDDK");
+    assert_eq!(offered(State::Filed, chg), Ok((strip.clone(), State::Filed)));
+    assert_eq!(offered(DEPARTED, chg), Ok((strip, DEPARTED)));
+    assert_eq!(offered(State::Cancelled, chg), Err(13));
+    assert_eq!(offered(State::Filed, "(CHG-ABC12-EHAM0930-EDDN-0-16/EDDN)"), Err(12));
+    assert_eq!(offered(State::Filed, "(CHG-ABC12-EHAM0930-EDDF-0-16/EDDN EDDK)"), Err(7));
+    assert_eq!(refusal(STRIP, State::Filed, "(CHG-ABC12-EHAM0930-EDDF-DEST/X-16/ZZZZ)", 0), (10, 16, 0));
+    let asked = |chg: &'static str, field| in_force(STRIP.as_bytes(), State::Filed, chg.as_bytes(), field);
+    let neither = Refusal { number: 17, field: 0, place: 0 };
+    assert_eq!(asked("(CHG-ABC12-EHAM0930-EDDF-0-16/EDDN)", 16), Err(neither));
+    assert_eq!(asked("(CHG-ABC12-EHAM0930-EDDF-0-16/EDDN)", 13), Ok(&b"EHAM0930"[..]));
+    assert_eq!(asked("(CHG-ABC13-EHAM0930-EDDF-0-16/EDDN)", 16).map_err(|refusal| refusal.number), Err(12));
+}
+
+#[test]
 fn for_another_flight() {
     let others = [
         "(CHG-ABC13-EHAM0930-EDDF-0-8/IN)",

@@ -167,7 +167,7 @@ pub fn content(dice: &mut Dice, form: Form) -> Vec<u8> {
         F13 | F13Open => [aerodrome(dice), time(dice)].concat(),
         F15 => route(dice),
         F16 => aerodrome_or_zzzz(dice),
-        F16Plan => {
+        F16Plan | F16Entry => {
             let destination = aerodrome_or_zzzz(dice);
             with_alternates(dice, &destination).0
         }
