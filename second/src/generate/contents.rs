@@ -131,6 +131,9 @@ fn due_items(nine: &[u8], flight: &Flight, unnamed_alternate: bool) -> Vec<&'sta
 fn entries(dice: &mut Dice, flight: &Flight) -> Vec<Vec<u8>> {
     let mut numbers: [&[u8]; 8] = [b"7", b"8", b"9", b"10", b"13", b"15", b"16", b"18"];
     dice.shuffle(&mut numbers);
+    if dice.chance(15) {
+        numbers.sort_by_key(|number| *number != b"16");
+    }
     let count = if dice.chance(60) { dice.from_to(1, 3) } else { dice.from_to(1, 8) };
     let mut entries = Vec::new();
     for number in &numbers[..count] {
@@ -167,6 +170,7 @@ pub fn content(dice: &mut Dice, form: Form) -> Vec<u8> {
         F13 | F13Open => [aerodrome(dice), time(dice)].concat(),
         F15 => route(dice),
         F16 => aerodrome_or_zzzz(dice),
+        F16Entry if dice.chance(40) => aerodrome_or_zzzz(dice),
         F16Plan | F16Entry => {
             let destination = aerodrome_or_zzzz(dice);
             with_alternates(dice, &destination).0

@@ -33,10 +33,10 @@ fn any_field(dice: &mut Dice, draft: &mut Draft) {
 }
 
 fn entry(dice: &mut Dice, draft: &mut Draft) {
-    if dice.chance(65) {
-        change_entry_number(dice, draft);
-    } else {
-        repeat_entry(dice, draft);
+    match dice.below(10) {
+        0..=3 => change_entry_number(dice, draft),
+        4..=6 => repeat_entry(dice, draft),
+        _ => cut_destination(dice, draft),
     }
 }
 
@@ -239,6 +239,21 @@ fn repeat_entry(dice: &mut Dice, draft: &mut Draft) {
             content(dice, &mut again);
         }
         draft.push(again);
+    }
+}
+
+/// An entry of 16, mostly cut off in its aerodrome or elapsed time; now and then another before it.
+fn cut_destination(dice: &mut Dice, draft: &mut Draft) {
+    let mut entry = b"16/EDDN0100 EDDK".to_vec();
+    entry.truncate(dice.from_to(b"16/ED".len(), b"16/EDDN0100 E".len()));
+    if dice.chance(25) {
+        draft.push(b"16/EDDM".to_vec());
+        draft.push(entry);
+        return;
+    }
+    match draft.iter().skip(5).position(|entry| entry.starts_with(b"16/")) {
+        Some(position) => draft[5 + position] = entry,
+        None => draft.push(entry),
     }
 }
 
