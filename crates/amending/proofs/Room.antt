@@ -16,11 +16,13 @@ use Rattle.space.specs.Fields.{inner}
 use Rattle.space.proofs.Frame.{frame-inner}
 use Rattle.kinds.specs.declared.Role.{Role}
 use Rattle.kinds.specs.declared.Role.the-variants.{Files, Changes, Delays, Cancels, Departs, Arrives, Neither}
-use Rattle.kinds.specs.Kinds.{plan13, brief13, firstEntry}
+use Rattle.kinds.specs.Kinds.{brief13, brief18, firstEntry}
 use Rattle.forms.specs.Field22.{whichOf}
 use Rattle.force.specs.InForce.{entriesOf, lookup, namedBy, fieldAt, bare, changedBy, fieldsFrom}
 use Rattle.force.proofs.Laws.{fields-are, field-free, changed-free, nine-cut}
-use Rattle.amending.specs.Amended.{contentOf, amended, newStrip}
+use Rattle.dates.specs.Dates.{dateIn}
+use Rattle.amending.specs.Amended.{datedBy, contentOf, amended, newStrip}
+use Rattle.amending.proofs.Dated.{added, dated-long, added-room, dated-free}
 
 -- SUMS over n places from j on
 
@@ -51,6 +53,10 @@ sum-one x y r d here others j (suc n) = go (sum-one x y r d here others (suc j) 
         let first : y j ≤ x j + d = rw z at here in
         omega (arith, sum-least y x (suc j) n (λ k l. others k (λ q. omega arith)))
     go ih false e = omega (arith, others j (eqb-false j r e))
+
+-- two places alone, of nine
+sum-two : (a b : ℕ) → sumFrom (λ k. cond (eqb k 5) a (cond (eqb k 8) b 0)) 0 9 ≡ a + b
+sum-two a b = omega arith
 
 -- HOW LONG FIELDS ARE, joined
 
@@ -147,17 +153,37 @@ module _ (plan said : List ℕ) where
         named-sum said,
       )
 
+  -- a DLA adds in 13 no more than its own 13 has, and in 18 no more than `added`
   delayed-sum : sumFrom (new Delays) 0 9 ≤ sumFrom own 0 9 + length said
-  delayed-sum = sum-one own (new Delays) plan13 (length said) here others 0 9
+  delayed-sum =
+      omega (
+        arith,
+        sum-least (new Delays) (λ k. own k + extra k) 0 9 (λ k l. each k),
+        sum-plus own extra 0 9,
+        sum-two (length thirteen) (added eighteen),
+        added-room said (omega (arith, field-total (split 45 said) brief13, total-fields 0 said)),
+      )
     where
-      here : new Delays plan13 ≤ own plan13 + length said
-      here =
-          let a = fieldAt plan plan13 in
-          let b = fieldAt said brief13 in
-          omega (arith, length-append (take 4 a) (drop 4 b), length-take 4 a, length-drop 4 b, field-total (split 45 said) brief13, total-fields 0 said)
+      thirteen : Word
+      thirteen = fieldAt said brief13
 
-      others : (k : ℕ) → (k ≡ plan13 → ⊥) → new Delays k ≤ own k
-      others k h = rw (ne-eqb k 5 h) (omega arith)
+      eighteen : Word
+      eighteen = fieldAt said brief18
+
+      extra : ℕ → ℕ
+      extra k = cond (eqb k 5) (length thirteen) (cond (eqb k 8) (added eighteen) 0)
+
+      each : (k : ℕ) → new Delays k ≤ own k + extra k
+      each k = go (eqb k 5) (eqb k 8)
+        where
+          a : Word
+          a = fieldAt plan k
+
+          go : (x y : Bool) → suc (length (cond x (take 4 a ++ drop 4 thirteen) (cond y (datedBy (dateIn eighteen) a) a)))
+              ≤ suc (length a) + cond x (length thirteen) (cond y (added eighteen) 0)
+          go true y = omega (arith, length-append (take 4 a) (drop 4 thirteen), length-take 4 a, length-drop 4 thirteen)
+          go false true = omega (arith, dated-long a eighteen)
+          go false false = omega arith
 
   new-sum : (role : Role) → sumFrom (new role) 0 9 ≤ sumFrom own 0 9 + length said
   new-sum Changes = changed-sum
@@ -193,14 +219,17 @@ module _ (plan said : List ℕ) where
 
   content-free : (role : Role) (k : ℕ) → free 45 (contentOf role plan said k) ≡ true
   content-free Changes k = changed-free plan said k
-  content-free Delays k = go (eqb k 5)
+  content-free Delays k = go (eqb k 5) (eqb k 8)
     where
-      go : (b : Bool) → free 45 (cond b (take 4 (fieldAt plan k) ++ drop 4 (fieldAt said brief13)) (fieldAt plan k)) ≡ true
-      go true =
+      go : (a b : Bool)
+          → free 45 (cond a (take 4 (fieldAt plan k) ++ drop 4 (fieldAt said brief13))
+          (cond b (datedBy (dateIn (fieldAt said brief18)) (fieldAt plan k)) (fieldAt plan k))) ≡ true
+      go true b =
           all-append (λ b. not (eqb b 45)) (take 4 (fieldAt plan k)) (drop 4 (fieldAt said brief13))
           (all-take (λ b. not (eqb b 45)) 4 (fieldAt plan k) (field-free plan k))
           (all-drop (λ b. not (eqb b 45)) 4 (fieldAt said brief13) (field-free said brief13))
-      go false = field-free plan k
+      go false true = dated-free (fieldAt plan k) (fieldAt said brief18) (field-free plan k) (field-free said brief18)
+      go false false = field-free plan k
   content-free Cancels k = field-free plan k
   content-free Departs k = field-free plan k
   content-free Arrives k = field-free plan k

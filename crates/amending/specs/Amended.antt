@@ -5,25 +5,33 @@ use mathlib.Core.Path.{_≡_, refl}
 use mathlib.Core.Bool.{cond}
 use mathlib.Core.List.{List, _++_}
 use lib.Dec.{eqb}
-use lib.ListN.{length, take, drop}
+use lib.ListN.{take, drop}
 use Rattle.alphabet.specs.Text.{bytes}
-use Rattle.text.specs.Words.{Word}
-use Rattle.text.specs.Lent.{front}
+use Rattle.text.specs.Words.{Word, null}
 use Rattle.sent.specs.Sent.{messageOf}
 use Rattle.kinds.specs.declared.MessageType.the-variants.{Chg, Dla, Dep}
 use Rattle.kinds.specs.declared.Role.{Role}
 use Rattle.kinds.specs.declared.Role.the-variants.{Files, Changes, Delays, Cancels, Departs, Arrives, Neither}
-use Rattle.kinds.specs.Kinds.{roleOf, plan13, brief13}
+use Rattle.kinds.specs.Kinds.{roleOf, plan13, plan18, brief13, brief18}
 use Rattle.forms.specs.Field22.{labels}
 use Rattle.aerodromes.specs.Aerodromes.{fourLetters}
+use Rattle.other.specs.Rules.{base}
+use Rattle.other.specs.Field18.{wordsUnder}
+use Rattle.dates.specs.Dates.{dateIn, keysBehind, withDate}
 use Rattle.force.specs.InForce.{namedBy, fieldAt, changedBy, fieldsFrom}
 
+-- A DLA'S DATE, that of its own field 18, put into a plan's field 18; as it stands where there is none
+abbrev pub datedBy : Word → Word → Word
+datedBy date own = cond (null date) own (withDate date own)
+
 -- FIELD k OF THE AMENDED PLAN, from the plan's own: what a CHG's entry makes of it where one names it; of a DLA the time in 13, behind the aerodrome of
--- the plan; otherwise the plan's own
+-- the plan, and its date in 18; otherwise the plan's own
 
 abbrev pub contentIn : Role → Word → List ℕ → ℕ → Word
 contentIn Changes own said k = changedBy k (namedBy said k) own
-contentIn Delays own said k = cond (eqb k plan13) (take 4 own ++ drop 4 (fieldAt said brief13)) own
+contentIn Delays own said k =
+    cond (eqb k plan13) (take 4 own ++ drop 4 (fieldAt said brief13))
+    (cond (eqb k plan18) (datedBy (dateIn (fieldAt said brief18)) own) own)
 contentIn Cancels own said k = own
 contentIn Departs own said k = own
 contentIn Arrives own said k = own
@@ -39,10 +47,6 @@ amended role plan said = fieldsFrom (contentOf role plan said) 0 9
 
 unfoldable pub newStrip : Role → List ℕ → List ℕ → List ℕ
 newStrip role plan said = messageOf (amended role plan said)
-
--- WHAT A WRITER GIVES: so many bytes, at the front of what was lent
-abbrev pub Puts : List ℕ → ℕ → List ℕ → List ℕ → Type 0
-Puts w n before after = (n ≡ length w) × (after ≡ front w before)
 
 -- EXAMPLES, computed
 
@@ -67,8 +71,27 @@ unfolding newStrip namedBy labels fourLetters
 redirected = refl
 
 delayed : newStrip (roleOf Dla) filed (bytes "DLA-ABC12-EHAM1015-EDDF-0") ≡ bytes "(FPL-ABC12-IS-B738/M-SDFG/S-EHAM1015-N0440F310 DCT PAM DCT-EDDF0100 EDDK-0)"
-unfolding newStrip
+unfolding newStrip wordsUnder
 delayed = refl
+
+-- and a DLA's date is put into 18, whatever else its own 18 holds; one without a date leaves 18 as it stands
+dated : newStrip (roleOf Dla) filed (bytes "DLA-ABC12-EHAM1015-EDDF-DOF/240229 RMK/LATE")
+    ≡ bytes "(FPL-ABC12-IS-B738/M-SDFG/S-EHAM1015-N0440F310 DCT PAM DCT-EDDF0100 EDDK-DOF/240229)"
+unfolding newStrip wordsUnder withDate
+dated = refl
+
+abbrev filed18 : List ℕ
+filed18 = bytes "FPL-ABC12-IS-B738/M-SDFG/S-EHAM0930-N0440F310 DCT PAM DCT-EDDF0100 EDDK-DEP/X REG/Y"
+
+redated : newStrip (roleOf Dla) filed18 (bytes "DLA-ABC12-EHAM1015-EDDF-DOF/240229")
+    ≡ bytes "(FPL-ABC12-IS-B738/M-SDFG/S-EHAM1015-N0440F310 DCT PAM DCT-EDDF0100 EDDK-DEP/X DOF/240229 REG/Y)"
+unfolding newStrip wordsUnder withDate keysBehind base
+redated = refl
+
+undated : newStrip (roleOf Dla) filed18 (bytes "DLA-ABC12-EHAM1015-EDDF-RMK/LATE")
+    ≡ bytes "(FPL-ABC12-IS-B738/M-SDFG/S-EHAM1015-N0440F310 DCT PAM DCT-EDDF0100 EDDK-DEP/X REG/Y)"
+unfolding newStrip wordsUnder
+undated = refl
 
 departed : newStrip (roleOf Dep) filed (bytes "DEP-ABC12-EHAM0941-EDDF-0") ≡ bytes "(FPL-ABC12-IS-B738/M-SDFG/S-EHAM0930-N0440F310 DCT PAM DCT-EDDF0100 EDDK-0)"
 unfolding newStrip

@@ -6,7 +6,8 @@ ghost use lib.ListN.{length, drop, getD};
 ghost use Rattle.text.specs.Words.{split};
 ghost use Rattle.message.specs.Reading.{leadOf};
 ghost use Rattle.force.specs.InForce.{AtEntries, putIn};
-ghost use Rattle.amending.specs.Amended.{contentIn, newStrip, Puts};
+ghost use Rattle.dates.specs.Dates.{Puts};
+ghost use Rattle.amending.specs.Amended.{datedBy, contentIn, newStrip};
 use force::Found;
 use kinds::Role;
 use text::Cursor;
@@ -31,22 +32,13 @@ pub fn behind_aerodrome<'a>(s: &'a [u8]) -> &'a [u8]
     &s[4..]
 }
 
-// Writes two parts, one behind the other, at the front of `out`.
-fn put_two<'a>(first: &'a [u8], second: &'a [u8], out: &mut [u8]) -> usize
-    requires { ⌜ length (now first ++ now second) ≤ length (now out) ⌝ }
-    ensures { λ r. ⌜ Puts (now (first .entry) ++ now (second .entry)) r (now (out .entry)) (now (out .exit)) ⌝ }
-{
-    let n = text::put(first, out);
-    n + text::put(second, &mut out[n..])
-}
-
 // Writes the plan's own field of rank k with an entry's content put in: behind a destination alone, what stands behind the plan's own.
 fn put_entry<'a>(own: &'a [u8], content: &'a [u8], k: usize, out: &mut [u8]) -> usize
     requires { ⌜ length (putIn k (now content) (now own)) ≤ length (now out) ⌝ }
     ensures { λ r. ⌜ Puts (putIn k (now (content .entry)) (now (own .entry))) r (now (out .entry)) (now (out .exit)) ⌝ }
 {
     if force::is_bare(k, content) {
-        return put_two(content, behind_aerodrome(own), out);
+        return dates::put_two(content, behind_aerodrome(own), out);
     }
     text::put(content, out)
 }
@@ -63,14 +55,29 @@ fn put_changed<'a>(own: &'a [u8], said: &'a [u8], first: Cursor, k: usize, out: 
     }
 }
 
-// Writes field k of a plan after a DLA: of field 13 the plan's aerodrome and the DLA's time, otherwise the plan's own.
+// Writes a plan's field 18 with a date put in; as it stands where there is none.
+fn put_date<'a>(own: &'a [u8], date: &'a [u8], out: &mut [u8]) -> usize
+    requires { ⌜ length (datedBy (now date) (now own)) ≤ length (now out) ⌝ }
+    ensures { λ r. ⌜ Puts (datedBy (now (date .entry)) (now (own .entry))) r (now (out .entry)) (now (out .exit)) ⌝ }
+{
+    if date.len() == 0 {
+        return text::put(own, out);
+    }
+    dates::put_dated(own, date, out)
+}
+
+// Writes field k of a plan after a DLA: of field 13 the plan's aerodrome and the DLA's time, field 18 with the DLA's date, otherwise the plan's own.
 fn put_delayed<'a>(own: &'a [u8], said: &'a [u8], k: usize, out: &mut [u8]) -> usize
     requires { ⌜ length (contentIn Role.Delays (now own) (now said) k) ≤ length (now out) ⌝ }
     ensures { λ r. ⌜ Puts (contentIn Role.Delays (now (own .entry)) (now (said .entry)) k) r (now (out .entry)) (now (out .exit)) ⌝ }
 {
     if k == kinds::PLAN_13 {
         let time = behind_aerodrome(field(said, kinds::BRIEF_13));
-        return put_two(aerodromes::aerodrome_of(own), time, out);
+        return dates::put_two(aerodromes::aerodrome_of(own), time, out);
+    }
+    if k == kinds::PLAN_18 {
+        let date = dates::date_word(field(said, kinds::BRIEF_18));
+        return put_date(own, date, out);
     }
     text::put(own, out)
 }

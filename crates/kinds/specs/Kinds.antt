@@ -140,7 +140,8 @@ plan16 = 7
 abbrev pub plan18 : ℕ
 plan18 = 8
 
--- in the types that update a strip; in an ARR without field 16, 17 stands in its place. A CHG's entries begin behind field 18.
+-- in the types that update a strip; an ARR has 17 where the others have 18, and without field 16 in the place of 16. A CHG's entries begin behind
+-- field 18.
 abbrev pub brief7 : ℕ
 brief7 = 1
 
@@ -152,6 +153,9 @@ brief16 = 3
 
 abbrev pub brief17 : ℕ
 brief17 = 4
+
+abbrev pub brief18 : ℕ
+brief18 = 4
 
 abbrev pub firstEntry : ℕ
 firstEntry = 5
@@ -204,9 +208,10 @@ brief-places : (briefPlaces Chg 6 ≡ 7 ∷ 13 ∷ 16 ∷ []) × (briefPlaces Dl
 unfolding formAt formsOf briefForms arrivalForms divertedForms
 brief-places = (refl, refl, refl, refl, refl, refl)
 
-last-places : (formAt Arr 5 brief17 ≡ Field17) × (formAt Chg 6 firstEntry ≡ Field22) × (formAt Chg 6 4 ≡ Field18)
+last-places : (formAt Arr 5 brief17 ≡ Field17) × (formAt Chg 6 firstEntry ≡ Field22) × (formAt Chg 6 brief18 ≡ Field18) × (formAt Cnl 5 brief18 ≡ Field18)
+    × (formAt Dla 5 brief18 ≡ Field18) × (formAt Dep 5 brief18 ≡ Field18)
 unfolding formAt formsOf briefForms divertedForms
-last-places = (refl, refl, refl)
+last-places = (refl, refl, refl, refl, refl, refl)
 
 -- EXAMPLES, computed
 

@@ -63,12 +63,14 @@ pub const PLAN_16: usize = 7;
 
 pub const PLAN_18: usize = 8;
 
-// In the types that update a strip; in an ARR without field 16, 17 stands in its place. A CHG's entries begin behind field 18.
+// In the types that update a strip; an ARR has 17 where the others have 18, and without field 16 in the place of 16. A CHG's entries begin behind field 18.
 pub const BRIEF_7: usize = 1;
 
 pub const BRIEF_13: usize = 2;
 
 pub const BRIEF_16: usize = 3;
+
+pub const BRIEF_18: usize = 4;
 
 pub const FIRST_ENTRY: usize = 5;
 

@@ -6,8 +6,8 @@ use lib.ListN.{length}
 use Rattle.canonical.proofs.Turns.{put-same, room-same}
 use Rattle.text.specs.Words.{Word}
 use Rattle.kinds.specs.declared.Role.{Role}
+use Rattle.dates.specs.Dates.{Puts}
 use Rattle.amending.specs.Amended.{contentIn}
-use Rattle.amending.specs.Amended.{Puts}
 use borrow.Author.Needs.{needs}
 use Rattle.amending.proofs.put_content.Statement.{statement}
 use Rattle.amending.proofs.put_content.Tie as tie

@@ -7,19 +7,23 @@ use borrow.Author.Tests.{eq-eqb, ne-eqb}
 use Rattle.text.specs.Words.{Word}
 use Rattle.canonical.proofs.Turns.{put-same, room-same}
 use Rattle.kinds.specs.declared.Role.the-variants.{Delays}
-use Rattle.kinds.specs.Kinds.{plan13, brief13}
+use Rattle.kinds.specs.Kinds.{plan13, plan18, brief13, brief18}
+use Rattle.dates.specs.Dates.{dateIn}
 use Rattle.force.specs.InForce.{fieldAt}
-use Rattle.amending.specs.Amended.{contentIn}
+use Rattle.amending.specs.Amended.{datedBy, contentIn}
 use borrow.Author.Needs.{needs}
 use Rattle.amending.proofs.put_delayed.Statement.{statement}
 use Rattle.amending.proofs.put_delayed.Tie as tie
 
--- what is written, at field 13 and at others
+-- what is written, at field 13, at field 18 and at others
 retimed : (own : Word) (said : List ℕ) (k : ℕ) → k ≡ plan13 → take 4 own ++ drop 4 (fieldAt said brief13) ≡ contentIn Delays own said k
 retimed own said k e = rw (eq-eqb k 5 e)
 
-kept : (own : Word) (said : List ℕ) (k : ℕ) → (k ≡ plan13 → ⊥) → own ≡ contentIn Delays own said k
-kept own said k e = rw (ne-eqb k 5 e)
+redated : (own : Word) (said : List ℕ) (k : ℕ) → (k ≡ plan13 → ⊥) → k ≡ plan18 → datedBy (dateIn (fieldAt said brief18)) own ≡ contentIn Delays own said k
+redated own said k n e = rw (ne-eqb k 5 n, eq-eqb k 8 e)
+
+kept : (own : Word) (said : List ℕ) (k : ℕ) → (k ≡ plan13 → ⊥) → (k ≡ plan18 → ⊥) → own ≡ contentIn Delays own said k
+kept own said k n e = rw (ne-eqb k 5 n, ne-eqb k 8 e)
 
 -- the two parts of field 13
 module _ (c : tie.After-aerodrome-of) where
@@ -31,6 +35,28 @@ module _ (c : tie.After-aerodrome-of) where
   parts =
       ap₂ (λ (v w : Word). v ++ w) (c .aerodrome-of .ensures) (c .before .behind-aerodrome .ensures ∙ ap (drop 4) (c .before .before .field .ensures))
       ∙ retimed (start .args .own .now) (start .args .said .now) (start .args .k) (c .before .before .before .if1 .taken)
+
+-- field 18 with the date
+module _ (c : tie.After-date-word) where
+  abbrev tested : tie.Then2
+  tested = c .before .before
+
+  abbrev begun : tie.Start
+  begun = tested .before .before .before .before .before
+
+  with-date : datedBy (c .date-word .result .now) (begun .args .own .now)
+      ≡ contentIn Delays (begun .args .own .now) (begun .args .said .now) (begun .args .k)
+  with-date =
+      ap (λ (d : Word). datedBy d (begun .args .own .now)) (c .date-word .ensures ∙ ap dateIn (c .before .field2 .ensures))
+      ∙ redated (begun .args .own .now) (begun .args .said .now) (begun .args .k) (tested .before .if1 .left) (tested .if2 .taken)
+
+-- any other field
+module _ (c : tie.Else2) where
+  abbrev other : tie.Start
+  other = c .before .before .before .before .before
+
+  as-own : other .args .own .now ≡ contentIn Delays (other .args .own .now) (other .args .said .now) (other .args .k)
+  as-own = kept (other .args .own .now) (other .args .said .now) (other .args .k) (c .before .if1 .left) (c .if2 .left)
 
 field-requires : tie.Need-field-requires
 field-requires c κs = search needs
@@ -52,20 +78,33 @@ returns c =
     let d = c .before .before .before .before in
     put-same (start d .args .out .now) (parts d) (c .before .before .put-two .ensures)
 
-put-requires : tie.Need-put-requires
-put-requires c κs =
-    let s = c .before .before .before .before .before in
-    let a = s .args in
-    room-same (a .out .now) (sym (kept (a .own .now) (a .said .now) (a .k) (c .before .if1 .left))) (s .pre)
+field-requires-2 : tie.Need-field-requires-2
+field-requires-2 c κs = search needs
+
+date-word-requires : tie.Need-date-word-requires
+date-word-requires c κs = search needs
+
+put-date-requires : tie.Need-put-date-requires
+put-date-requires c κs = let s = begun (c .before) in room-same (s .args .out .now) (sym (with-date (c .before))) (s .pre)
 
 same-length-2 : tie.Need-same-length-2
 same-length-2 c = search needs
 
 returns-2 : tie.Need-returns-2
 returns-2 c =
-    let p = c .before .before .before in
-    let a = p .before .before .before .before .before .args in
-    put-same (a .out .now) (kept (a .own .now) (a .said .now) (a .k) (p .before .if1 .left)) (c .before .before .put .ensures)
+    let d = c .before .before .before .before in
+    put-same (begun d .args .out .now) (with-date d) (c .before .before .put-date .ensures)
+
+put-requires : tie.Need-put-requires
+put-requires c κs = let s = other (c .before) in room-same (s .args .out .now) (sym (as-own (c .before))) (s .pre)
+
+same-length-3 : tie.Need-same-length-3
+same-length-3 c = search needs
+
+returns-3 : tie.Need-returns-3
+returns-3 c =
+    let d = c .before .before .before .before in
+    put-same (other d .args .out .now) (as-own d) (c .before .before .put .ensures)
 
 pub put-delayed-spec : {M : Type 1} → statement M
 put-delayed-spec =
@@ -77,6 +116,11 @@ put-delayed-spec =
     put-two-requires
     same-length
     returns
-    put-requires
+    field-requires-2
+    date-word-requires
+    put-date-requires
     same-length-2
-    returns-2)
+    returns-2
+    put-requires
+    same-length-3
+    returns-3)
