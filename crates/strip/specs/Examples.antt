@@ -11,7 +11,7 @@ use Rattle.kinds.specs.Kinds.{roleOf}
 use Rattle.state.specs.declared.Event.the-variants.{Depart, Arrive}
 use Rattle.aerodromes.specs.Aerodromes.{fourLetters}
 use Rattle.aerodromes.specs.Asked.{aerodromeIn}
-use Rattle.other.specs.Field18.{hasKey}
+use Rattle.other.specs.Field18.{hasKey, wordsUnder}
 use Rattle.forms.specs.Field22.{labels}
 use Rattle.plan.specs.Unexplained.{unexplained}
 use Rattle.message.specs.Reading.{unexplainedIn}
@@ -37,14 +37,29 @@ compared : (differs (differences (roleOf Cnl) (split 45 filed) (split 45 (bytes 
     × (differs (differences (roleOf Dla) (split 45 filed) (split 45 (bytes "DLA-ABC13-EHAM0931-EDDF-0"))) ≡ true)
     × (differs (differences (roleOf Arr) (split 45 filed) (split 45 (bytes "ARR-ABC12-EHAM0930-EDDF1042"))) ≡ false)
     × (differs (differences (roleOf Arr) (split 45 filed) (split 45 (bytes "ARR-ABC12-EHAM0930-EDDK1042"))) ≡ true)
+unfolding wordsUnder
 compared = (refl, refl, refl, refl, refl, refl)
+
+abbrev dated : List ℕ
+dated = bytes "FPL-ABC12-IS-B738/M-SDFG/S-EHAM0930-N0440F310 DCT PAM DCT-EDDF0100 EDDK-DOF/240229"
+
+-- the dates in 18 are compared for CHG, CNL and DEP, where both carry one, and not for a DLA; a CHG's own 18 counts and not its entry's
+days-compared : (differs (differences (roleOf Chg) (split 45 dated) (split 45 (bytes "CHG-ABC12-EHAM0930-EDDF-DOF/240301-8/IN"))) ≡ true)
+    × (differs (differences (roleOf Chg) (split 45 dated) (split 45 (bytes "CHG-ABC12-EHAM0930-EDDF-DOF/240229-8/IN"))) ≡ false)
+    × (differs (differences (roleOf Chg) (split 45 dated) (split 45 (bytes "CHG-ABC12-EHAM0930-EDDF-0-18/DOF/240301"))) ≡ false)
+    × (differs (differences (roleOf Chg) (split 45 filed) (split 45 (bytes "CHG-ABC12-EHAM0930-EDDF-DOF/240301-8/IN"))) ≡ false)
+    × (differs (differences (roleOf Cnl) (split 45 dated) (split 45 (bytes "CNL-ABC12-EHAM0930-EDDF-DOF/240301"))) ≡ true)
+    × (differs (differences (roleOf Dep) (split 45 dated) (split 45 (bytes "DEP-ABC12-EHAM0941-EDDF-DOF/240301"))) ≡ true)
+    × (differs (differences (roleOf Dla) (split 45 dated) (split 45 (bytes "DLA-ABC12-EHAM1015-EDDF-DOF/240301"))) ≡ false)
+unfolding wordsUnder
+days-compared = (refl, refl, refl, refl, refl, refl, refl)
 
 -- after a new destination alone a message must name it
 diverted : (differs (differences (roleOf Chg) (amended (roleOf Chg) filed (bytes "CHG-ABC12-EHAM0930-EDDF-0-16/EDDN"))
     (split 45 (bytes "CHG-ABC12-EHAM0930-EDDN-0-8/IN"))) ≡ false)
     × (differs (differences (roleOf Chg) (amended (roleOf Chg) filed (bytes "CHG-ABC12-EHAM0930-EDDF-0-16/EDDN"))
     (split 45 (bytes "CHG-ABC12-EHAM0930-EDDF-0-8/IN"))) ≡ true)
-unfolding namedBy labels fourLetters
+unfolding namedBy labels fourLetters wordsUnder
 diverted = (refl, refl)
 
 -- 10 is asked of the amended plan: a new destination ZZZZ must be explained, by the plan's own field 18 or by an entry's

@@ -5,12 +5,13 @@ use mathlib.Core.Bool.{Bool, true, false, _&&_, _||_, not, cond}
 use mathlib.Core.List.{List, []}
 use lib.Dec.{eqb, ltb}
 use lib.ListN.{length, take, drop, getD}
-use Rattle.text.specs.Words.{Word, split, before, same}
+use Rattle.text.specs.Words.{Word, split, before, null, same}
 use Rattle.text.specs.Lent.{front}
 use Rattle.shape.specs.declared.Clock.{Clock}
 use Rattle.shape.specs.declared.ClockRead.{ClockRead}
 use Rattle.shape.specs.declared.ClockRead.the-variants.{TimeOfDay, NoTimeOfDay}
 use Rattle.aerodromes.specs.Asked.{clockAt, aerodromeIn}
+use Rattle.dates.specs.Dates.{dateIn}
 use Rattle.space.specs.Fields.{inner}
 use Rattle.outer.specs.Outer.{most}
 use Rattle.sent.specs.Sent.{messageOf}
@@ -18,7 +19,7 @@ use Rattle.kinds.specs.declared.MessageType.{MessageType}
 use Rattle.kinds.specs.declared.MessageType.the-variants.{Fpl}
 use Rattle.kinds.specs.declared.Role.{Role}
 use Rattle.kinds.specs.declared.Role.the-variants.{Files, Changes, Delays, Cancels, Departs, Arrives, Neither}
-use Rattle.kinds.specs.Kinds.{roleOf, plan7, plan13, plan16, brief7, brief13, brief16}
+use Rattle.kinds.specs.Kinds.{roleOf, plan7, plan13, plan16, plan18, brief7, brief13, brief16, brief18}
 use Rattle.message.specs.declared.Answer.{Answer}
 use Rattle.message.specs.declared.Answer.the-variants.{Accepted as ReadAs, Refused as NotRead}
 use Rattle.message.specs.Reading.{unexplainedIn, answerOf}
@@ -55,7 +56,8 @@ eventOf Arrives cs = Says (Arrive (aerodromeIn (arrival cs)) (timeOf (clockAt (a
 eventOf Files cs = Unfit
 eventOf Neither cs = Unfit
 
--- MUST EQUAL THE STRIP'S: identification, 13 aerodrome, destination; for CHG, CNL and ARR the time in 13 too
+-- MUST EQUAL THE STRIP'S: identification, 13 aerodrome, destination; for CHG, CNL and ARR the time in 13 too; for CHG, CNL and DEP the date in 18, where
+-- both carry one
 
 abbrev pub comparesTime : Role → Bool
 comparesTime Changes = true
@@ -66,6 +68,19 @@ comparesTime Departs = false
 comparesTime Files = false
 comparesTime Neither = false
 
+abbrev pub comparesDate : Role → Bool
+comparesDate Changes = true
+comparesDate Cancels = true
+comparesDate Departs = true
+comparesDate Delays = false
+comparesDate Arrives = false
+comparesDate Files = false
+comparesDate Neither = false
+
+-- two dates, each nothing where there is none
+abbrev pub otherDay : Word → Word → Bool
+otherDay a b = not (null a) && (not (null b) && not (same a b))
+
 -- between a plan's contents and a message's; in an ARR without field 16, 17 stands in its place
 abbrev pub differences : Role → List Word → List Word → Differences
 differences role ps cs =
@@ -74,10 +89,11 @@ differences role ps cs =
       aerodrome = not (same (take 4 (getD ps plan13 [])) (take 4 (getD cs brief13 [])));
       time = comparesTime role && not (same (drop 4 (getD ps plan13 [])) (drop 4 (getD cs brief13 [])));
       destination = not (same (take 4 (getD ps plan16 [])) (take 4 (getD cs brief16 [])));
+      date = comparesDate role && otherDay (dateIn (getD ps plan18 [])) (dateIn (getD cs brief18 []));
     }
 
 abbrev pub differs : Differences → Bool
-differs d = d .identification || (d .aerodrome || (d .time || d .destination))
+differs d = d .identification || (d .aerodrome || (d .time || (d .destination || d .date)))
 
 -- EFFECT, on the plan: the amended plan (amending: specs/Amended.antt)
 

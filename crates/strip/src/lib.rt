@@ -4,7 +4,8 @@ ghost use mathlib.Core.Bool.{_&&_, not};
 ghost use lib.ListN.{length, drop};
 ghost use Rattle.text.specs.Words.{split, same};
 ghost use Rattle.aerodromes.specs.Asked.{clockAt};
-ghost use Rattle.strip.specs.Updating.{timeOf, arrival, eventOf, comparesTime, differences, differs, updateOf, outAfter};
+ghost use Rattle.dates.specs.Dates.{dateIn};
+ghost use Rattle.strip.specs.Updating.{timeOf, arrival, eventOf, comparesTime, comparesDate, otherDay, differences, differs, updateOf, outAfter};
 ghost use Rattle.strip.specs.Steps.{Texts, Amends, Offers};
 use kinds::Role;
 use opening::Opening;
@@ -25,6 +26,7 @@ pub struct Differences {
     pub aerodrome: bool,
     pub time: bool,
     pub destination: bool,
+    pub date: bool,
 }
 
 pub enum Updated {
@@ -104,6 +106,38 @@ fn time_differs(role: Role, a: &[u8], b: &[u8]) -> bool
     !text::same_bytes(amending::behind_aerodrome(a), amending::behind_aerodrome(b))
 }
 
+fn compares_date(role: Role) -> bool
+    ensures { λ r. ⌜ r ≡ comparesDate role ⌝ }
+{
+    match role {
+        Role::Changes => true,
+        Role::Cancels => true,
+        Role::Departs => true,
+        Role::Delays => false,
+        Role::Arrives => false,
+        Role::Files => false,
+        Role::Neither => false,
+    }
+}
+
+// Whether the dates in two contents of field 18 are compared, and differ: both carry one, and they are not the same.
+fn date_differs(role: Role, a: &[u8], b: &[u8]) -> bool
+    ensures { λ r. ⌜ r ≡ (comparesDate role && otherDay (dateIn (now (a .entry))) (dateIn (now (b .entry)))) ⌝ }
+{
+    if !compares_date(role) {
+        return false;
+    }
+    let ours = dates::date_word(a);
+    if ours.len() == 0 {
+        return false;
+    }
+    let theirs = dates::date_word(b);
+    if theirs.len() == 0 {
+        return false;
+    }
+    !text::same_bytes(ours, theirs)
+}
+
 // What differs between a plan and a message, from their texts.
 pub fn differences_in(role: Role, plan: &[u8], said: &[u8]) -> Differences
     ensures { λ r. ⌜ r ≡ differences role (split 45 (now (plan .entry))) (split 45 (now (said .entry))) ⌝ }
@@ -124,6 +158,11 @@ pub fn differences_in(role: Role, plan: &[u8], said: &[u8]) -> Differences
             aerodromes::aerodrome_of(amending::field(plan, kinds::PLAN_16)),
             aerodromes::aerodrome_of(amending::field(said, kinds::BRIEF_16)),
         ),
+        date: date_differs(
+            role,
+            amending::field(plan, kinds::PLAN_18),
+            amending::field(said, kinds::BRIEF_18),
+        ),
     }
 }
 
@@ -140,7 +179,10 @@ impl Differences {
         if self.time {
             return true;
         }
-        self.destination
+        if self.destination {
+            return true;
+        }
+        self.date
     }
 }
 

@@ -1,8 +1,12 @@
 -- `strip::differences_in` meets its contract. Assumes nothing.
-use mathlib.Core.Path.{_≡_}
+use mathlib.Core.Path.{_≡_, ap₂, _∙_}
+use mathlib.Core.Bool.{_&&_}
 use mathlib.Core.List.{List, []}
 use lib.ListN.{take, getD}
 use Rattle.text.specs.Words.{Word, split, before, same}
+use Rattle.kinds.specs.declared.Role.{Role}
+use Rattle.dates.specs.Dates.{dateIn}
+use Rattle.strip.specs.Updating.{comparesDate, otherDay}
 use borrow.Author.Needs.{needs}
 use Rattle.strip.proofs.differences_in.Statement.{statement}
 use Rattle.strip.proofs.differences_in.Tie as tie
@@ -59,6 +63,21 @@ module _ (c : tie.After-same-bytes3) where
         c .before .before .before .before .field5 .ensures,
       )
 
+module _ (c : tie.After-date-differs) where
+  abbrev at-last : tie.After-same-bytes3
+  at-last = c .before .before .before
+
+  abbrev at-date : tie.After-field2
+  at-date = at-destination at-last
+
+  abbrev held : Role
+  held = at-date .before .before .before .before .args .role
+
+  date : c .date-differs .result ≡ (comparesDate held && otherDay (dateIn (getD (ours at-date) 8 [])) (dateIn (getD (theirs at-date) 4 [])))
+  date =
+      c .date-differs .ensures
+      ∙ ap₂ (λ (v w : Word). comparesDate held && otherDay (dateIn v) (dateIn w)) (c .before .before .field7 .ensures) (c .before .field8 .ensures)
+
 field-requires : tie.Need-field-requires
 field-requires c κs = search needs
 
@@ -107,17 +126,28 @@ aerodrome-of-requires-4 c κs = search needs
 same-bytes-requires-3 : tie.Need-same-bytes-requires-3
 same-bytes-requires-3 c κs = search needs
 
+field-requires-7 : tie.Need-field-requires-7
+field-requires-7 c κs = search needs
+
+field-requires-8 : tie.Need-field-requires-8
+field-requires-8 c κs = search needs
+
+date-differs-requires : tie.Need-date-differs-requires
+date-differs-requires c κs = search needs
+
 returns : tie.Need-returns
 returns c =
-    let fields = at-destination c in
-    let timed = c .before .before .before .before .before in
+    let d = at-last c in
+    let fields = at-destination d in
+    let timed = d .before .before .before .before .before in
     cc (
-      identification (c .before .before .before .before .before .before .before .before .before),
-      aerodrome (c .before .before .before .before .before .before),
+      identification (timed .before .before .before .before),
+      aerodrome (timed .before),
       timed .time-differs .ensures,
       fields .field2 .ensures,
       fields .before .field .ensures,
-      destination c,
+      destination d,
+      date c,
     )
 
 pub differences-in-spec : {M : Type 1} → statement M
@@ -140,4 +170,7 @@ differences-in-spec =
     field-requires-6
     aerodrome-of-requires-4
     same-bytes-requires-3
+    field-requires-7
+    field-requires-8
+    date-differs-requires
     returns)
