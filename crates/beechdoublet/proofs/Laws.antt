@@ -45,8 +45,8 @@ use Rattle.asked.specs.declared.Asked.the-variants.{InStrip, InChange, Refused 
 use Rattle.asked.specs.Asking.{rankOf, standsIn, standsAs, fieldAs, isBare, bareAs, flightAs, isChange, typeAs, openedAs, askedOf}
 use Rattle.parts.specs.declared.Part.{Part}
 use Rattle.parts.specs.declared.Part.the-variants.{At, Refused as NoField}
-use Rattle.parts.specs.declared.FlightDate.{FlightDate}
-use Rattle.parts.specs.declared.FlightDate.the-variants.{Known as OnDay, Unknown as NoDay}
+use Rattle.dates.specs.declared.FlightDate.{FlightDate}
+use Rattle.dates.specs.declared.FlightDate.the-variants.{Known as OnDay, Unknown as NoDay}
 use Rattle.parts.specs.declared.PlanParts.{PlanParts}
 use Rattle.parts.specs.declared.Planned.{Planned}
 use Rattle.parts.specs.declared.Planned.the-variants.{Parts, Refused as NoPlan}

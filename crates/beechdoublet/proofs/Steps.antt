@@ -11,8 +11,8 @@ use borrow.Author.Tests.{eq-eqb, ne-eqb, eqb-true, eqb-false}
 use Rattle.state.specs.declared.Departure.{Departure}
 use Rattle.state.specs.declared.State.{State}
 use Rattle.state.specs.declared.State.the-variants.{Filed, Departed, Arrived, Cancelled}
-use Rattle.parts.specs.declared.FlightDate.{FlightDate}
-use Rattle.parts.specs.declared.FlightDate.the-variants.{Known, Unknown}
+use Rattle.dates.specs.declared.FlightDate.{FlightDate}
+use Rattle.dates.specs.declared.FlightDate.the-variants.{Known, Unknown}
 use Rattle.beechdoublet.specs.declared.Handed.the-variants.{Held, NoState}
 use Rattle.beechdoublet.specs.Numbers.{dateNumbers}
 use Rattle.beechdoublet.specs.Handed.{departureOf, minuteOf, byteOf, stateOf, stateNumbers, agree, handedAs}

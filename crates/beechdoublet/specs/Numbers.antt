@@ -15,8 +15,8 @@ use Rattle.asked.specs.declared.Asked.the-variants.{InStrip, InChange, Refused 
 use Rattle.state.specs.declared.State.the-variants.{Filed}
 use Rattle.parts.specs.declared.Part.{Part}
 use Rattle.parts.specs.declared.Part.the-variants.{At, Refused as NoField}
-use Rattle.parts.specs.declared.FlightDate.{FlightDate}
-use Rattle.parts.specs.declared.FlightDate.the-variants.{Known, Unknown}
+use Rattle.dates.specs.declared.FlightDate.{FlightDate}
+use Rattle.dates.specs.declared.FlightDate.the-variants.{Known, Unknown}
 use Rattle.parts.specs.declared.PlanParts.{PlanParts}
 use Rattle.parts.specs.declared.Planned.{Planned}
 use Rattle.parts.specs.declared.Planned.the-variants.{Parts, Refused as NoPlan}

@@ -13,9 +13,9 @@ ghost use Rattle.beechdoublet.specs.Handed.{arrivedNumbers, stateNumbers
 ghost use Rattle.beechdoublet.specs.Handed.{byteOf, handedAs, soundAs, updateAs, outAs, stateAs, askedAs, contentAsked};
 use aerodromes::Aerodrome;
 use asked::Asked;
+use dates::FlightDate;
 use kinds::MessageType;
 use message::Answer;
-use parts::FlightDate;
 use parts::Part;
 use parts::PlanParts;
 use parts::Planned;

@@ -40,12 +40,11 @@ from x s at = take at s ++ join 32 (placed x (split 32 (drop at s)))
 -- every date goes somewhere behind `at`
 pub record Ahead (s : List ℕ) (at : ℕ) : Type 0 where
   pub inside : at ≤ length s
-  pub some : same s (bytes "0") ≡ false
   pub every : (d : Word) → withDate d s ≡ from (dated d) s at
 
 pub ahead-first : (s : List ℕ) → same s (bytes "0") ≡ false → Ahead s 0
 unfolding withDate
-ahead-first s e = record { inside = omega arith; some = e; every = λ d. rw e }
+ahead-first s e = record { inside = omega arith; every = λ d. rw e }
 
 -- `0` gives way
 pub place-nothing : (s : List ℕ) → same s (bytes "0") ≡ true → DatePlace s (Instead 0 (length s))
@@ -117,7 +116,6 @@ module _ (s : List ℕ) (at e : ℕ) (h : Ahead s at) (end : e ≡ at + upTo 32 
       ahead-next l =
           record {
             inside = omega arith;
-            some = h .some;
             every = λ d. h .every d ∙ over (dated d) ∙ next (dated d);
           }
         where

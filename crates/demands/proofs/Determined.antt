@@ -16,6 +16,7 @@ use Rattle.space.specs.Reduced.{reduced}
 use Rattle.space.specs.Fields.{inner}
 use Rattle.space.specs.Hyphens.{behindHyphen}
 use Rattle.canonical.specs.Canonical.{written19}
+use Rattle.dates.specs.Dates.{withDate, Puts}
 use Rattle.kinds.specs.declared.Form.{Form}
 use Rattle.kinds.specs.Kinds.{firstEntry}
 use Rattle.forms.specs.Forms.{rankIn, writtenOf}
@@ -95,6 +96,9 @@ write-field19-one s out = front-one (written19 s) out
 
 pub write-form-one : (f : Form) (s out : List ℕ) → Determines (ℕ × List ℕ) (λ r. (r .0 ≡ length (writtenOf f s)) × (r .1 ≡ front (writtenOf f s) out))
 write-form-one f s out = front-one (writtenOf f s) out
+
+pub put-dated-one : (d s out : List ℕ) → Determines (ℕ × List ℕ) (λ r. Puts (withDate d s) (r .0) out (r .1))
+put-dated-one d s out = front-one (withDate d s) out
 
 -- A STEP of a cursor, which the contract gives by what is left behind it: the place is determined, for it is in the text or at its end
 

@@ -1,6 +1,5 @@
 pub mod Own
 pub mod Fields
-pub mod Dates
 pub mod Steps
 pub mod Shown
 pub mod Answers

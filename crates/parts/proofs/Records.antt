@@ -10,7 +10,8 @@ use Rattle.head.specs.Field7.{Field7, record7}
 use Rattle.head.specs.Field9.{Field9, record9}
 use Rattle.aerodromes.specs.Field13.{Field13, record13}
 use Rattle.aerodromes.specs.Field16.{Field16Plan, record16plan}
-use Rattle.other.specs.Field18.{spell18, wordsUnder}
+use Rattle.other.specs.Field18.{spell18}
+use Rattle.dates.specs.Dates.{dateIn, flightDate}
 use Rattle.outer.specs.Outer.{most}
 use Rattle.sent.specs.Sent.{contents, messageOf}
 use Rattle.kinds.specs.declared.MessageType.the-variants.{Fpl}
@@ -24,7 +25,7 @@ use Rattle.message.proofs.Accepted.{record-spelling, record-accepted}
 use Rattle.message.proofs.Canonical.{spelling-reduced, spelling-contents}
 use Rattle.parts.specs.declared.Taken.the-variants.{As}
 use Rattle.parts.specs.declared.Planned.the-variants.{Parts}
-use Rattle.parts.specs.Parts.{takenOf, contentIn, dof, flightDate, planOf, plannedOf}
+use Rattle.parts.specs.Parts.{takenOf, contentIn, planOf, plannedOf}
 use Rattle.parts.specs.Shown.{planFields, planMessage, sevenOf, nineOf, thirteenOf, sixteenOf, eighteenOf, PlanShown, PlanTold}
 use Rattle.parts.proofs.Own.{taken-own}
 use Rattle.parts.proofs.Answers.{was-taken, plan-whole}
@@ -80,9 +81,9 @@ module _ (rs : Records planFields) (v : validMessage (planMessage rs) ≡ true) 
   sixteen-is : record16plan (contentIn m plan16) ≡ sixteenOf rs
   sixteen-is = ap (λ (cs : List Word). record16plan (getD cs plan16 [])) contents-are ∙ ap sixteenOf back
 
-  day-is : planOf m .date ≡ flightDate (wordsUnder (spell18 (eighteenOf rs)) dof)
+  day-is : planOf m .date ≡ flightDate (dateIn (spell18 (eighteenOf rs)))
   unfolding planOf
-  day-is = ap (λ (cs : List Word). flightDate (wordsUnder (getD cs plan18 []) dof)) contents-are
+  day-is = ap (λ (cs : List Word). flightDate (dateIn (getD cs plan18 []))) contents-are
 
   pub plan-told : PlanTold rs
   plan-told =

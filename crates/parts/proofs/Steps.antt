@@ -19,7 +19,8 @@ use Rattle.head.specs.Field7.{record7}
 use Rattle.head.specs.Field9.{number, aircraft, countOf as countOf9, fits9, record9}
 use Rattle.aerodromes.specs.Field13.{fits13, record13}
 use Rattle.aerodromes.specs.Field16.{fits16plan, record16plan}
-use Rattle.other.specs.Field18.{fits18, wordsUnder}
+use Rattle.dates.specs.declared.FlightDate.{FlightDate}
+use Rattle.dates.specs.Dates.{dateIn, flightDate}
 use Rattle.kinds.specs.declared.MessageType.{MessageType}
 use Rattle.kinds.specs.declared.MessageType.the-variants.{Fpl}
 use Rattle.kinds.specs.declared.Form.{Form}
@@ -35,9 +36,8 @@ use Rattle.parts.specs.declared.Part.the-variants.{At, Refused as NoFiel
 use Rattle.parts.specs.declared.Aircraft.{Aircraft}
 use Rattle.parts.specs.declared.OffBlock.{OffBlock}
 use Rattle.parts.specs.declared.Destination.{Destination}
-use Rattle.parts.specs.declared.FlightDate.{FlightDate}
 use Rattle.parts.specs.Parts.{Own, contentIn, spanAt, numbersIn, rankIn, fieldIn}
-use Rattle.parts.specs.Parts.{spanOf, aircraftAs, offBlockAs, destinationAs, dof, flightDate, planOf}
+use Rattle.parts.specs.Parts.{spanOf, aircraftAs, offBlockAs, destinationAs, planOf}
 use Rattle.parts.proofs.Own.{field-holds}
 use Rattle.parts.proofs.Fields.{alternates-long, alternates-few}
 
@@ -130,10 +130,6 @@ module _ (m : List ℕ) (o : Own Fpl m) where
   unfolding formsOf planForms
   sixteen-fits = form-fits (formsOf Fpl (countOf m)) (contents m) (o .fit) plan16 (omega arith)
 
-  pub eighteen-fits : fits18 (contentIn m plan18) ≡ true
-  unfolding formsOf planForms
-  eighteen-fits = form-fits (formsOf Fpl (countOf m)) (contents m) (o .fit) plan18 (omega arith)
-
 -- FIELD 9: d digits, and a type behind them
 
 pub aircraft-is : (from : ℕ) (s : List ℕ) (d : ℕ) → d ≡ lead true s → d ≤ length s → (n : ℕ) → n ≡ countOf9 (take d s)
@@ -182,9 +178,9 @@ module _ (m : List ℕ) (s : Span) (w : Word) where
   unfolding planOf
   destination-at e f = ap₂ (λ (x : Span) (v : Word). destinationAs (x .from) (record16plan v)) e f
 
-pub date-at : (m : List ℕ) (w : Word) → w ≡ contentIn m plan18 → flightDate (wordsUnder w dof) ≡ planOf m .date
+pub date-at : (m : List ℕ) (w : Word) → w ≡ contentIn m plan18 → flightDate (dateIn w) ≡ planOf m .date
 unfolding planOf
-date-at m w f = ap (λ (v : Word). flightDate (wordsUnder v dof)) f
+date-at m w f = ap (λ (v : Word). flightDate (dateIn v)) f
 
 pub plan-is : (m : List ℕ) (i : Span) (a : Aircraft) (b : OffBlock) (d : Destination) (t : FlightDate)
     → i ≡ planOf m .identification → a ≡ planOf m .aircraft → b ≡ planOf m .departure → d ≡ planOf m .destination → t ≡ planOf m .date

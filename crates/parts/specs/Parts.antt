@@ -8,7 +8,7 @@ use lib.Dec.{ltb}
 use lib.ListN.{length, take, drop, getD}
 use Rattle.alphabet.specs.Text.{bytes}
 use Rattle.alphabet.specs.Alphabet.{white}
-use Rattle.text.specs.Words.{Word, same, upTo, holds, null}
+use Rattle.text.specs.Words.{Word, same, upTo, holds}
 use Rattle.space.specs.Reduced.{opens, closes, standsForRun, reducedFrom, reduced}
 use Rattle.space.specs.Fields.{inner}
 use Rattle.space.specs.Hyphens.{hyphens, behindHyphen}
@@ -18,8 +18,11 @@ use Rattle.head.specs.Field7.{record7}
 use Rattle.head.specs.Field9.{number, record9}
 use Rattle.aerodromes.specs.Field13.{Field13, record13}
 use Rattle.aerodromes.specs.Field16.{Field16Plan, record16plan}
-use Rattle.other.specs.Rules.{year, month, dayOf}
+use Rattle.shape.specs.Shape.{letters}
+use Rattle.other.specs.Rules.{daysIn, date}
 use Rattle.other.specs.Field18.{wordsUnder}
+use Rattle.dates.specs.declared.FlightDate.the-variants.{Known, Unknown}
+use Rattle.dates.specs.Dates.{dateIn, flightDate}
 use Rattle.kinds.specs.declared.MessageType.{MessageType}
 use Rattle.kinds.specs.declared.MessageType.the-variants.{Fpl, Chg, Cnl}
 use Rattle.kinds.specs.Kinds.{leastOf, greatestOf, formsOf, numberOf, planForms, briefForms, plan7, plan9, plan13, plan16, plan18}
@@ -35,8 +38,6 @@ use Rattle.parts.specs.declared.Part.the-variants.{At, Refused as NoFiel
 use Rattle.parts.specs.declared.Aircraft.{Aircraft}
 use Rattle.parts.specs.declared.OffBlock.{OffBlock}
 use Rattle.parts.specs.declared.Destination.{Destination}
-use Rattle.parts.specs.declared.FlightDate.{FlightDate}
-use Rattle.parts.specs.declared.FlightDate.the-variants.{Known, Unknown}
 use Rattle.parts.specs.declared.PlanParts.{PlanParts}
 use Rattle.parts.specs.declared.Planned.{Planned}
 use Rattle.parts.specs.declared.Planned.the-variants.{Parts, Refused as NoPlan}
@@ -129,13 +130,6 @@ destinationAs from r =
       second = placeIf (ltb 1 (length (r .alternates))) (from + 14);
     }
 
--- 18: the word under DOF, if there is such an item
-abbrev pub dof : Word
-dof = bytes "DOF"
-
-abbrev pub flightDate : Word → FlightDate
-flightDate w = cond (null w) Unknown (Known (2000 + year w) (month w) (dayOf w))
-
 unfoldable pub planOf : List ℕ → PlanParts
 planOf m =
     record {
@@ -143,7 +137,7 @@ planOf m =
       aircraft = aircraftAs (fieldFrom m plan9) (contentIn m plan9);
       departure = offBlockAs (fieldFrom m plan13) (record13 (contentIn m plan13));
       destination = destinationAs (fieldFrom m plan16) (record16plan (contentIn m plan16));
-      date = flightDate (wordsUnder (contentIn m plan18) dof);
+      date = flightDate (dateIn (contentIn m plan18));
     }
 
 -- 14: it is no FPL; 17: it is not its own spelling
@@ -189,7 +183,7 @@ parts : planOf plan
       destination = record { aerodrome = 59; elapsed = record { 0 = 60 }; alternates = 1; first = 68; second = 0 };
       date = Unknown;
     }
-unfolding planOf wordsUnder behindHyphen reduced reducedFrom standsForRun opens closes white
+unfolding planOf wordsUnder date daysIn letters behindHyphen reduced reducedFrom standsForRun opens closes white
 parts = refl
 
 more-parts : planOf (bytes "(FPL-ABC12/A7777-IS-12FK27/M-S/S-EHAM2359-N0440F310 DCT-EDDF0100 EDDK EDDL-STS/HOSP DOF/240229 RMK/A)")
@@ -200,5 +194,5 @@ more-parts : planOf (bytes "(FPL-ABC12/A7777-IS-12FK27/M-S/S-EHAM2359-N0440F310 
       destination = record { aerodrome = 56; elapsed = record { 0 = 60 }; alternates = 2; first = 65; second = 70 };
       date = Known 2024 2 29;
     }
-unfolding planOf wordsUnder behindHyphen reduced reducedFrom standsForRun opens closes white
+unfolding planOf wordsUnder date daysIn letters behindHyphen reduced reducedFrom standsForRun opens closes white
 more-parts = refl

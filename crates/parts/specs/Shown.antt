@@ -2,7 +2,7 @@
 -- the plan's fields. Assumes nothing.
 use Prim.Native.Nat.{ℕ, _+_, _-_, _≤_, _<_}
 use mathlib.Core.Path.{_≡_}
-use mathlib.Core.Bool.{Bool, true, false}
+use mathlib.Core.Bool.{true}
 use mathlib.Core.List.{List, [], _∷_}
 use lib.ListN.{length, take, drop, getD}
 use Rattle.text.specs.Words.{Word}
@@ -15,7 +15,8 @@ use Rattle.equipment.specs.Field10.{field10, present}
 use Rattle.aerodromes.specs.Field13.{Field13, record13, field13}
 use Rattle.aerodromes.specs.Field16.{Field16Plan, record16plan, field16plan}
 use Rattle.route.specs.Field15.{field15}
-use Rattle.other.specs.Field18.{Field18, spell18, field18, wordsUnder}
+use Rattle.other.specs.Field18.{Field18, spell18, field18}
+use Rattle.dates.specs.Dates.{dateIn, flightDate}
 use Rattle.kinds.specs.declared.MessageType.{MessageType}
 use Rattle.kinds.specs.declared.MessageType.the-variants.{Fpl}
 use Rattle.kinds.specs.Kinds.{formsOf, formAt, numberOf, planForms, plan7, plan9, plan13, plan16}
@@ -26,13 +27,11 @@ use Rattle.message.specs.Message.{Message, spelling}
 use Rattle.parts.specs.declared.Span.{Span}
 use Rattle.parts.specs.declared.Part.{Part}
 use Rattle.parts.specs.declared.Part.the-variants.{At, Refused as NoField}
-use Rattle.parts.specs.declared.FlightDate.{FlightDate}
-use Rattle.parts.specs.declared.FlightDate.the-variants.{Known, Unknown}
 use Rattle.parts.specs.declared.PlanParts.{PlanParts}
 use Rattle.parts.specs.declared.Planned.{Planned}
 use Rattle.parts.specs.declared.Planned.the-variants.{Parts, Refused as NoPlan}
 use Rattle.parts.specs.declared.Taken.the-variants.{As}
-use Rattle.parts.specs.Parts.{takenOf, contentIn, dof, flightDate, plannedOf}
+use Rattle.parts.specs.Parts.{takenOf, contentIn, plannedOf}
 
 -- this word stands at these places of a message
 pub record Holds (m : List ℕ) (s : Span) (w : Word) : Type 0 where
@@ -98,7 +97,7 @@ pub record PlanTold (rs : Records planFields) : Type 0 where
   pub told : PlanParts
   pub given : plannedOf (spelling (planMessage rs)) ≡ Parts told
   pub shown : PlanShown (spelling (planMessage rs)) (sevenOf rs) (nineOf rs) (thirteenOf rs) (sixteenOf rs) told
-  pub date : told .date ≡ flightDate (wordsUnder (spell18 (eighteenOf rs)) dof)
+  pub date : told .date ≡ flightDate (dateIn (spell18 (eighteenOf rs)))
 
 -- THE FIELD OF A NUMBER: the message's first of that number, whose content is one of that field's form
 
@@ -111,9 +110,3 @@ pub record FieldTold (m : List ℕ) (n : ℕ) (s : Span) : Type 0 where
   pub first : (i : ℕ) → i < place → numberOf (formAt type (countOf m) i) ≡ n → ⊥
   pub fits : formOf (formAt type (countOf m) place) .fits (contentIn m place) ≡ true
   pub there : Holds m s (contentIn m place)
-
--- WHETHER A DATE IS KNOWN
-
-abbrev pub isKnown : FlightDate → Bool
-isKnown (Known y mo d) = true
-isKnown Unknown = false

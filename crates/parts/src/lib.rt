@@ -11,12 +11,12 @@ ghost use Rattle.head.specs.Field7.{record7};
 ghost use Rattle.head.specs.Field9.{fits9, countOf};
 ghost use Rattle.aerodromes.specs.Field13.{fits13, record13};
 ghost use Rattle.aerodromes.specs.Field16.{fits16plan, record16plan};
-ghost use Rattle.other.specs.Field18.{fits18, wordsUnder};
 ghost use Rattle.kinds.specs.declared.MessageType as MessageType;
 ghost use Rattle.kinds.specs.Kinds.{leastOf, greatestOf, formsOf, numberOf};
 ghost use Rattle.parts.specs.Parts.{takenOf, Own, spanOf, spanAt, fieldIn, fieldOf, contentAsked};
-ghost use Rattle.parts.specs.Parts.{dof, aircraftAs, offBlockAs, destinationAs, flightDate, planOf, plannedAs, plannedOf};
+ghost use Rattle.parts.specs.Parts.{aircraftAs, offBlockAs, destinationAs, planOf, plannedAs, plannedOf};
 ghost use Rattle.parts.specs.Shown.{Shows, ShowsPlan};
+use dates::FlightDate;
 use kinds::MessageType;
 use message::Answer;
 use shape::Clock;
@@ -57,17 +57,7 @@ pub struct Destination {
     pub second: usize,
 }
 
-// DOF of field 18.
-pub enum FlightDate {
-    Known {
-        year: usize,
-        month: usize,
-        day: usize,
-    },
-    Unknown,
-}
-
-// The parts of a plan.
+// The parts of a plan; the date is DOF's in field 18.
 pub struct PlanParts {
     pub identification: Span,
     pub aircraft: Aircraft,
@@ -291,21 +281,6 @@ fn destination_in(from: usize, sixteen: &[u8]) -> Destination
     }
 }
 
-fn date_in(eighteen: &[u8]) -> FlightDate
-    requires { ⌜ fits18 (now eighteen) ≡ true ⌝ }
-    ensures { λ r. ⌜ r ≡ flightDate (wordsUnder (now (eighteen .entry)) dof) ⌝ }
-{
-    let w = other::words_of(eighteen, b"DOF");
-    if w.len() < 6 {
-        return FlightDate::Unknown;
-    }
-    FlightDate::Known {
-        year: 2000 + shape::two(w, 0),
-        month: shape::two(w, 2),
-        day: shape::two(w, 4),
-    }
-}
-
 fn plan_in(m: &[u8]) -> PlanParts
     requires { ⌜ Own MessageType.Fpl (now m) ⌝ }
     ensures { λ r. ⌜ r ≡ planOf (now (m .entry)) ⌝ }
@@ -320,7 +295,7 @@ fn plan_in(m: &[u8]) -> PlanParts
         aircraft: aircraft_in(nine.from, content(m, nine)),
         departure: off_block_in(thirteen.from, content(m, thirteen)),
         destination: destination_in(sixteen.from, content(m, sixteen)),
-        date: date_in(content(m, eighteen)),
+        date: dates::date_in(content(m, eighteen)),
     }
 }
 

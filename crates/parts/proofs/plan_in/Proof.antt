@@ -5,11 +5,10 @@ use mathlib.Core.List.{List}
 use Rattle.head.specs.Field9.{fits9}
 use Rattle.aerodromes.specs.Field13.{fits13}
 use Rattle.aerodromes.specs.Field16.{fits16plan}
-use Rattle.other.specs.Field18.{fits18}
 use Rattle.kinds.specs.declared.MessageType.the-variants.{Fpl}
 use Rattle.kinds.specs.Kinds.{plan7, plan9, plan13, plan16, plan18}
 use Rattle.parts.specs.Parts.{Own, contentIn, spanAt}
-use Rattle.parts.proofs.Steps.{span-bounds, from-short, content-there, content-short, nine-fits, thirteen-fits, sixteen-fits, eighteen-fits}
+use Rattle.parts.proofs.Steps.{span-bounds, from-short, content-there, content-short, nine-fits, thirteen-fits, sixteen-fits}
 use Rattle.parts.proofs.Steps.{identification-is, aircraft-at, off-block-at, destination-at, date-at, plan-is}
 use borrow.Author.Needs.{needs}
 use Rattle.parts.proofs.plan_in.Statement.{statement}
@@ -130,7 +129,7 @@ content-requires-5 : tie.Need-content-requires-5
 content-requires-5 c κs = let d = found-sixteen (c .before) in span-bounds Fpl (message d) (own d) plan18 _ (eighteen d)
 
 date-in-requires : tie.Need-date-in-requires
-date-in-requires c κs = let d = found-eighteen c in ap fits18 (content-eighteen c) ∙ eighteen-fits (message d) (own d)
+date-in-requires c κs = search needs
 
 returns : tie.Need-returns
 returns c =
