@@ -17,6 +17,7 @@ use Rattle.kinds.specs.declared.Role.{Role}
 use Rattle.kinds.specs.declared.Role.the-variants.{Files, Changes, Delays, Cancels, Departs, Arrives, Neither}
 use Rattle.kinds.specs.Kinds.{roleOf, plan7, plan8, plan9, plan10, plan13, plan15, plan16, plan18}
 use Rattle.aerodromes.specs.Aerodromes.{fourLetters}
+use Rattle.other.specs.Field18.{wordsUnder}
 use Rattle.forms.specs.Field22.{labels}
 use Rattle.message.specs.Reading.{spellingOf}
 use Rattle.state.specs.declared.Strip.{Strip}
@@ -119,7 +120,7 @@ said = bytes "CHG-ABC12-EHAM0930-EDDF-0-9/B39M/M-8/IN"
 -- field 9 stands in the CHG, 10 in the strip, 3 and 22 cannot be asked for
 asked : (flightAs plan said 9 ≡ InChange 29 35) × (flightAs plan said 10 ≡ InStrip 21 27)
     × (flightAs plan said 3 ≡ Refused 8 3 0) × (flightAs plan said 22 ≡ Refused 8 22 0)
-unfolding namedAt namedBy labels behindHyphen
+unfolding namedAt namedBy labels behindHyphen wordsUnder
 asked = (refl, refl, refl, refl)
 
 parts : (take 6 (drop 29 (bytes "(CHG-ABC12-EHAM0930-EDDF-0-9/B39M/M-8/IN)")) ≡ bytes "B39M/M")
@@ -133,14 +134,25 @@ diverted = bytes "CHG-ABC12-EHAM0930-EDDF-0-16/EDDN-8/IN"
 destinations : (flightAs plan diverted 16 ≡ Refused 17 0 0) × (flightAs plan diverted 8 ≡ InChange 37 39) × (flightAs plan diverted 9 ≡ InStrip 14 20)
     × (flightAs plan diverted 17 ≡ Refused 8 17 0)
     × (flightAs plan (bytes "CHG-ABC12-EHAM0930-EDDF-0-16/EDDN0100") 16 ≡ InChange 30 38) × (flightAs plan said 16 ≡ InStrip 59 72)
-unfolding namedAt namedBy labels behindHyphen fourLetters
+unfolding namedAt namedBy labels behindHyphen fourLetters wordsUnder
 destinations = (refl, refl, refl, refl, refl, refl)
 
 -- another flight; the number asked is looked at last
 other : (flightAs plan (bytes "CHG-ABC13-EHAM0930-EDDF-0-9/B39M/M") 9 ≡ Refused 12 0 0)
     × (flightAs plan (bytes "CHG-ABC13-EHAM0930-EDDF-0-9/B39M/M") 3 ≡ Refused 12 0 0)
     × (flightAs plan (bytes "CHG-ABC13-EHAM0930-EDDF-0-16/EDDN") 16 ≡ Refused 12 0 0)
+unfolding wordsUnder
 other = (refl, refl, refl)
+
+-- and so is a flight of another day
+abbrev dated : List ℕ
+dated = bytes "FPL-ABC12-IS-B738/M-SDFG/S-EHAM0930-N0440F310 DCT PAM DCT-EDDF0100 EDDK-DOF/240229"
+
+other-day : (flightAs dated (bytes "CHG-ABC12-EHAM0930-EDDF-DOF/240301-9/B39M/M") 9 ≡ Refused 12 0 0)
+    × (flightAs dated (bytes "CHG-ABC12-EHAM0930-EDDF-DOF/240229-9/B39M/M") 9 ≡ InChange 38 44)
+    × (flightAs dated (bytes "CHG-ABC12-EHAM0930-EDDF-0-18/DOF/240301") 18 ≡ InChange 30 40)
+unfolding namedAt namedBy labels behindHyphen wordsUnder
+other-day = (refl, refl, refl)
 
 -- not a CHG; not its own spelling
 unfit : (typeAs Cnl (bytes "(CNL)") (bytes "(FPL)") (bytes "(CNL)") 9 ≡ Refused 14 0 0)
