@@ -5,4 +5,3 @@ pub mod Items
 pub mod Contents
 pub mod With
 pub mod Bytes
-pub mod Told

@@ -12,7 +12,6 @@ use Rattle.message.specs.Reading.{answerOf}
 use Rattle.message.specs.Message.{canonicalMessage, messageFrom}
 use Rattle.message.proofs.Accepted.{accepted-record}
 use Rattle.message.proofs.Canonical.{canonical-valid, spelling-settled, spelling-contents}
-use Rattle.message.proofs.Valid.{fitting-length}
 use Rattle.state.specs.declared.Strip.{Strip}
 use Rattle.strip.specs.declared.Updated.{Updated}
 use Rattle.strip.specs.declared.Updated.the-variants.{Accepted}
@@ -56,7 +55,7 @@ plan-fields m room n e run d =
     let log = logAll updater (filedAs m) [] run in
     let h : Stands filed b log = kept-on filed run (filedAs m) [] (filed-stands m room n e) in
     let fits = proper-stripped (b .strip) (b .held) (h .proper) .fits in
-    sym (nine-plan (contents (b .strip)) (fitting-length Fpl 9 (contents (b .strip)) fits))
+    sym (nine-plan (contents (b .strip)) fits)
     ∙ ap nine (fun-ext (λ f. h .plan-is f ∙ sym (left-latest (given f) (filed f) log (d .plan f) (d .parts f))))
 
 -- ONE TURN

@@ -9,7 +9,7 @@ use lib.Dec.{eqb}
 use lib.ListN.{length, take, drop, getD, take-append-drop}
 use borrow.Author.Tests.{eqb-true, eqb-false, eq-eqb, ne-eqb}
 use Rattle.alphabet.specs.Text.{bytes}
-use Rattle.text.specs.Words.{Word, split, before, behind, all, same, rank}
+use Rattle.text.specs.Words.{Word, split, before, behind, all, null, same, rank}
 use Rattle.text.proofs.Tests.{both, and-both, same-eq, same-self}
 use Rattle.shape.specs.Field.{Field}
 use Rattle.shape.specs.Time.{clockHours, timeFits}
@@ -23,7 +23,10 @@ use Rattle.aerodromes.specs.Field13.{fits13, field13}
 use Rattle.aerodromes.specs.Field16.{field16plan}
 use Rattle.aerodromes.proofs.Aerodromes.{joined-four, joined-time, cut-aerodrome, cut-joined}
 use Rattle.route.specs.Field15.{field15}
-use Rattle.other.specs.Field18.{field18}
+use Rattle.other.specs.Field18.{field18, fits18}
+use Rattle.dates.specs.Dates.{dateIn, withDate}
+use Rattle.dates.proofs.Dates.{word-date}
+use Rattle.dates.proofs.With.{with-fits}
 use Rattle.records.specs.Records.{fitAll}
 use Rattle.kinds.specs.declared.MessageType.{MessageType}
 use Rattle.kinds.specs.declared.MessageType.the-variants.{Fpl}
@@ -31,7 +34,7 @@ use Rattle.kinds.specs.declared.Role.{Role}
 use Rattle.kinds.specs.declared.Role.the-variants.{Files, Changes, Delays, Cancels, Departs, Arrives, Neither}
 use Rattle.kinds.specs.declared.Form.{Form}
 use Rattle.kinds.specs.declared.Form.the-variants.{Field22}
-use Rattle.kinds.specs.Kinds.{roleOf, formsOf, planForms, plan13, brief13, firstEntry}
+use Rattle.kinds.specs.Kinds.{roleOf, formsOf, planForms, plan13, plan18, brief13, brief18, firstEntry}
 use Rattle.kinds.proofs.Roles.{formCode, form-one}
 use Rattle.forms.specs.Field22.{labels, labelOf, named as namedFields, fieldNamed, whichOf, fits22}
 use Rattle.forms.specs.Forms.{fieldOf}
@@ -39,14 +42,16 @@ use Rattle.forms.proofs.Field22.{fitting}
 use Rattle.forms.proofs.Labels.{label-ranked, ranked-label}
 use Rattle.message.specs.Reading.{unexplainedIn}
 use Rattle.message.specs.Message.{fieldsOf}
-use Rattle.message.proofs.Valid.{Fitting}
+use Rattle.message.proofs.Valid.{Fitting, fitting-length}
 use Rattle.force.specs.InForce.{lookup, namedBy, putIn, changedBy, fieldsFrom}
 use Rattle.force.proofs.Laws.{fields-are}
-use Rattle.amending.specs.Amended.{amended}
-use Rattle.history.specs.History.{Part, placeFor, numberFor, within, planIn, nine, Told, entered, named, givenBy, withTold}
+use Rattle.amending.specs.Amended.{datedBy, amended}
+use Rattle.history.specs.Eighteen.{dateTold, otherItems, eighteen}
+use Rattle.history.specs.History.{Part, placeFor, numberFor, within, planIn, nine, Told, entryOf, entered, named, carried, givenBy, withTold}
 use Rattle.history.specs.History.Part.{heading, identification, rules, aircraft, equipment, aerodrome, offBlock, route, destination}
-use Rattle.history.specs.History.Part.{elapsedAndAlternates, other}
+use Rattle.history.specs.History.Part.{elapsedAndAlternates, date, other}
 use Rattle.history.proofs.Destination.{put-destination, put-behind, put-fits}
+use Rattle.history.proofs.Eighteen.{date-told, told-exact, told-date, told-others}
 
 -- A LIST OF FIELDS BY THEIR PLACES
 
@@ -109,7 +114,7 @@ entries-fit (f ∷ fs) (w ∷ es) k e =
     and-both (fits22 w) (all fits22 es) (ap (λ (g : Form). fieldOf g .fits w) (sym (form-one f Field22 (j .0))) ∙ h .0) (entries-fit fs es (j .1) (h .1))
 
 -- an entry's content fits the field that it names
-lookup-fits : (k : ℕ) (es : List Word) → all fits22 es ≡ true → (w : Word) → lookup k es ≡ some w → fieldNamed k .fits w ≡ true
+pub lookup-fits : (k : ℕ) (es : List Word) → all fits22 es ≡ true → (w : Word) → lookup k es ≡ some w → fieldNamed k .fits w ≡ true
 lookup-fits k [] a w e = let z : _≡_ {A = ℕ} 0 1 = cc in absurd (omega arith)
 lookup-fits k (v ∷ es) a w e = go (lookup-fits k es (both (fits22 v) (all fits22 es) a .1) w) (eqb (whichOf v) k) refl e
   where
@@ -135,34 +140,36 @@ ranked-same v k l g = go (eqb (whichOf v) k) refl (same (before 47 v) (labelOf k
         absurd (eqb-false (whichOf v) k p e)
     go false p false q = refl
 
--- what the history looks up by number is what is looked up by rank, if that is so of each content
+-- what the history looks up by number is what is looked up by rank
+pub entry-lookup : (k : ℕ) → 1 ≤ k → k ≤ 8 → (es : List Word) → entryOf (labelOf k) es ≡ lookup k es
+entry-lookup k l g [] = refl
+entry-lookup k l g (v ∷ es) =
+    ap (λ (b : Bool). cond b (some (behind 47 v)) (entryOf (labelOf k) es)) (ranked-same v k l g)
+    ∙ ap (cond (eqb (whichOf v) k) (some (behind 47 v))) (entry-lookup k l g es)
+
+-- so a part is as an entry's content says, if that is so of each content that fits
 module _ (f : Part) (k : ℕ) (q : numberFor f ≡ labelOf k) (l : 1 ≤ k) (g : k ≤ 8) (c : Word)
-    (alike : (w : Word) → fieldNamed k .fits w ≡ true → Option·getD (entered f w) (within f c) ≡ within f (putIn k w c)) where
+    (alike : (w : Word) → fieldNamed k .fits w ≡ true → Option·getD (entered f (some w)) (within f c) ≡ within f (putIn k w c)) where
   lookup-named : (es : List Word) → all fits22 es ≡ true → Option·getD (named f es) (within f c) ≡ within f (changedBy k (lookup k es) c)
-  lookup-named [] a = refl
-  lookup-named (v ∷ es) a =
-      ap (λ (b : Bool). Option·getD (cond b (entered f (behind 47 v)) (named f es)) (within f c))
-      (ap (same (before 47 v)) q ∙ ranked-same v k l g)
-      ∙ go (lookup-named es (both (fits22 v) (all fits22 es) a .1)) (eqb (whichOf v) k) refl
+  lookup-named es a =
+      ap (λ (o : Option Word). Option·getD (entered f o) (within f c)) (ap (λ (number : Word). entryOf number es) q ∙ entry-lookup k l g es)
+      ∙ go (lookup k es) refl
     where
-      go : Option·getD (named f es) (within f c) ≡ within f (changedBy k (lookup k es) c) → (b : Bool) → eqb (whichOf v) k ≡ b
-          → Option·getD (cond b (entered f (behind 47 v)) (named f es)) (within f c)
-          ≡ within f (changedBy k (cond b (some (behind 47 v)) (lookup k es)) c)
-      go ih true p =
-          let h = fitting v (both (fits22 v) (all fits22 es) a .0) .rest in
-          alike (behind 47 v) (subst (λ (n : ℕ). fieldNamed n .fits (behind 47 v) ≡ true) (eqb-true (whichOf v) k p) h)
-      go ih false p = ih
+      go : (o : Option Word) → lookup k es ≡ o → Option·getD (entered f o) (within f c) ≡ within f (changedBy k o c)
+      go none p = refl
+      go (some w) p = alike w (lookup-fits k es a w p)
 
 -- no entry names field 3
 three-unranked : rank (bytes "3") labels ≡ 0
 unfolding labels
 three-unranked = refl
 
-no-heading : (es : List Word) → all fits22 es ≡ true → named heading es ≡ none
+no-heading : (es : List Word) → all fits22 es ≡ true → entryOf (bytes "3") es ≡ none
 no-heading [] a = refl
 no-heading (v ∷ es) a = go (no-heading es (both (fits22 v) (all fits22 es) a .1)) (same (before 47 v) (bytes "3")) refl
   where
-    go : named heading es ≡ none → (b : Bool) → same (before 47 v) (bytes "3") ≡ b → cond b (some (behind 47 v)) (named heading es) ≡ none
+    go : entryOf (bytes "3") es ≡ none → (b : Bool) → same (before 47 v) (bytes "3") ≡ b
+        → cond b (some (behind 47 v)) (entryOf (bytes "3") es) ≡ none
     go ih true p =
         let z : whichOf v ≡ 0 = ap (λ (w : Word). rank w labels) (same-eq (before 47 v) (bytes "3") p) ∙ three-unranked in
         absurd (omega (arith, z, fitting v (both (fits22 v) (all fits22 es) a .0) .some))
@@ -171,7 +178,7 @@ no-heading (v ∷ es) a = go (no-heading es (both (fits22 v) (all fits22 es) a .
 changed-part : (f : Part) (es : List Word) → all fits22 es ≡ true → (c : Word)
     → within f (changedBy (placeFor f) (cond (eqb (placeFor f) 0) none (lookup (placeFor f) es)) c) ≡ Option·getD (named f es) (within f c)
 unfolding labels
-changed-part heading es a c = sym (ap (λ (o : Option (List ℕ)). Option·getD o c) (no-heading es a))
+changed-part heading es a c = sym (ap (λ (o : Option Word). Option·getD (entered heading o) c) (no-heading es a))
 changed-part identification es a c = sym (lookup-named identification 1 refl (omega arith) (omega arith) c (λ w h. refl) es a)
 changed-part rules es a c = sym (lookup-named rules 2 refl (omega arith) (omega arith) c (λ w h. refl) es a)
 changed-part aircraft es a c = sym (lookup-named aircraft 3 refl (omega arith) (omega arith) c (λ w h. refl) es a)
@@ -182,6 +189,7 @@ changed-part route es a c = sym (lookup-named route 6 refl (omega arith) (omega 
 changed-part destination es a c = sym (lookup-named destination 7 refl (omega arith) (omega arith) c (λ w h. put-destination w c h) es a)
 changed-part elapsedAndAlternates es a c =
     sym (lookup-named elapsedAndAlternates 7 refl (omega arith) (omega arith) c (λ w h. put-behind w c h) es a)
+changed-part date es a c = sym (lookup-named date 8 refl (omega arith) (omega arith) c (λ w h. refl) es a)
 changed-part other es a c = sym (lookup-named other 8 refl (omega arith) (omega arith) c (λ w h. refl) es a)
 
 -- A TIME PUT IN
@@ -199,6 +207,31 @@ module _ (a b : Word) (p : fits13 a ≡ true) (q : fits13 b ≡ true) where
       and-both (fourLetters (take 4 (take 4 a ++ drop 4 b))) (timeFits clockHours (drop 4 (take 4 a ++ drop 4 b)))
       (ap fourLetters retimed-aerodrome ∙ joined-four clockHours a p)
       (ap (timeFits clockHours) retimed-time ∙ joined-time clockHours b q)
+
+-- A DATE PUT IN
+
+module _ (own t : Word) (p : fits18 own ≡ true) (q : fits18 t ≡ true) where
+  redated-date : dateTold (datedBy (dateIn t) own) ≡ Option·getD (carried (dateTold t)) (dateTold own)
+  redated-date = go (null (dateIn t)) refl ∙ ap (λ (d : Word). Option·getD (carried d) (dateTold own)) (sym (date-told t))
+    where
+      go : (b : Bool) → null (dateIn t) ≡ b
+          → dateTold (cond b own (withDate (dateIn t) own)) ≡ Option·getD (cond b none (some (dateIn t))) (dateTold own)
+      go true n = refl
+      go false n = told-date own p (dateIn t) (word-date t q n)
+
+  redated-others : otherItems (datedBy (dateIn t) own) ≡ otherItems own
+  redated-others = go (null (dateIn t)) refl
+    where
+      go : (b : Bool) → null (dateIn t) ≡ b → otherItems (cond b own (withDate (dateIn t) own)) ≡ otherItems own
+      go true n = refl
+      go false n = told-others own p (dateIn t) (word-date t q n)
+
+  redated-fits : fits18 (datedBy (dateIn t) own) ≡ true
+  redated-fits = go (null (dateIn t)) refl
+    where
+      go : (b : Bool) → null (dateIn t) ≡ b → fits18 (cond b own (withDate (dateIn t) own)) ≡ true
+      go true n = p
+      go false n = with-fits (dateIn t) own p (word-date t q n)
 
 -- AN ENTRY'S CONTENT PUT IN: what fits the form of the entry makes of the plan's field one that fits an FPL's
 
@@ -218,7 +251,9 @@ entry-fits (suc (suc (suc (suc (suc (suc (suc (suc i)))))))) l w own p q = absur
 
 abbrev after : Role → List Word → List Word → ℕ → Word
 after Changes cs ds k = changedBy k (cond (eqb k 0) none (lookup k (drop firstEntry ds))) (getD cs k [])
-after Delays cs ds k = cond (eqb k 5) (take 4 (getD cs plan13 []) ++ drop 4 (getD ds brief13 [])) (getD cs k [])
+after Delays cs ds k =
+    cond (eqb k 5) (take 4 (getD cs k []) ++ drop 4 (getD ds brief13 []))
+    (cond (eqb k 8) (datedBy (dateIn (getD ds brief18 [])) (getD cs k [])) (getD cs k []))
 after Cancels cs ds k = getD cs k []
 after Departs cs ds k = getD cs k []
 after Arrives cs ds k = getD cs k []
@@ -235,9 +270,11 @@ amended-after Arrives plan text = refl
 amended-after Files plan text = refl
 amended-after Neither plan text = refl
 
-nine-parts : (g : ℕ → Word) → nine (λ f. within f (g (placeFor f))) ≡ fieldsFrom g 0 9
-nine-parts g =
-    ap₂ (λ (v w : Word). g 0 ∷ g 1 ∷ g 2 ∷ g 3 ∷ g 4 ∷ v ∷ g 6 ∷ w ∷ g 8 ∷ []) (take-append-drop 4 (g 5)) (take-append-drop 4 (g 7))
+nine-parts : (g : ℕ → Word) → fits18 (g 8) ≡ true → nine (λ f. within f (g (placeFor f))) ≡ fieldsFrom g 0 9
+nine-parts g e =
+    ap₂ (λ (v w : Word). g 0 ∷ g 1 ∷ g 2 ∷ g 3 ∷ g 4 ∷ v ∷ g 6 ∷ w ∷ eighteen (dateTold (g 8)) (otherItems (g 8)) ∷ [])
+    (take-append-drop 4 (g 5)) (take-append-drop 4 (g 7))
+    ∙ ap (λ (w : Word). g 0 ∷ g 1 ∷ g 2 ∷ g 3 ∷ g 4 ∷ g 5 ∷ g 6 ∷ g 7 ∷ w ∷ []) (told-exact (g 8) e)
 
 place-after : (g : ℕ → Word) (p : Part) → getD (fieldsFrom g 0 9) (placeFor p) [] ≡ g (placeFor p)
 place-after g heading = refl
@@ -250,20 +287,25 @@ place-after g offBlock = refl
 place-after g route = refl
 place-after g destination = refl
 place-after g elapsedAndAlternates = refl
+place-after g date = refl
 place-after g other = refl
 
--- the contents of the plan of nine contents
-pub nine-plan : (cs : List Word) → length cs ≡ 9 → nine (planIn cs) ≡ cs
-nine-plan cs e = nine-parts (λ k. getD cs k []) ∙ sym (nine-places cs e)
+-- the contents of the plan of an FPL's contents
+pub nine-plan : (cs : List Word) → Fitting Fpl 9 cs → nine (planIn cs) ≡ cs
+nine-plan cs f = nine-parts (λ k. getD cs k []) (plan-fit cs f plan18 (omega arith)) ∙ sym (nine-places cs (fitting-length Fpl 9 cs f))
 
 -- what is asked of the message's contents
 pub record Sayings (role : Role) (ds : List Word) : Type 0 where
   pub entries-right : role ≡ Changes → all fits22 (drop firstEntry ds) ≡ true
   pub time-right : role ≡ Delays → fits13 (getD ds brief13 []) ≡ true
+  pub other-right : role ≡ Delays → fits18 (getD ds brief18 []) ≡ true
 
 module _ (cs ds : List Word) (f : Fitting Fpl 9 cs) where
   thirteen : fits13 (getD cs plan13 []) ≡ true
   thirteen = plan-fit cs f plan13 (omega arith)
+
+  last : fits18 (getD cs plan18 []) ≡ true
+  last = plan-fit cs f plan18 (omega arith)
 
   part-after : (role : Role) → Sayings role ds → (p : Part) → within p (after role cs ds (placeFor p)) ≡ Option·getD (givenBy role ds p) (planIn cs p)
   part-after Changes s p = changed-part p (drop firstEntry ds) (s .entries-right refl) (getD cs (placeFor p) [])
@@ -277,7 +319,8 @@ module _ (cs ds : List Word) (f : Fitting Fpl 9 cs) where
   part-after Delays s route = refl
   part-after Delays s destination = refl
   part-after Delays s elapsedAndAlternates = refl
-  part-after Delays s other = refl
+  part-after Delays s date = redated-date (getD cs plan18 []) (getD ds brief18 []) last (s .other-right refl)
+  part-after Delays s other = redated-others (getD cs plan18 []) (getD ds brief18 []) last (s .other-right refl)
   part-after Cancels s p = refl
   part-after Departs s p = refl
   part-after Arrives s p = refl
@@ -299,19 +342,28 @@ module _ (cs ds : List Word) (f : Fitting Fpl 9 cs) where
           (subst (λ (k : ℕ). getD namedFields k field18 .fits w ≡ true) z (lookup-fits (suc i) (drop firstEntry ds) a w q))
           (plan-fit cs f (suc i) l)
 
-  delayed-fit : fits13 (getD ds brief13 []) ≡ true → (i : ℕ) → i < 9 → getD planFields i field18 .fits (after Delays cs ds i) ≡ true
-  delayed-fit a i l = go (eqb i 5) refl
+  delayed-fit : fits13 (getD ds brief13 []) ≡ true → fits18 (getD ds brief18 []) ≡ true
+      → (i : ℕ) → i < 9 → getD planFields i field18 .fits (after Delays cs ds i) ≡ true
+  delayed-fit a o i l = go (eqb i 5) refl (eqb i 8) refl
     where
-      w : Word
-      w = take 4 (getD cs plan13 []) ++ drop 4 (getD ds brief13 [])
+      time : ℕ → Word
+      time k = take 4 (getD cs k []) ++ drop 4 (getD ds brief13 [])
 
-      go : (b : Bool) → eqb i 5 ≡ b → getD planFields i field18 .fits (cond b w (getD cs i [])) ≡ true
-      go true q = rw (eqb-true i 5 q) (retimed-fits (getD cs plan13 []) (getD ds brief13 []) thirteen a)
-      go false q = plan-fit cs f i l
+      date-in : ℕ → Word
+      date-in k = datedBy (dateIn (getD ds brief18 [])) (getD cs k [])
+
+      go : (b : Bool) → eqb i 5 ≡ b → (d : Bool) → eqb i 8 ≡ d → getD planFields i field18 .fits (cond b (time i) (cond d (date-in i) (getD cs i []))) ≡ true
+      go true q d r =
+          subst (λ (k : ℕ). getD planFields k field18 .fits (time k) ≡ true) (sym (eqb-true i 5 q))
+          (retimed-fits (getD cs plan13 []) (getD ds brief13 []) thirteen a)
+      go false q true r =
+          subst (λ (k : ℕ). getD planFields k field18 .fits (date-in k) ≡ true) (sym (eqb-true i 8 r))
+          (redated-fits (getD cs plan18 []) (getD ds brief18 []) last o)
+      go false q false r = plan-fit cs f i l
 
   after-fit : (role : Role) → Sayings role ds → (i : ℕ) → i < 9 → getD planFields i field18 .fits (after role cs ds i) ≡ true
   after-fit Changes s i l = changed-fit (s .entries-right refl) i l
-  after-fit Delays s i l = delayed-fit (s .time-right refl) i l
+  after-fit Delays s i l = delayed-fit (s .time-right refl) (s .other-right refl) i l
   after-fit Cancels s i l = plan-fit cs f i l
   after-fit Departs s i l = plan-fit cs f i l
   after-fit Arrives s i l = plan-fit cs f i l
@@ -335,7 +387,8 @@ module _ (cs ds : List Word) (f : Fitting Fpl 9 cs) where
     said-to = record { type = t; fields = ds }
 
     after-nine : fieldsFrom (after role-told cs ds) 0 9 ≡ nine (withTold (planIn cs) said-to)
-    after-nine = sym (nine-parts (after role-told cs ds)) ∙ ap nine (fun-ext (λ p. part-after role-told s p))
+    after-nine =
+        sym (nine-parts (after role-told cs ds) (after-fit role-told s plan18 (omega arith))) ∙ ap nine (fun-ext (λ p. part-after role-told s p))
 
     -- the contents of the amended plan fit
     pub amended-fits : unexplainedIn (nine (withTold (planIn cs) said-to)) ≡ 0 → Fitting Fpl 9 (nine (withTold (planIn cs) said-to))

@@ -15,14 +15,16 @@ use Rattle.aerodromes.specs.Asked.{clockAt, aerodromeIn}
 use Rattle.aerodromes.specs.Field13.{fits13, record13}
 use Rattle.aerodromes.specs.Field17.{fits17, record17}
 use Rattle.aerodromes.proofs.Asked.{clock13, clock17}
+use Rattle.other.specs.Field18.{fits18}
+use Rattle.dates.specs.Dates.{dateIn}
 use Rattle.space.specs.Fields.{inner}
 use Rattle.sent.specs.Sent.{contents}
 use Rattle.kinds.specs.declared.MessageType.{MessageType}
 use Rattle.kinds.specs.declared.Role.{Role}
 use Rattle.kinds.specs.declared.Role.the-variants.{Files, Changes, Delays, Cancels, Departs, Arrives, Neither}
 use Rattle.kinds.specs.declared.Form.{Form}
-use Rattle.kinds.specs.declared.Form.the-variants.{Field13, Field17, Field22}
-use Rattle.kinds.specs.Kinds.{roleOf, typesRead, formsOf, plan7, plan13, plan16, brief7, brief13, brief16, brief17, firstEntry}
+use Rattle.kinds.specs.declared.Form.the-variants.{Field13, Field17, Field18, Field22}
+use Rattle.kinds.specs.Kinds.{roleOf, typesRead, formsOf, plan7, plan13, plan16, plan18, brief7, brief13, brief16, brief17, brief18, firstEntry}
 use Rattle.kinds.specs.Kinds.{planForms, briefForms, requestForms, arrivalForms, divertedForms, supplementForms}
 use Rattle.kinds.proofs.Fields.{least-some}
 use Rattle.kinds.proofs.Roles.{each-of-role, formCode, form-one}
@@ -48,13 +50,16 @@ use Rattle.strip.specs.declared.Offered.the-variants.{Says, Unfit}
 use Rattle.strip.specs.declared.Updated.{Updated}
 use Rattle.strip.specs.declared.Updated.the-variants.{Accepted, Refused}
 use Rattle.amending.specs.Amended.{amended}
-use Rattle.strip.specs.Updating.{timeOf, arrival, eventOf, comparesTime, differences, differs}
+use Rattle.strip.specs.Updating.{timeOf, arrival, eventOf, comparesTime, comparesDate, otherDay, differences, differs}
 use Rattle.strip.specs.Updating.{roomAs, amendedAs, eventAs, offeredAs, openedAs, updateOf}
 use Rattle.history.specs.History.{planIn, nine, spelled, Told, landing, withTold}
+use Rattle.history.specs.Eighteen.{dateTold}
+use Rattle.history.specs.Demand3.{DateToo, SameDay}
 use Rattle.history.specs.Demand3.{Proper, fitRole, fitType, TimeToo, Same, whenDeparted, allowed, planOn, amendedOn, told, toldAs, Passes, Cause}
 use Rattle.history.specs.Demand3.Cause.{not-proper, not-read, not-fit, no-type, another-flight, not-allowed, unexplained, too-long, no-room}
 use Rattle.history.proofs.Strip.{plain, said-contents, proper-stripped, tested-proper, proper-tested, plan-contents}
 use Rattle.history.proofs.Late.{late-plan}
+use Rattle.history.proofs.Eighteen.{date-told}
 use Rattle.history.proofs.Amended.{entries-fit, Sayings, amended-nine}
 
 -- WHAT THE CONTENTS OF AN ACCEPTED MESSAGE ARE, by its role
@@ -103,8 +108,15 @@ module _ (t : MessageType) (n : ℕ) (ds : List Word) (f : Fitting t n ds) where
       (each-of-role Changes (λ u k. all (λ g. eqb (formCode g) (formCode Field22)) (drop firstEntry (formsOf u k))) refl t n e (f .least) (f .most))
       (forms-behind firstEntry (formsOf t n) ds (f .fit))
 
+  -- and field 18 of a DLA
+  delay-other : roleOf t ≡ Delays → fits18 (getD ds brief18 []) ≡ true
+  unfolding typesRead formsOf planForms briefForms requestForms arrivalForms divertedForms supplementForms
+  delay-other e =
+      let there = each-of-role Delays (λ u k. ltb brief18 k) refl t n e (f .least) (f .most) in
+      fits-at Field18 brief18 (ltb-true brief18 n there) (each-of-role Delays (isAt Field18 brief18) refl t n e (f .least) (f .most))
+
   pub sayings : Sayings (roleOf t) ds
-  sayings = record { entries-right = λ e. change-entries e; time-right = λ e. delay-time e }
+  sayings = record { entries-right = λ e. change-entries e; time-right = λ e. delay-time e; other-right = λ e. delay-other e }
 
   -- field 17 of an ARR, the last of its four or five
   four-or-five : roleOf t ≡ Arrives → (4 ≤ n) × (n ≤ 5)
@@ -201,12 +213,14 @@ allowed-told Cancelled t ds e = refl
 
 -- FOR THIS FLIGHT
 
-no-difference : (a b c d : Bool) → (not a || (not b || (c || not d))) ≡ false → (a ≡ true) × (b ≡ true) × (c ≡ false) × (d ≡ true)
-no-difference true true false true e = (refl, refl, refl, refl)
-no-difference true true false false e = absurd (false≢true (sym e))
-no-difference true true true d e = absurd (false≢true (sym e))
-no-difference true false c d e = absurd (false≢true (sym e))
-no-difference false b c d e = absurd (false≢true (sym e))
+no-difference : (a b c d e : Bool) → (not a || (not b || (c || (not d || e)))) ≡ false
+    → (a ≡ true) × (b ≡ true) × (c ≡ false) × (d ≡ true) × (e ≡ false)
+no-difference true true false true false h = (refl, refl, refl, refl, refl)
+no-difference true true false true true h = absurd (false≢true (sym h))
+no-difference true true false false e h = absurd (false≢true (sym h))
+no-difference true true true d e h = absurd (false≢true (sym h))
+no-difference true false c d e h = absurd (false≢true (sym h))
+no-difference false b c d e h = absurd (false≢true (sym h))
 
 not-same : (v w : Word) → not (same v w) ≡ false → v ≡ w
 not-same v w e = go (same v w) refl e
@@ -236,30 +250,69 @@ too-time Departs v w e = refl
 too-time Files v w e = refl
 too-time Neither v w e = refl
 
+-- the dates, each nothing where there is none
+not-other : (v w : Word) → otherDay v w ≡ false → SameDay v w
+not-other [] w e p q = absurd (p refl)
+not-other (a ∷ v) [] e p q = absurd (q refl)
+not-other (a ∷ v) (b ∷ w) e p q = not-same (a ∷ v) (b ∷ w) e
+
+other-not : (v w : Word) → SameDay v w → otherDay v w ≡ false
+other-not [] w h = refl
+other-not (a ∷ v) [] h = refl
+other-not (a ∷ v) (b ∷ w) h = same-not (a ∷ v) (b ∷ w) (h (λ z. absurd (omega (arith, ap length z))) (λ z. absurd (omega (arith, ap length z))))
+
+date-too : (role : Role) (v w : Word) → (comparesDate role && otherDay v w) ≡ false → DateToo role (SameDay v w)
+date-too Changes v w e = not-other v w e
+date-too Cancels v w e = not-other v w e
+date-too Departs v w e = not-other v w e
+date-too Delays v w e = tt
+date-too Arrives v w e = tt
+date-too Files v w e = tt
+date-too Neither v w e = tt
+
+too-date : (role : Role) (v w : Word) → DateToo role (SameDay v w) → (comparesDate role && otherDay v w) ≡ false
+too-date Changes v w e = other-not v w e
+too-date Cancels v w e = other-not v w e
+too-date Departs v w e = other-not v w e
+too-date Delays v w e = refl
+too-date Arrives v w e = refl
+too-date Files v w e = refl
+too-date Neither v w e = refl
+
+-- as the two accounts look them up
+day-told : (role : Role) (c d : Word) → (comparesDate role && otherDay (dateTold c) (dateTold d)) ≡ (comparesDate role && otherDay (dateIn c) (dateIn d))
+day-told role c d = ap₂ (λ (v w : Word). comparesDate role && otherDay v w) (date-told c) (date-told d)
+
 same-told : (t : MessageType) (cs ds : List Word) → differs (differences (roleOf t) cs ds) ≡ false → Same (planIn cs) (record { type = t; fields = ds })
 same-told t cs ds e =
     let a = same (before 47 (getD cs plan7 [])) (before 47 (getD ds brief7 [])) in
     let b = same (take 4 (getD cs plan13 [])) (take 4 (getD ds brief13 [])) in
     let d = same (take 4 (getD cs plan16 [])) (take 4 (getD ds brief16 [])) in
-    let k = no-difference a b (comparesTime (roleOf t) && not (same (drop 4 (getD cs plan13 [])) (drop 4 (getD ds brief13 [])))) d e in (
+    let x = comparesTime (roleOf t) && not (same (drop 4 (getD cs plan13 [])) (drop 4 (getD ds brief13 []))) in
+    let y = comparesDate (roleOf t) && otherDay (dateIn (getD cs plan18 [])) (dateIn (getD ds brief18 [])) in
+    let k = no-difference a b x d y e in (
       record {
         same-identification = same-eq (before 47 (getD cs plan7 [])) (before 47 (getD ds brief7 [])) (k .0);
         same-aerodrome = same-eq (take 4 (getD cs plan13 [])) (take 4 (getD ds brief13 [])) (k .1);
         same-destination = same-eq (take 4 (getD cs plan16 [])) (take 4 (getD ds brief16 [])) (k .3);
       },
       time-too (roleOf t) (drop 4 (getD cs plan13 [])) (drop 4 (getD ds brief13 [])) (k .2),
+      date-too (roleOf t) (dateTold (getD cs plan18 [])) (dateTold (getD ds brief18 []))
+          (day-told (roleOf t) (getD cs plan18 []) (getD ds brief18 []) ∙ k .4),
     )
 
-none-differ : (a b c d : Bool) → a ≡ false → b ≡ false → c ≡ false → d ≡ false → (a || (b || (c || d))) ≡ false
-none-differ a b c d p q r s = rw (p, q, r, s)
+none-differ : (a b c d e : Bool) → a ≡ false → b ≡ false → c ≡ false → d ≡ false → e ≡ false → (a || (b || (c || (d || e)))) ≡ false
+none-differ a b c d e p q r s t = rw (p, q, r, s, t)
 
 told-same : (t : MessageType) (cs ds : List Word) → Same (planIn cs) (record { type = t; fields = ds }) → differs (differences (roleOf t) cs ds) ≡ false
 told-same t cs ds s =
-    none-differ _ _ _ _
+    none-differ _ _ _ _ _
     (same-not (before 47 (getD cs plan7 [])) (before 47 (getD ds brief7 [])) (s .0 .same-identification))
     (same-not (take 4 (getD cs plan13 [])) (take 4 (getD ds brief13 [])) (s .0 .same-aerodrome))
     (too-time (roleOf t) (drop 4 (getD cs plan13 [])) (drop 4 (getD ds brief13 [])) (s .1))
     (same-not (take 4 (getD cs plan16 [])) (take 4 (getD ds brief16 [])) (s .0 .same-destination))
+    (sym (day-told (roleOf t) (getD cs plan18 []) (getD ds brief18 []))
+    ∙ too-date (roleOf t) (dateTold (getD cs plan18 [])) (dateTold (getD ds brief18 [])) (s .2))
 
 -- THE ANSWER, with the plan of the history
 

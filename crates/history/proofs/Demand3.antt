@@ -17,7 +17,7 @@ use Rattle.message.specs.declared.Answer.{Answer}
 use Rattle.message.specs.declared.Answer.the-variants.{Accepted as ReadAs}
 use Rattle.message.specs.Reading.{countOf, answerOf, unexplainedIn}
 use Rattle.message.proofs.Reached.{accepted-taken}
-use Rattle.message.proofs.Valid.{Fitting, fitting-length, reached-passed}
+use Rattle.message.proofs.Valid.{Fitting, reached-passed}
 use Rattle.message.proofs.Canonical.{accepted-shorter}
 use Rattle.state.specs.declared.State.{State}
 use Rattle.state.specs.declared.State.the-variants.{Filed}
@@ -41,10 +41,10 @@ use Rattle.history.proofs.Latest.{latest-left, state-moved}
 -- AN ACCEPTED MESSAGE
 
 module _ (strip : List ℕ) (s : Strip) (m : List ℕ) (room : ℕ) (held : Strip) (n : ℕ) (k : Took strip s m room held n) where
-  fits : Fitting (k .passes .type) (countOf m) (contents m)
+  pub fits : Fitting (k .passes .type) (countOf m) (contents m)
   fits = read-fitting strip s m room (k .passes .proper) (k .passes .type) (k .passes .long) (k .passes .read)
 
-  heard : told m ≡ record { type = k .passes .type; fields = contents m }
+  pub heard : told m ≡ record { type = k .passes .type; fields = contents m }
   heard = told-is strip s m room (k .passes .proper) (k .passes .type) (k .passes .long) (k .passes .read)
 
   -- the amended contents fit an FPL's forms
@@ -115,7 +115,7 @@ pub stands-spelled : (filed : Plan) (b : Standing) (log : List Told) → Stands 
 stands-spelled filed b log k =
     let p = proper-stripped (b .strip) (b .held) (k .proper) in
     p .spelt
-    ∙ ap messageOf (sym (nine-plan (contents (b .strip)) (fitting-length Fpl 9 (contents (b .strip)) (p .fits))))
+    ∙ ap messageOf (sym (nine-plan (contents (b .strip)) (p .fits)))
     ∙ ap spelled (fun-ext (λ f. k .plan-is f))
 
 module _ (filed : Plan) where

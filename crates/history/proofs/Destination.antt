@@ -44,14 +44,14 @@ plan-long s e =
 -- THE PARTS after an entry of field 16: what it says of each, or as it was
 
 module _ (w own : Word) (e : fits16entry w ≡ true) where
-  pub put-destination : Option·getD (entered destination w) (within destination own) ≡ within destination (putIn plan16 w own)
+  pub put-destination : Option·getD (entered destination (some w)) (within destination own) ≡ within destination (putIn plan16 w own)
   put-destination = go (fits16 w) refl
     where
       go : (b : Bool) → fits16 w ≡ b → take 4 w ≡ take 4 (cond b (w ++ drop 4 own) w)
       go true q = take-all 4 w (omega (arith, four-length w q)) ∙ sym (cut-aerodrome w q (drop 4 own))
       go false q = refl
 
-  pub put-behind : Option·getD (entered elapsedAndAlternates w) (within elapsedAndAlternates own) ≡ within elapsedAndAlternates (putIn plan16 w own)
+  pub put-behind : Option·getD (entered elapsedAndAlternates (some w)) (within elapsedAndAlternates own) ≡ within elapsedAndAlternates (putIn plan16 w own)
   put-behind = go (fits16 w) refl e
     where
       go : (b : Bool) → fits16 w ≡ b → (b || fits16plan w) ≡ true

@@ -3,6 +3,7 @@ use Prim.Native.Nat.{ℕ, zero, suc, _-_}
 use mathlib.Core.Path.{_≡_, refl, sym, ap, _∙_}
 use mathlib.Core.Bool.{Bool, true, false, not, cond, false≢true}
 use mathlib.Core.List.{List, [], _∷_, _++_, List·Memᴰ, List·Memᴰ·head, List·Memᴰ·tail, List·Memᴰ·not-nil}
+use mathlib.Core.Option.{some}
 use native.Mathlib.Omega.{arith}
 use lib.Dec.{eqb}
 use lib.ListN.{length, drop, length-drop}
@@ -17,7 +18,7 @@ use Rattle.forms.specs.Field22.{labels, whichOf}
 use Rattle.forms.specs.Forms.{isEntry}
 use Rattle.message.specs.Message.{ranksIn, noneTwice}
 use Rattle.message.proofs.Valid.{Fitting, fitting-length}
-use Rattle.history.specs.History.{Part, numberFor, entered, named}
+use Rattle.history.specs.History.{entryOf}
 
 ranks-none : (fs : List Form) → [] ≡ ranksIn fs []
 ranks-none [] = refl
@@ -52,23 +53,23 @@ entries-ranks zero (e ∷ es) l = absurd (omega arith)
 entries-ranks (suc n) [] l = refl
 entries-ranks (suc n) (e ∷ es) l = ap (λ (rs : List ℕ). whichOf e ∷ rs) (entries-ranks n es (omega arith))
 
--- an entry that has the number of a part's field is the one that names the part
-named-only : (f : Part) (es : List Word) → noneTwice (ranks es) ≡ true → (e : Word) → List·Memᴰ e es → before 47 e ≡ numberFor f
-    → named f es ≡ entered f (behind 47 e)
-named-only f [] o e i q = absurd (List·Memᴰ·not-nil i)
-named-only f (v ∷ es) o e (List·Memᴰ·head p) q =
-    let s : same (before 47 v) (numberFor f) ≡ true
-    = ap (λ (w : Word). same (before 47 w) (numberFor f)) (sym p) ∙ ap (λ (w : Word). same w (numberFor f)) q ∙ same-self (numberFor f) in
-    ap (λ (b : Bool). cond b (entered f (behind 47 v)) (named f es)) s ∙ ap (λ (w : Word). entered f (behind 47 w)) (sym p)
-named-only f (v ∷ es) o e (List·Memᴰ·tail i) q = go (named-only f es (h .1) e i q) (same (before 47 v) (numberFor f)) refl
+-- an entry that has a number is the one that is looked up by it
+entry-only : (number : Word) (es : List Word) → noneTwice (ranks es) ≡ true → (e : Word) → List·Memᴰ e es → before 47 e ≡ number
+    → entryOf number es ≡ some (behind 47 e)
+entry-only number [] o e i q = absurd (List·Memᴰ·not-nil i)
+entry-only number (v ∷ es) o e (List·Memᴰ·head p) q =
+    let s : same (before 47 v) number ≡ true
+    = ap (λ (w : Word). same (before 47 w) number) (sym p) ∙ ap (λ (w : Word). same w number) q ∙ same-self number in
+    ap (λ (b : Bool). cond b (some (behind 47 v)) (entryOf number es)) s ∙ ap (λ (w : Word). some (behind 47 w)) (sym p)
+entry-only number (v ∷ es) o e (List·Memᴰ·tail i) q = go (entry-only number es (h .1) e i q) (same (before 47 v) number) refl
   where
     h : (not (oneOf (whichOf v) (ranks es)) ≡ true) × (noneTwice (ranks es) ≡ true)
     h = both (not (oneOf (whichOf v) (ranks es))) (noneTwice (ranks es)) o
 
-    go : named f es ≡ entered f (behind 47 e) → (b : Bool) → same (before 47 v) (numberFor f) ≡ b
-        → cond b (entered f (behind 47 v)) (named f es) ≡ entered f (behind 47 e)
+    go : entryOf number es ≡ some (behind 47 e) → (b : Bool) → same (before 47 v) number ≡ b
+        → cond b (some (behind 47 v)) (entryOf number es) ≡ some (behind 47 e)
     go ih true p =
-        let z : whichOf v ≡ whichOf e = ap (λ (w : Word). rank w labels) (same-eq (before 47 v) (numberFor f) p ∙ sym q) in
+        let z : whichOf v ≡ whichOf e = ap (λ (w : Word). rank w labels) (same-eq (before 47 v) number p ∙ sym q) in
         let k : oneOf (whichOf v) (ranks es) ≡ true = ap (λ (r : ℕ). oneOf r (ranks es)) z ∙ one-of-ranks es e i in
         absurd (false≢true (sym (not-true (oneOf (whichOf v) (ranks es)) (h .0)) ∙ k))
     go ih false p = ih
@@ -87,10 +88,10 @@ change-forms : (n : ℕ) → formsOf Chg n ≡ briefForms ++ entries (n - 5)
 unfolding formsOf
 change-forms n = refl
 
--- whichever entry has the number of a part's field, the history looks up that one
-pub only-entry : (n : ℕ) (ds : List Word) → Fitting Chg n ds → (f : Part) (e : Word) → List·Memᴰ e (drop 5 ds) → before 47 e ≡ numberFor f
-    → named f (drop 5 ds) ≡ entered f (behind 47 e)
-only-entry n ds k f e i q = named-only f (drop 5 ds) (ap noneTwice (sym same-ranks) ∙ k .once) e i q
+-- whichever entry has a number, the history looks up that one
+pub only-entry : (n : ℕ) (ds : List Word) → Fitting Chg n ds → (number e : Word) → List·Memᴰ e (drop 5 ds) → before 47 e ≡ number
+    → entryOf number (drop 5 ds) ≡ some (behind 47 e)
+only-entry n ds k number e i q = entry-only number (drop 5 ds) (ap noneTwice (sym same-ranks) ∙ k .once) e i q
   where
     long : length (drop 5 ds) ≡ n - 5
     long = length-drop 5 ds ∙ ap (λ (j : ℕ). j - 5) (fitting-length Chg n ds k)

@@ -1,4 +1,4 @@
--- Document 01's strip and its CHG, by which other updaters are refuted. Assumes nothing.
+-- Document 01's strip and its CHG, and the same strip with a date, by which other updaters are refuted. Assumes nothing.
 use mathlib.Core.Path.{_≡_, refl}
 use Prim.Native.Nat.{ℕ}
 use mathlib.Core.List.{List}
@@ -19,6 +19,7 @@ use Rattle.aerodromes.specs.Field16.{fits16plan}
 use Rattle.route.specs.Levels.{speedDigits, levelDigits, speeds, levels, starts}
 use Rattle.route.specs.Points.{within, radialFits, indicators, nameFits, pointFits}
 use Rattle.route.specs.Field15.{elementFits, fits15}
+use Rattle.other.specs.Rules.{base, date, daysIn}
 use Rattle.other.specs.Field18.{fitsIn, hasKey}
 use Rattle.kinds.specs.declared.MessageType.the-variants.{Fpl}
 use Rattle.kinds.specs.Kinds.{planForms, briefForms, formsOf, typesRead, typeRanked, typeNamed}
@@ -40,3 +41,14 @@ unfolding answerOf countAs faultIn spellingOf outer parens parensFrom lettersFro
     speedDigits levelDigits elementFits letters within radialFits indicators nameFits pointFits fourLetters joined timeFits fitsIn unexplained
     hasKey labels fits22 fault22
 filing-read = refl
+
+abbrev pub dated-filing : List ℕ
+dated-filing = bytes "(FPL-ABC12-IS-B738/M-SDFG/S-EHAM0930-N0440F310 DCT PAM DCT-EDDF0100 EDDK-DOF/240229 REG/PHBXA)"
+
+pub dated-read : answerOf dated-filing 1800 ≡ ReadAs Fpl 94
+unfolding answerOf countAs faultIn spellingOf outer parens parensFrom lettersFrom inAlphabet white text reduced reducedFrom standsForRun opens closes
+    hyphens typeNamed typeRanked typesRead types formsOf planForms briefForms fits3
+    numbersFit fits7 fits8 fits9 countFits aircraftFits fits10 valid10 present fits16plan fits15 starts speeds levels
+    speedDigits levelDigits elementFits letters within radialFits indicators nameFits pointFits fourLetters joined timeFits fitsIn unexplained
+    hasKey labels fits22 fault22 base date daysIn
+dated-read = refl

@@ -1,11 +1,13 @@
 pub mod Strip
 pub mod Destination
+pub mod Eighteen
 pub mod Amended
 pub mod Late
 pub mod Causes
 pub mod Latest
 pub mod Entries
 pub mod Demand3
+pub mod Field18
 pub mod Examples
 pub mod Refuted
 pub mod Only

@@ -1,6 +1,7 @@
 -- Updaters that the third demand stops: one that refuses all, one that does nothing, one that copies the strip, one that applies only the first
 -- entry, one that applies only the first message, one that matches against the plan after the change, one by which a DEP overwrites the off-block
--- time, one that searches the text, one that drops elapsed time and alternates with a destination alone, and one that passes it by. Assumes nothing.
+-- time, one that searches the text; with a destination alone one that drops elapsed time and alternates, and one that passes it by; of dates one that
+-- compares a DLA's, one that puts it behind the last item, and one that takes a CHG's from its entry. Assumes nothing.
 use Prim.Native.Nat.{ℕ}
 use mathlib.Core.Path.{_≡_, refl, sym, ap, subst, fun-ext, _∙_}
 use mathlib.Core.Bool.{Bool, true, false, false≢true}
@@ -21,10 +22,11 @@ use Rattle.strip.specs.Updating.{offeredAs, updateOf, outAfter}
 use Rattle.history.specs.History.{planIn, spelled, given, planBy}
 use Rattle.history.specs.Demand3.{Updater, Offer, offeredAll, logAll, answered, Cause, filedAs, Meets}
 use Rattle.history.specs.Slips.{refusesAll, doesNothing, copies, firstEntry, firstMessage, matchesAfter, depOverwrites, searches}
-use Rattle.history.specs.Slips.{dropsAlternates, ignoresBare}
+use Rattle.history.specs.Slips.{dropsAlternates, ignoresBare, comparesDelay, datesLast, entryDates}
+use Rattle.history.specs.Eighteen.{dateTold, otherItems, eighteen}
 use Rattle.history.proofs.Causes.{cause-refused}
 use Rattle.history.proofs.Latest.{left-latest}
-use Rattle.history.proofs.Examples.{filing, change, filing-read}
+use Rattle.history.proofs.Examples.{filing, change, filing-read, dated-filing, dated-read}
 use Rattle.alphabet.specs.Text.{bytes}
 use Rattle.alphabet.specs.Alphabet.{text, inAlphabet, white}
 use Rattle.text.specs.Lent.{front}
@@ -43,7 +45,9 @@ use Rattle.aerodromes.specs.Field16.{fits16plan}
 use Rattle.route.specs.Levels.{speedDigits, levelDigits, speeds, levels, starts, changes}
 use Rattle.route.specs.Points.{within, radialFits, indicators, nameFits, pointFits}
 use Rattle.route.specs.Field15.{pairFits, elementFits, fits15}
-use Rattle.other.specs.Field18.{fitsIn, hasKey}
+use Rattle.other.specs.Rules.{base, date, daysIn}
+use Rattle.other.specs.Field18.{fitsIn, hasKey, wordsUnder}
+use Rattle.dates.specs.Dates.{keysBehind, withDate}
 use Rattle.kinds.specs.Kinds.{planForms, briefForms, formsOf, typesRead, typeRanked, typeNamed}
 use Rattle.forms.specs.Field22.{labels, fits22, fault22}
 use Rattle.plan.specs.Unexplained.{unexplained}
@@ -88,7 +92,7 @@ unfolding answerOf countAs faultIn spellingOf outer parens parensFrom lettersFro
     hyphens typeNamed typeRanked typesRead types formsOf planForms briefForms fits3 numbersFit fits7 fits8 fits9 countFits aircraftFits fits10
     valid10 present fits16plan fits15 starts speeds levels speedDigits levelDigits elementFits letters within radialFits indicators nameFits
     pointFits fourLetters joined timeFits fitsIn unexplained hasKey labels fits22 fault22 canonicalPlan openingOf offeredAs updateOf namedBy newStrip outAfter
-    front
+    front wordsUnder dateTold otherItems eighteen
 change-taken = refl
 
 pub refuses-all-fails : (number field place : ℕ) → Meets (refusesAll number field place) → ⊥
@@ -103,7 +107,7 @@ unfolding answerOf countAs faultIn spellingOf outer parens parensFrom lettersFro
     hyphens typeNamed typeRanked typesRead types formsOf planForms briefForms fits3 numbersFit fits7 fits8 fits9 countFits aircraftFits fits10
     valid10 present fits16plan fits15 starts speeds levels speedDigits levelDigits elementFits letters within radialFits indicators nameFits
     pointFits fourLetters joined timeFits fitsIn unexplained hasKey labels fits22 fault22 canonicalPlan openingOf offeredAs updateOf namedBy newStrip outAfter
-    front
+    front wordsUnder dateTold otherItems eighteen
 nothing-left = refl
 
 pub does-nothing-fails : Meets doesNothing → ⊥
@@ -119,7 +123,7 @@ unfolding answerOf countAs faultIn spellingOf outer parens parensFrom lettersFro
     hyphens typeNamed typeRanked typesRead types formsOf planForms briefForms fits3 numbersFit fits7 fits8 fits9 countFits aircraftFits fits10
     valid10 present fits16plan fits15 starts speeds levels speedDigits levelDigits elementFits letters within radialFits indicators nameFits
     pointFits fourLetters joined timeFits fitsIn unexplained hasKey labels fits22 fault22 canonicalPlan openingOf offeredAs updateOf namedBy newStrip outAfter
-    front
+    front wordsUnder dateTold otherItems eighteen
 copied-byte = (refl, refl)
 
 pub copies-fails : Meets copies → ⊥
@@ -136,7 +140,7 @@ unfolding answerOf countAs faultIn spellingOf outer parens parensFrom lettersFro
     hyphens typeNamed typeRanked typesRead types formsOf planForms briefForms fits3 numbersFit fits7 fits8 fits9 countFits aircraftFits fits10
     valid10 present fits16plan fits15 starts speeds levels speedDigits levelDigits elementFits letters within radialFits indicators nameFits
     pointFits fourLetters joined timeFits fitsIn unexplained hasKey labels fits22 fault22 canonicalPlan openingOf offeredAs updateOf namedBy newStrip outAfter
-    front
+    front wordsUnder dateTold otherItems eighteen
 entry-byte = (refl, refl)
 
 pub first-entry-fails : Meets firstEntry → ⊥
@@ -153,7 +157,7 @@ unfolding answerOf countAs faultIn spellingOf outer parens parensFrom lettersFro
     hyphens typeNamed typeRanked typesRead types formsOf planForms briefForms fits3 numbersFit fits7 fits8 fits9 countFits aircraftFits fits10
     valid10 present fits16plan fits15 starts speeds levels speedDigits levelDigits elementFits letters within radialFits indicators nameFits
     pointFits fourLetters joined timeFits fitsIn unexplained hasKey labels fits22 fault22 canonicalPlan openingOf offeredAs updateOf namedBy newStrip outAfter
-    front
+    front wordsUnder dateTold otherItems eighteen
 message-byte = (refl, refl)
 
 pub first-message-fails : Meets (firstMessage filing) → ⊥
@@ -173,7 +177,7 @@ unfolding answerOf countAs faultIn spellingOf outer parens parensFrom lettersFro
     hyphens typeNamed typeRanked typesRead types formsOf planForms briefForms fits3 numbersFit fits7 fits8 fits9 countFits aircraftFits fits10
     valid10 present fits16plan fits15 starts speeds levels speedDigits levelDigits elementFits letters within radialFits indicators nameFits
     pointFits fourLetters joined timeFits fitsIn unexplained hasKey labels fits22 fault22 canonicalPlan openingOf offeredAs updateOf namedBy newStrip outAfter
-    front
+    front wordsUnder dateTold otherItems eighteen
 retiming-taken = (refl, refl)
 
 pub matches-after-fails : Meets matchesAfter → ⊥
@@ -192,7 +196,7 @@ unfolding answerOf countAs faultIn spellingOf outer parens parensFrom lettersFro
     hyphens typeNamed typeRanked typesRead types formsOf planForms briefForms fits3 numbersFit fits7 fits8 fits9 countFits aircraftFits fits10
     valid10 present fits16plan fits15 starts speeds levels speedDigits levelDigits elementFits letters within radialFits indicators nameFits
     pointFits fourLetters joined timeFits fitsIn unexplained hasKey labels fits22 fault22 canonicalPlan openingOf offeredAs updateOf namedBy newStrip outAfter
-    front
+    front wordsUnder dateTold otherItems eighteen
 time-byte = (refl, refl)
 
 pub dep-overwrites-fails : Meets depOverwrites → ⊥
@@ -212,7 +216,7 @@ unfolding answerOf countAs faultIn spellingOf outer parens parensFrom lettersFro
     hyphens typeNamed typeRanked typesRead types formsOf planForms briefForms fits3 numbersFit fits7 fits8 fits9 countFits aircraftFits fits10
     valid10 present fits16plan fits15 starts speeds levels speedDigits levelDigits elementFits letters within radialFits indicators nameFits
     pointFits fourLetters joined timeFits fitsIn unexplained hasKey labels fits22 fault22 canonicalPlan openingOf offeredAs updateOf namedBy newStrip outAfter
-    front
+    front wordsUnder dateTold otherItems eighteen
     pairFits changes
 found-byte = (refl, refl)
 
@@ -235,7 +239,7 @@ unfolding answerOf countAs faultIn spellingOf outer parens parensFrom lettersFro
     hyphens typeNamed typeRanked typesRead types formsOf planForms briefForms fits3 numbersFit fits7 fits8 fits9 countFits aircraftFits fits10
     valid10 present fits16plan fits15 starts speeds levels speedDigits levelDigits elementFits letters within radialFits indicators nameFits
     pointFits fourLetters joined timeFits fitsIn unexplained hasKey labels fits22 fault22 canonicalPlan openingOf offeredAs updateOf namedBy newStrip outAfter
-    front
+    front wordsUnder dateTold otherItems eighteen
 dropped-byte = (refl, refl)
 
 pub drops-alternates-fails : Meets dropsAlternates → ⊥
@@ -252,7 +256,7 @@ unfolding answerOf countAs faultIn spellingOf outer parens parensFrom lettersFro
     hyphens typeNamed typeRanked typesRead types formsOf planForms briefForms fits3 numbersFit fits7 fits8 fits9 countFits aircraftFits fits10
     valid10 present fits16plan fits15 starts speeds levels speedDigits levelDigits elementFits letters within radialFits indicators nameFits
     pointFits fourLetters joined timeFits fitsIn unexplained hasKey labels fits22 fault22 canonicalPlan openingOf offeredAs updateOf namedBy newStrip outAfter
-    front
+    front wordsUnder dateTold otherItems eighteen
 ignored-byte = (refl, refl)
 
 pub ignores-bare-fails : Meets ignoresBare → ⊥
@@ -260,3 +264,60 @@ ignores-bare-fails h =
     let q = ap (λ (w : List ℕ). getD w 62 0) (meets-strip ignoresBare h filing 1800 75 filing-read (diverting ∷ [])) in
     let z : _≡_ {A = ℕ} 70 78 = sym (ignored-byte .0) ∙ q ∙ ignored-byte .1 in
     omega arith
+
+-- OF DATES, on a strip of 29 February
+
+abbrev late : Offer
+late = record { bytes = bytes "(DLA-ABC12-EHAM1015-EDDF-DOF/240301)"; lent = replicate 94 0 }
+
+-- ONE THAT COMPARES A DLA'S DATE
+
+late-taken : (accepts (updateOf (filedAs dated-filing .strip) justFiled (late .bytes) 94) ≡ true)
+    × (answered comparesDelay (filedAs dated-filing) late ≡ Refused 12 0 0)
+unfolding answerOf countAs faultIn spellingOf outer parens parensFrom lettersFrom inAlphabet white text reduced reducedFrom standsForRun opens closes
+    hyphens typeNamed typeRanked typesRead types formsOf planForms briefForms fits3 numbersFit fits7 fits8 fits9 countFits aircraftFits fits10
+    valid10 present fits16plan fits15 starts speeds levels speedDigits levelDigits elementFits letters within radialFits indicators nameFits
+    pointFits fourLetters joined timeFits fitsIn unexplained hasKey labels fits22 fault22 canonicalPlan openingOf offeredAs updateOf namedBy newStrip outAfter
+    front wordsUnder dateTold otherItems eighteen withDate keysBehind base date daysIn
+late-taken = (refl, refl)
+
+pub compares-delay-fails : Meets comparesDelay → ⊥
+compares-delay-fails h =
+    let q = meets-refused comparesDelay h dated-filing 1800 94 dated-read [] late 12 0 0 (late-taken .1) in
+    false≢true (sym (ap accepts q) ∙ late-taken .0)
+
+-- ONE THAT PUTS THE DATE BEHIND THE LAST ITEM: byte 73 is the first of field 18
+
+last-byte : (getD (offeredAll datesLast (filedAs dated-filing) (late ∷ []) .strip) 73 0 ≡ 82)
+    × (getD (spelled (planBy (planIn (contents dated-filing)) (logAll datesLast (filedAs dated-filing) [] (late ∷ [])))) 73 0 ≡ 68)
+unfolding answerOf countAs faultIn spellingOf outer parens parensFrom lettersFrom inAlphabet white text reduced reducedFrom standsForRun opens closes
+    hyphens typeNamed typeRanked typesRead types formsOf planForms briefForms fits3 numbersFit fits7 fits8 fits9 countFits aircraftFits fits10
+    valid10 present fits16plan fits15 starts speeds levels speedDigits levelDigits elementFits letters within radialFits indicators nameFits
+    pointFits fourLetters joined timeFits fitsIn unexplained hasKey labels fits22 fault22 canonicalPlan openingOf offeredAs updateOf namedBy newStrip outAfter
+    front wordsUnder dateTold otherItems eighteen withDate keysBehind base date daysIn
+last-byte = (refl, refl)
+
+pub dates-last-fails : Meets datesLast → ⊥
+dates-last-fails h =
+    let q = ap (λ (w : List ℕ). getD w 73 0) (meets-strip datesLast h dated-filing 1800 94 dated-read (late ∷ [])) in
+    let z : _≡_ {A = ℕ} 82 68 = sym (last-byte .0) ∙ q ∙ last-byte .1 in
+    omega arith
+
+-- ONE THAT TAKES A CHG'S DATE FROM ITS ENTRY
+
+abbrev renaming : Offer
+renaming = record { bytes = bytes "(CHG-ABC12-EHAM0930-EDDF-0-18/DOF/240301)"; lent = replicate 94 0 }
+
+renaming-taken : (accepts (updateOf (filedAs dated-filing .strip) justFiled (renaming .bytes) 94) ≡ true)
+    × (answered entryDates (filedAs dated-filing) renaming ≡ Refused 12 0 0)
+unfolding answerOf countAs faultIn spellingOf outer parens parensFrom lettersFrom inAlphabet white text reduced reducedFrom standsForRun opens closes
+    hyphens typeNamed typeRanked typesRead types formsOf planForms briefForms fits3 numbersFit fits7 fits8 fits9 countFits aircraftFits fits10
+    valid10 present fits16plan fits15 starts speeds levels speedDigits levelDigits elementFits letters within radialFits indicators nameFits
+    pointFits fourLetters joined timeFits fitsIn unexplained hasKey labels fits22 fault22 canonicalPlan openingOf offeredAs updateOf namedBy newStrip outAfter
+    front wordsUnder dateTold otherItems eighteen withDate keysBehind base date daysIn
+renaming-taken = (refl, refl)
+
+pub entry-dates-fails : Meets entryDates → ⊥
+entry-dates-fails h =
+    let q = meets-refused entryDates h dated-filing 1800 94 dated-read [] renaming 12 0 0 (renaming-taken .1) in
+    false≢true (sym (ap accepts q) ∙ renaming-taken .0)

@@ -12,7 +12,7 @@ use Rattle.kinds.specs.declared.MessageType.{MessageType}
 use Rattle.kinds.specs.declared.MessageType.the-variants.{Fpl}
 use Rattle.kinds.specs.declared.Role.{Role}
 use Rattle.kinds.specs.declared.Role.the-variants.{Files, Changes, Delays, Cancels, Departs, Arrives, Neither}
-use Rattle.kinds.specs.Kinds.{roleOf, brief7, brief13, brief16}
+use Rattle.kinds.specs.Kinds.{roleOf, brief7, brief13, brief16, brief18}
 use Rattle.message.specs.declared.Answer.{Answer}
 use Rattle.message.specs.declared.Answer.the-variants.{Accepted as ReadAs, Refused as NotRead}
 use Rattle.message.specs.Reading.{unexplainedIn, spellingOf, answerOf}
@@ -25,8 +25,9 @@ use Rattle.state.specs.State.{justFiled, sound}
 use Rattle.strip.specs.declared.Updated.{Updated}
 use Rattle.strip.specs.declared.Updated.the-variants.{Accepted, Refused}
 use Rattle.strip.specs.Updating.{updateOf, outAfter}
+use Rattle.history.specs.Eighteen.{dateTold}
 use Rattle.history.specs.History.{Part, Plan, planIn, nine, spelled, Told, given, withTold, departs, becomes, Left}
-use Rattle.history.specs.History.Part.{identification, aerodrome, offBlock, destination}
+use Rattle.history.specs.History.Part.{identification, aerodrome, offBlock, destination, date}
 
 -- AN UPDATER: its answer to a strip, its record, a message and the output lent, and what it leaves in the output
 
@@ -122,8 +123,23 @@ TimeToo Departs P = Unit
 TimeToo Files P = Unit
 TimeToo Neither P = Unit
 
+-- CHG, CNL and DEP the date too, where both carry one: each is nothing where there is none
+abbrev pub DateToo : Role → Type 0 → Type 0
+DateToo Changes P = P
+DateToo Cancels P = P
+DateToo Departs P = P
+DateToo Delays P = Unit
+DateToo Arrives P = Unit
+DateToo Files P = Unit
+DateToo Neither P = Unit
+
+abbrev pub SameDay : Word → Word → Type 0
+SameDay v w = (v ≡ [] → ⊥) → (w ≡ [] → ⊥) → v ≡ w
+
 abbrev pub Same : Plan → Told → Type 0
-Same p m = ForThis p m × TimeToo (roleOf (m .type)) (p offBlock ≡ drop 4 (getD (m .fields) brief13 []))
+Same p m =
+    ForThis p m × TimeToo (roleOf (m .type)) (p offBlock ≡ drop 4 (getD (m .fields) brief13 []))
+    × DateToo (roleOf (m .type)) (SameDay (p date) (dateTold (getD (m .fields) brief18 [])))
 
 -- 13: allowed when filed; CHG and ARR when departed too
 abbrev pub whenDeparted : Role → Bool

@@ -8,7 +8,7 @@ use mathlib.Core.Option.{Option, none, some, Option·getD}
 use lib.Dec.{eqb}
 use lib.ListN.{length, take, drop, getD}
 use Rattle.alphabet.specs.Text.{bytes}
-use Rattle.text.specs.Words.{Word, split, before, behind, same}
+use Rattle.text.specs.Words.{Word, split, before, behind, null, same}
 use Rattle.sent.specs.Sent.{messageOf}
 use Rattle.aerodromes.specs.Asked.{aerodromeIn}
 use Rattle.aerodromes.specs.Field13.{record13}
@@ -17,18 +17,21 @@ use Rattle.kinds.specs.declared.MessageType.{MessageType}
 use Rattle.kinds.specs.declared.MessageType.the-variants.{Chg, Dla}
 use Rattle.kinds.specs.declared.Role.{Role}
 use Rattle.kinds.specs.declared.Role.the-variants.{Files, Changes, Delays, Cancels, Departs, Arrives, Neither}
-use Rattle.kinds.specs.Kinds.{roleOf, plan3, plan7, plan8, plan9, plan10, plan13, plan15, plan16, plan18, brief13, brief16, brief17, firstEntry}
+use Rattle.kinds.specs.Kinds.{roleOf, plan3, plan7, plan8, plan9, plan10, plan13, plan15, plan16, plan18, firstEntry}
+use Rattle.kinds.specs.Kinds.{brief13, brief16, brief17, brief18}
+use Rattle.other.specs.Rules.{base}
 use Rattle.state.specs.declared.Departure.{Departure}
 use Rattle.state.specs.declared.Departure.the-variants.{Known, Unknown}
 use Rattle.state.specs.declared.State.{State}
 use Rattle.state.specs.declared.State.the-variants.{Filed, Departed, Arrived, Cancelled}
 use Rattle.state.specs.declared.Strip.{Strip}
+use Rattle.history.specs.Eighteen.{dateTold, otherItems, eighteen}
 
 -- THE PARTS OF A PLAN that a message can set by themselves: its fields; of field 13 the aerodrome and the off-block time; of field 16 the destination and
--- what stands behind it, elapsed time and alternates
+-- what stands behind it, elapsed time and alternates; of field 18 the date and all other items
 
 pub data Part : Type 0 where
-  heading identification rules aircraft equipment aerodrome offBlock route destination elapsedAndAlternates other : Part
+  heading identification rules aircraft equipment aerodrome offBlock route destination elapsedAndAlternates date other : Part
 
 abbrev pub Plan : Type 0
 Plan = Part → List ℕ
@@ -45,6 +48,7 @@ numberFor offBlock = bytes "13"
 numberFor route = bytes "15"
 numberFor destination = bytes "16"
 numberFor elapsedAndAlternates = bytes "16"
+numberFor date = bytes "18"
 numberFor other = bytes "18"
 
 -- which of an FPL's nine fields that is, counted from 0
@@ -59,6 +63,7 @@ placeFor offBlock = plan13
 placeFor route = plan15
 placeFor destination = plan16
 placeFor elapsedAndAlternates = plan16
+placeFor date = plan18
 placeFor other = plan18
 
 -- the part's bytes of that field: fields 13 and 16 begin with an aerodrome, which is four letters
@@ -73,7 +78,8 @@ within offBlock c = drop 4 c
 within route c = c
 within destination c = take 4 c
 within elapsedAndAlternates c = drop 4 c
-within other c = c
+within date c = dateTold c
+within other c = otherItems c
 
 -- the plan of an FPL's nine contents
 abbrev pub planIn : List Word → Plan
@@ -83,7 +89,7 @@ planIn cs = λ f. within f (getD cs (placeFor f) [])
 abbrev pub nine : Plan → List Word
 nine p =
     p heading ∷ p identification ∷ p rules ∷ p aircraft ∷ p equipment ∷ (p aerodrome ++ p offBlock) ∷ p route
-    ∷ (p destination ++ p elapsedAndAlternates) ∷ p other ∷ []
+    ∷ (p destination ++ p elapsedAndAlternates) ∷ eighteen (p date) (p other) ∷ []
 
 abbrev pub spelled : Plan → List ℕ
 spelled p = messageOf (nine p)
@@ -94,7 +100,12 @@ pub record Told : Type 0 where
   pub type : MessageType
   pub fields : List Word
 
--- WHAT IT SAYS OF A PART: a CHG what its entry of the part's field holds, a DLA the off-block time, the others nothing
+-- WHAT IT SAYS OF A PART: a CHG what its entry of the part's field holds, a DLA the off-block time and the date that it carries, the others nothing
+
+-- the content behind the oblique of the first entry that has this number
+abbrev pub entryOf : Word → List Word → Option Word
+entryOf number [] = none
+entryOf number (e ∷ es) = cond (same (before 47 e) number) (some (behind 47 e)) (entryOf number es)
 
 -- an entry of field 16 that is a destination alone, four bytes, sets the destination and nothing else
 abbrev pub silent : Part → Word → Bool
@@ -108,32 +119,39 @@ silent offBlock c = false
 silent route c = false
 silent destination c = false
 silent elapsedAndAlternates c = eqb (length c) 4
+silent date c = false
 silent other c = false
 
-abbrev pub entered : Part → Word → Option (List ℕ)
-entered f c = cond (silent f c) none (some (within f c))
+-- what the content of an entry, if there is one, says of a part
+abbrev pub entered : Part → Option Word → Option (List ℕ)
+entered f none = none
+entered f (some c) = cond (silent f c) none (some (within f c))
 
 -- the entries stand behind a CHG's fields 3, 7, 13, 16 and 18, each with its number and an oblique in front
 abbrev pub named : Part → List Word → Option (List ℕ)
-named f [] = none
-named f (e ∷ es) = cond (same (before 47 e) (numberFor f)) (entered f (behind 47 e)) (named f es)
+named f es = entered f (entryOf (numberFor f) es)
 
-abbrev pub delayed : Part → Word → Option (List ℕ)
-delayed heading c = none
-delayed identification c = none
-delayed rules c = none
-delayed aircraft c = none
-delayed equipment c = none
-delayed aerodrome c = none
-delayed offBlock c = some (drop 4 c)
-delayed route c = none
-delayed destination c = none
-delayed elapsedAndAlternates c = none
-delayed other c = none
+-- the date of a DLA's own field 18, if it carries one
+abbrev pub carried : Word → Option (List ℕ)
+carried d = cond (null d) none (some d)
+
+abbrev pub delayed : Part → List Word → Option (List ℕ)
+delayed heading cs = none
+delayed identification cs = none
+delayed rules cs = none
+delayed aircraft cs = none
+delayed equipment cs = none
+delayed aerodrome cs = none
+delayed offBlock cs = some (drop 4 (getD cs brief13 []))
+delayed route cs = none
+delayed destination cs = none
+delayed elapsedAndAlternates cs = none
+delayed date cs = carried (dateTold (getD cs brief18 []))
+delayed other cs = none
 
 abbrev pub givenBy : Role → List Word → Part → Option (List ℕ)
 givenBy Changes cs f = named f (drop firstEntry cs)
-givenBy Delays cs f = delayed f (getD cs brief13 [])
+givenBy Delays cs f = delayed f cs
 givenBy Cancels cs f = none
 givenBy Departs cs f = none
 givenBy Arrives cs f = none
@@ -185,7 +203,48 @@ pub data Left {A : Type 0} (says : Told → Option A) (first : A) : List Told �
   by : (later : List Told) (m : Told) (earlier : List Told) {v : A}
       → ((l : Told) → List·Memᴰ l later → says l ≡ none) → says m ≡ some v → Left says first (later ++ m ∷ earlier) v
 
--- the same, found
+-- FIELD 18, whole (document 02, request 5): as the last accepted CHG naming it or DLA carrying a date left it
+
+-- the content that a CHG has for it
+abbrev pub namesBy : Role → List Word → Option Word
+namesBy Changes cs = entryOf (bytes "18") (drop firstEntry cs)
+namesBy Delays cs = none
+namesBy Cancels cs = none
+namesBy Departs cs = none
+namesBy Arrives cs = none
+namesBy Files cs = none
+namesBy Neither cs = none
+
+abbrev pub names18 : Told → Option Word
+names18 m = namesBy (roleOf (m .type)) (m .fields)
+
+-- the date that a DLA carries
+abbrev pub carriesBy : Role → List Word → Option Word
+carriesBy Delays cs = carried (dateTold (getD cs brief18 []))
+carriesBy Changes cs = none
+carriesBy Cancels cs = none
+carriesBy Departs cs = none
+carriesBy Arrives cs = none
+carriesBy Files cs = none
+carriesBy Neither cs = none
+
+abbrev pub carriesDate : Told → Option Word
+carriesDate m = carriesBy (roleOf (m .type)) (m .fields)
+
+abbrev pub Leaves18 : Told → Type 0
+Leaves18 m = (names18 m ≡ none) × (carriesDate m ≡ none)
+
+-- no accepted message set it, and it is as filed; or the last that did was a CHG, and it is the content of its entry; or it was a DLA, and it is as it
+-- stood before, with that date
+pub data Left18 (filed : Word) : List Told → Word → Type 0 where
+  never-set : {log : List Told} → ((m : Told) → List·Memᴰ m log → Leaves18 m) → Left18 filed log filed
+  by-change : (later : List Told) (m : Told) (earlier : List Told) {c : Word}
+      → ((l : Told) → List·Memᴰ l later → Leaves18 l) → names18 m ≡ some c → Left18 filed (later ++ m ∷ earlier) c
+  by-delay : (later : List Told) (m : Told) (earlier : List Told) {d w : Word}
+      → ((l : Told) → List·Memᴰ l later → Leaves18 l) → carriesDate m ≡ some d → Left18 filed earlier w
+      → Left18 filed (later ++ m ∷ earlier) (eighteen d (otherItems w))
+
+-- `Left`, found
 abbrev pub latest : {A : Type 0} → (Told → Option A) → A → List Told → A
 latest says first [] = first
 latest says first (m ∷ earlier) = Option·getD (says m) (latest says first earlier)
@@ -222,10 +281,12 @@ abbrev postponed : Told
 postponed = record { type = Dla; fields = split 45 (bytes "DLA-ABC12-EHAM1015-EDDF-0") }
 
 as-spelled : nine (planIn filed) ≡ filed
+unfolding dateTold otherItems eighteen
 as-spelled = refl
 
 after-both : spelled (planBy (planIn filed) (postponed ∷ changed ∷ []))
     ≡ bytes "(FPL-ABC12-IN-B39M/M-SDFG/S-EHAM1015-N0440F310 DCT PAM DCT-EDDF0100 EDDK-0)"
+unfolding dateTold otherItems eighteen
 after-both = refl
 
 -- a destination alone says nothing of elapsed time and alternates; a whole field 16 says all of it
@@ -236,4 +297,26 @@ of-sixteen = (refl, refl, refl, refl)
 after-diverted : (spelled (planBy (planIn filed) (diverted ∷ [])) ≡ bytes "(FPL-ABC12-IS-B738/M-SDFG/S-EHAM0930-N0440F310 DCT PAM DCT-EDDN0100 EDDK-0)")
     × (spelled (planBy (planIn filed) (redirected ∷ [])) ≡ bytes "(FPL-ABC12-IS-B738/M-SDFG/S-EHAM0930-N0440F310 DCT PAM DCT-EDDM0110-0)")
     × (spelled (planBy (planIn filed) (diverted ∷ redirected ∷ [])) ≡ bytes "(FPL-ABC12-IS-B738/M-SDFG/S-EHAM0930-N0440F310 DCT PAM DCT-EDDN0110-0)")
+unfolding dateTold otherItems eighteen
 after-diverted = (refl, refl, refl)
+
+-- a DLA says the date that it carries and nothing of the other items; a CHG's entry of 18 says both
+abbrev redated : Told
+redated = record { type = Dla; fields = split 45 (bytes "DLA-ABC12-EHAM1015-EDDF-DOF/240229 RMK/LATE") }
+
+abbrev remarked : Told
+remarked = record { type = Chg; fields = split 45 (bytes "CHG-ABC12-EHAM0930-EDDF-0-18/DEP/X REG/Y") }
+
+of-eighteen : (given date redated ≡ some (bytes "240229")) × (given other redated ≡ none) × (given date postponed ≡ none)
+    × (given date remarked ≡ some []) × (given other remarked ≡ some (bytes "DEP/X REG/Y"))
+unfolding dateTold otherItems
+of-eighteen = (refl, refl, refl, refl, refl)
+
+after-redated : (spelled (planBy (planIn filed) (redated ∷ []))
+    ≡ bytes "(FPL-ABC12-IS-B738/M-SDFG/S-EHAM1015-N0440F310 DCT PAM DCT-EDDF0100 EDDK-DOF/240229)")
+    × (spelled (planBy (planIn filed) (redated ∷ remarked ∷ []))
+    ≡ bytes "(FPL-ABC12-IS-B738/M-SDFG/S-EHAM1015-N0440F310 DCT PAM DCT-EDDF0100 EDDK-DEP/X DOF/240229 REG/Y)")
+    × (spelled (planBy (planIn filed) (remarked ∷ redated ∷ []))
+    ≡ bytes "(FPL-ABC12-IS-B738/M-SDFG/S-EHAM1015-N0440F310 DCT PAM DCT-EDDF0100 EDDK-DEP/X REG/Y)")
+unfolding dateTold otherItems eighteen base
+after-redated = (refl, refl, refl)

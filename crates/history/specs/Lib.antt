@@ -1,3 +1,4 @@
+pub mod Eighteen
 pub mod History
 pub mod Demand3
 pub mod Slips

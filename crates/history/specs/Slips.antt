@@ -1,12 +1,13 @@
 -- Updaters that must not pass (document 01, "Examples on each side" and "How far each contract reaches"; document 02). But for its slip each does as the
 -- update does. Assumes nothing.
 use Prim.Native.Nat.{ℕ, zero, suc}
-use mathlib.Core.Bool.{cond}
+use mathlib.Core.Bool.{Bool, true, false, _&&_, cond}
 use mathlib.Core.List.{List, [], _∷_, _++_}
 use mathlib.Core.Option.{Option, none, some, Option·getD}
 use lib.Dec.{eqb}
-use lib.ListN.{length, take, drop}
-use Rattle.text.specs.Words.{Word, split, same, before}
+use lib.ListN.{length, take, drop, getD, set}
+use Rattle.alphabet.specs.Text.{bytes}
+use Rattle.text.specs.Words.{Word, split, null, same, before}
 use Rattle.text.specs.Lent.{front}
 use Rattle.space.specs.Fields.{inner}
 use Rattle.outer.specs.Outer.{most}
@@ -14,7 +15,8 @@ use Rattle.sent.specs.Sent.{messageOf, contents}
 use Rattle.kinds.specs.declared.Role.{Role}
 use Rattle.kinds.specs.declared.Role.the-variants.{Files, Changes, Delays, Cancels, Departs, Arrives, Neither}
 use Rattle.aerodromes.specs.Field16.{fits16}
-use Rattle.kinds.specs.Kinds.{roleOf, plan16}
+use Rattle.dates.specs.Dates.{dateIn, dated}
+use Rattle.kinds.specs.Kinds.{roleOf, plan16, plan18, brief18, firstEntry as entriesFrom}
 use Rattle.forms.specs.Field22.{labelOf}
 use Rattle.message.specs.Reading.{answerOf}
 use Rattle.force.specs.InForce.{namedBy, fieldAt, fieldsFrom}
@@ -22,7 +24,9 @@ use Rattle.strip.specs.declared.Updated.{Updated}
 use Rattle.strip.specs.declared.Updated.the-variants.{Accepted, Refused}
 use Rattle.opening.specs.Opening.{textSaid}
 use Rattle.amending.specs.Amended.{contentOf, amended, newStrip}
-use Rattle.strip.specs.Updating.{differences, differs, updateOf, typeRead, outAfter}
+use Rattle.strip.specs.Updating.{otherDay, differences, differs, updateOf, typeRead, outAfter}
+use Rattle.history.specs.Eighteen.{otherItems}
+use Rattle.history.specs.History.{entryOf}
 use Rattle.history.specs.Demand3.{Updater}
 
 -- one that refuses all, with whatever number, field and place
@@ -146,3 +150,59 @@ passedBy (some c) own = cond (fits16 c) own c
 
 abbrev pub ignoresBare : Updater
 ignoresBare = makesSixteen passedBy
+
+-- OF DATES (document 02, request 5)
+
+abbrev pub delays : Role → Bool
+delays Delays = true
+delays Files = false
+delays Changes = false
+delays Cancels = false
+delays Departs = false
+delays Arrives = false
+delays Neither = false
+
+-- one that compares a DLA's date too
+abbrev pub otherDelay : List ℕ → List ℕ → Bool
+otherDelay strip m =
+    let t = typeRead (answerOf m most) in
+    delays (roleOf t) && otherDay (dateIn (fieldAt (inner strip) plan18)) (dateIn (fieldAt (textSaid t m) brief18))
+
+abbrev pub comparesDelay : Updater
+comparesDelay =
+    record {
+      answer = λ strip held m out. cond (otherDelay strip m) (Refused 12 0 0) (updateOf strip held m (length out));
+      output = λ strip held m out. cond (otherDelay strip m) out (outAfter strip held m out);
+    }
+
+-- one that puts a DLA's date behind the last item
+abbrev pub behindLast : Word → Word → Word
+behindLast d own = cond (null d) own (cond (null (otherItems own)) (dated d) (otherItems own ++ (32 ∷ dated d)))
+
+abbrev pub lastAs : List ℕ → List ℕ → List ℕ
+lastAs strip m =
+    let t = typeRead (answerOf m most) in
+    let plan = inner strip in
+    let said = textSaid t m in
+    let eighteen = behindLast (dateIn (fieldAt said brief18)) (fieldAt plan plan18) in
+    messageOf (fieldsFrom (λ k. cond (eqb k plan18 && delays (roleOf t)) eighteen (contentOf (roleOf t) plan said k)) 0 9)
+
+abbrev pub datesLast : Updater
+datesLast =
+    record {
+      answer = λ strip held m out. copiedAs (updateOf strip held m (length out)) (lastAs strip m);
+      output = λ strip held m out. copyAs (updateOf strip held m (length out)) (lastAs strip m) out;
+    }
+
+-- one that takes a CHG's date from its entry of 18, where it has one, and not from its own field 18
+abbrev pub entryForOwn : List ℕ → List ℕ
+entryForOwn m =
+    let cs = contents m in
+    messageOf (set cs brief18 (Option·getD (entryOf (bytes "18") (drop entriesFrom cs)) (getD cs brief18 [])))
+
+abbrev pub entryDates : Updater
+entryDates =
+    record {
+      answer = λ strip held m out. updateOf strip held (entryForOwn m) (length out);
+      output = λ strip held m out. outAfter strip held (entryForOwn m) out;
+    }
