@@ -136,8 +136,9 @@ static inline uint8_t beechdoublet_read(const uint8_t *message, size_t message_l
 
 /*
  * Offers a message to a strip, which is an accepted FPL's spelling with its state. Accepted: the new strip stands at the front of out, the bytes
- * behind it are as they were, and state is the new state. Refused (1 to 16): every byte of out and the state are as they were. Gives the number
- * back; 255, not a call, where a pointer is null or state, out or answer overlaps something else. So out is never the strip itself.
+ * behind it are as they were, and state is the new state. Refused (1 to 16; 12 also where strip and message carry unequal dates): every byte of out
+ * and the state are as they were. Gives the number back; 255, not a call, where a pointer is null or state, out or answer overlaps something else. So
+ * out is never the strip itself. The strip's date is told by beechdoublet_plan.
  */
 static inline uint8_t beechdoublet_update(const uint8_t *strip, size_t strip_length, beechdoublet_state *state, const uint8_t *message,
                                           size_t message_length, uint8_t *out, size_t out_length,

@@ -16,7 +16,8 @@ use Rattle.route.specs.Levels.{speedDigits, levelDigits, speeds, levels, starts
 use Rattle.route.specs.Points.{within, radialFits, indicators, nameFits, pointFits}
 use Rattle.route.specs.Field15.{pairFits, elementFits, fits15, record15}
 use Rattle.other.specs.Rules.{statuses, approvals, approved, daysIn, date, timed as timedWord, hexadecimal, base}
-use Rattle.other.specs.Field18.{fitsIn, hasKey}
+use Rattle.other.specs.Field18.{fitsIn, hasKey, wordsUnder}
+use Rattle.dates.specs.Dates.{keysBehind, withDate}
 use Rattle.supplement.specs.Field19.{fits19, keyed}
 use Rattle.head.specs.Field3.{types, fits3, numbersFit}
 use Rattle.space.specs.Reduced.{opens, closes, standsForRun, reducedFrom, reduced}
@@ -34,7 +35,7 @@ use Rattle.opening.specs.Opening.{canonicalPlan, openingOf}
 use Rattle.amending.specs.Amended.{newStrip}
 use Rattle.strip.specs.Updating.{offeredAs, updateOf, outAfter}
 use Rattle.asked.specs.Asking.{typeAs, askedOf}
-use Rattle.demands.specs.Examples.{Example, AllHold, ofFields, ofElapsed, ofMessages, ofStrips, ofDestinations, examples}
+use Rattle.demands.specs.Examples.{Example, AllHold, ofFields, ofElapsed, ofMessages, ofStrips, ofDestinations, ofDates, examples}
 
 -- two lists joined
 both-hold : (xs ys : List Example) → AllHold xs → AllHold ys → AllHold (xs ++ ys)
@@ -65,7 +66,7 @@ unfolding answerOf countAs faultIn spellingOf outer parens parensFrom lettersFro
     hyphens typeNamed typeRanked typesRead types formsOf planForms briefForms fits3 numbersFit fits7 fits8 fits9 countFits aircraftFits fits10
     valid10 present fits16plan fits15 starts speeds levels speedDigits levelDigits elementFits letters within radialFits indicators nameFits
     pointFits fourLetters joined timeFits fitsIn unexplained hasKey labels fits22 fault22 canonicalPlan openingOf offeredAs newStrip updateOf outAfter front
-    namedBy namedAt behindHyphen typeAs askedOf
+    namedBy namedAt behindHyphen typeAs askedOf wordsUnder
 strips-hold = ((refl, refl), (refl, (refl, tt)))
 
 destinations-hold : AllHold ofDestinations
@@ -73,12 +74,22 @@ unfolding answerOf countAs faultIn spellingOf outer parens parensFrom lettersFro
     hyphens typeNamed typeRanked typesRead types formsOf planForms briefForms fits3 numbersFit fits7 fits8 fits9 countFits aircraftFits fits10
     valid10 present fits16plan fits15 starts speeds levels speedDigits levelDigits elementFits letters within radialFits indicators nameFits
     pointFits fourLetters joined timeFits fitsIn unexplained hasKey labels fits22 fault22 canonicalPlan openingOf offeredAs newStrip updateOf outAfter front
-    namedBy namedAt behindHyphen typeAs askedOf formAt placeOfHyphen upToHyphen
+    namedBy namedAt behindHyphen typeAs askedOf wordsUnder formAt placeOfHyphen upToHyphen
 destinations-hold = (refl, (refl, (refl, ((refl, refl), (refl, ((refl, refl), (refl, (refl, (refl, tt)))))))))
+
+dates-hold : AllHold ofDates
+unfolding answerOf countAs faultIn spellingOf outer parens parensFrom lettersFrom inAlphabet white text reduced reducedFrom standsForRun opens closes
+    hyphens typeNamed typeRanked typesRead types formsOf planForms briefForms fits3 numbersFit fits7 fits8 fits9 countFits aircraftFits fits10
+    valid10 present fits16plan fits15 starts speeds levels speedDigits levelDigits elementFits letters within radialFits indicators nameFits
+    pointFits fourLetters joined timeFits fitsIn unexplained hasKey labels fits22 fault22 canonicalPlan openingOf offeredAs newStrip updateOf outAfter front
+    namedBy namedAt behindHyphen typeAs askedOf wordsUnder withDate keysBehind base date daysIn
+dates-hold = ((refl, refl), ((refl, refl), ((refl, refl), (refl, ((refl, refl), (refl, tt))))))
 
 pub examples-hold : AllHold examples
 examples-hold =
-    let strips = ofStrips ++ ofDestinations in
+    let later = ofDestinations ++ ofDates in
+    let strips = ofStrips ++ later in
     both-hold ofFields (ofElapsed ++ (ofMessages ++ strips)) fields-hold
     (both-hold ofElapsed (ofMessages ++ strips) elapsed-hold
-    (both-hold ofMessages strips messages-hold (both-hold ofStrips ofDestinations strips-hold destinations-hold)))
+    (both-hold ofMessages strips messages-hold
+    (both-hold ofStrips later strips-hold (both-hold ofDestinations ofDates destinations-hold dates-hold))))
