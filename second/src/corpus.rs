@@ -24,7 +24,7 @@ pub struct Listed {
 }
 
 /// The lists of questions. The first begins before any strip is held.
-const QUESTIONS: [&str; 9] = [
+const QUESTIONS: [&str; 10] = [
     include_str!("../data/bad-strips.txt"),
     include_str!("../data/document-01.txt"),
     include_str!("../data/document-01-further.txt"),
@@ -32,6 +32,7 @@ const QUESTIONS: [&str; 9] = [
     include_str!("../data/document-02-places.txt"),
     include_str!("../data/document-02-elapsed.txt"),
     include_str!("../data/document-02-bare.txt"),
+    include_str!("../data/document-02-dates.txt"),
     include_str!("../data/printed-messages.txt"),
     include_str!("../data/lines.txt"),
 ];

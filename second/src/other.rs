@@ -47,6 +47,29 @@ fn begins(rank: &mut Option<usize>, key: &[u8]) -> bool {
     in_order
 }
 
+/// The date in a field 18 as spelled.
+pub fn date_of(content: &[u8]) -> Option<&[u8]> {
+    content.split(|&b| b == b' ').find_map(|word| word.strip_prefix(b"DOF/"))
+}
+
+/// A field 18 as spelled, with this date for its own, or put in at its place in the order of keys.
+pub fn with_date(content: &[u8], date: &[u8]) -> Vec<u8> {
+    let item = [b"DOF/", date].concat();
+    if content == b"0" {
+        return item;
+    }
+    let mut words: Vec<&[u8]> = content.split(|&b| b == b' ').filter(|word| !word.starts_with(b"DOF/")).collect();
+    let place = words.iter().position(|word| stands_behind_date(word)).unwrap_or(words.len());
+    words.insert(place, &item);
+    words.join(&b' ')
+}
+
+/// Whether a word begins an item that stands behind the date.
+fn stands_behind_date(word: &[u8]) -> bool {
+    let rank = |key: &[u8]| KEYS.iter().position(|own| *own == key);
+    at_oblique(word).is_some_and(|(key, _)| rank(key) > rank(b"DOF"))
+}
+
 /// The keys that have a single word.
 pub fn is_one_word(key: &[u8]) -> bool {
     matches!(key, b"PBN" | b"DOF" | b"SEL" | b"CODE")

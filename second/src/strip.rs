@@ -8,6 +8,7 @@ use crate::alphabet::{is_four_letters, time_of_day};
 use crate::explained::unexplained;
 use crate::kind::Kind;
 use crate::message::{Reading, LONGEST};
+use crate::other::{date_of, with_date};
 use crate::refusal::Refusal;
 
 /// The flight's state; times are minutes of the day.
@@ -155,6 +156,15 @@ fn is_for(message: &Reading, plan: &Reading) -> bool {
     identification(message) == identification(plan)
         && message.own(13).get(..compared) == plan.own(13).get(..compared)
         && destination(message) == destination(plan)
+        && !on_another_day(message, plan)
+}
+
+/// Whether the message and the plan have dates that differ. A DLA's is not compared, and an ARR has none.
+fn on_another_day(message: &Reading, plan: &Reading) -> bool {
+    match (date_of(message.own(18)), date_of(plan.own(18))) {
+        (Some(date), Some(planned)) => message.kind != Kind::Dla && date != planned,
+        _ => false,
+    }
 }
 
 /// Field 7 without its code.
@@ -193,10 +203,19 @@ fn time_of(content: &[u8]) -> Option<u16> {
 fn amended<'a>(plan: &'a Reading, message: &'a Reading) -> Contents<'a> {
     PLAN_FIELDS.map(|field| match message.kind {
         Kind::Chg => changed(plan, message, field),
-        // The aerodromes are equal, so DLA's whole field 13 brings the time alone.
-        Kind::Dla if field == 13 => message.own(13).into(),
+        Kind::Dla => delayed(plan, message, field),
         _ => plan.own(field).into(),
     })
+}
+
+/// A field as a DLA leaves it: its time and, if it has one, its date are the plan's.
+fn delayed<'a>(plan: &'a Reading, message: &'a Reading, field: u32) -> Cow<'a, [u8]> {
+    match (field, date_of(message.own(18))) {
+        // The aerodromes are equal, so the whole field 13 brings the time alone.
+        (13, _) => message.own(13).into(),
+        (18, Some(date)) => with_date(plan.own(18), date).into(),
+        _ => plan.own(field).into(),
+    }
 }
 
 /// A field as a CHG leaves it: as its entry has it if there is one; of a bare new destination the rest stays.

@@ -71,6 +71,35 @@ fn a_bare_new_destination() {
 }
 
 #[test]
+fn dates() {
+    let strip = |eighteen: &str| STRIP.replace("-0)", &format!("-{eighteen})"));
+    let on = |eighteen: &str, message: &str| {
+        let answer = update(strip(eighteen).as_bytes(), State::Filed, message.as_bytes(), 1800);
+        answer.map(|updated| String::from_utf8(updated.strip).expect("ASCII")).map_err(|r| r.number)
+    };
+    for message in ["(CHG-ABC12-EHAM0930-EDDF-@-8/IS)", "(CNL-ABC12-EHAM0930-EDDF-@)", "(DEP-ABC12-EHAM0930-EDDF-@)"] {
+        let of = |eighteen: &str| message.replace('@', eighteen);
+        assert_eq!(on("DOF/240229", &of("DOF/240301")), Err(12), "{message}");
+        for (planned, sent) in [("DOF/240229", "STS/SAR DOF/240229"), ("DOF/240229", "0"), ("0", "DOF/240229")] {
+            assert_eq!(on(planned, &of(sent)), Ok(strip(planned)), "{message}");
+        }
+    }
+    let delayed = |eighteen: &str, own: &str| on(eighteen, &format!("(DLA-ABC12-EHAM0930-EDDF-{own})"));
+    for (planned, sent, due) in [
+        ("0", "DOF/240301 RMK/X", "DOF/240301"),
+        ("DOF/240229", "DOF/240301", "DOF/240301"),
+        ("DOF/240229", "RMK/X", "DOF/240229"),
+        ("STS/SAR 0 RMK/A", "DOF/240301", ""),
+        ("STS/SAR RMK/A 0", "DOF/240301", "STS/SAR DOF/240301 RMK/A 0"),
+        ("DEST/A REG", "DOF/240301", "DEST/A REG DOF/240301"),
+        ("REG/A B", "DOF/240301", "DOF/240301 REG/A B"),
+    ] {
+        let due = if due.is_empty() { Err(15) } else { Ok(strip(due)) };
+        assert_eq!(delayed(planned, sent), due, "{planned} {sent}");
+    }
+}
+
+#[test]
 fn for_another_flight() {
     let others = [
         "(CHG-ABC13-EHAM0930-EDDF-0-8/IN)",
