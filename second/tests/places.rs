@@ -46,7 +46,17 @@ const FORMS: [(&str, &[&str]); 13] = [
     ("17", &["AAAA0000", "ZZZZ0000 A", "ZZZZ2359 A"]),
     (
         "18",
-        &["0", "CODE/000000", "SEL/AAAA", "DOF/000101", "PBN/A1", "EET/AAAAAAAAAAA0000", "DLE/AA0000", "REG/A RMK/A"],
+        &[
+            "0",
+            "STS/SAR",
+            "CODE/000000",
+            "SEL/AAAA",
+            "DOF/000101",
+            "PBN/A1",
+            "EET/AAAAAAAAAAA0000",
+            "DLE/AA0000",
+            "REG/A RMK/A",
+        ],
     ),
     ("19", &["E/0000 P/0 R/U S/P J/L U D/0 0 C AA A/A N/A C/A", "S/D", "S/M", "S/J", "R/V", "R/E", "J/F V"]),
 ];

@@ -4,7 +4,7 @@ use super::dice::Dice;
 use super::drafts::Draft;
 use crate::forms::Form::{self, *};
 use crate::kind::Kind;
-use crate::other::{KEYS, STATUSES};
+use crate::other::{date_of, KEYS, STATUSES};
 
 const LETTERS: &[u8] = b"ABCDEFGHIJKLMNOPQRSTUVWXYZ";
 const DIGITS: &[u8] = b"0123456789";
@@ -19,6 +19,7 @@ pub struct Flight {
     departure: Vec<u8>,
     off_block: Vec<u8>,
     destination: Vec<u8>,
+    day: Option<Vec<u8>>,
 }
 
 impl Flight {
@@ -30,6 +31,7 @@ impl Flight {
             departure,
             off_block: time(dice),
             destination: aerodrome_or_zzzz(dice),
+            day: some_day(dice, 40),
         }
     }
 
@@ -40,7 +42,8 @@ impl Flight {
         let seven = fields.nth(1).unwrap_or_default();
         let thirteen = fields.nth(3).unwrap_or_default();
         let sixteen = fields.nth(1).unwrap_or_default();
-        let differs = if dice.chance(10) { dice.below(4) } else { 4 };
+        let eighteen = fields.next().unwrap_or_default();
+        let differs = if dice.chance(12) { dice.below(5) } else { 5 };
         if differs != 0 {
             flight.identification = seven.split(|&b| b == b'/').next().unwrap_or_default().to_vec();
         }
@@ -52,6 +55,9 @@ impl Flight {
         }
         if differs != 3 {
             flight.destination = sixteen.iter().take(4).copied().collect();
+        }
+        if differs != 4 {
+            flight.day = date_of(eighteen.strip_suffix(b")").unwrap_or(eighteen)).map(<[u8]>::to_vec);
         }
         flight
     }
@@ -86,11 +92,30 @@ fn with_head(dice: &mut Dice, kind: Kind, flight: &Flight, forms: &[Form]) -> Dr
             F16 => flight.destination.clone(),
             F16Plan => with_alternates(dice, &flight.destination).0,
             F17 if arrives_at_17 => arrival(dice, &flight.destination),
+            F18 => {
+                let day = day_of(dice, kind, flight);
+                other_information(dice, &[], day)
+            }
             _ => content(dice, form),
         };
         draft.push(content);
     }
     draft
+}
+
+/// The day that a message says: mostly the flight's or none; a DLA's is another.
+fn day_of(dice: &mut Dice, kind: Kind, flight: &Flight) -> Option<Vec<u8>> {
+    match &flight.day {
+        _ if kind == Kind::Dla => some_day(dice, 60),
+        Some(day) if dice.chance(60) => Some(day.clone()),
+        Some(_) => some_day(dice, 40),
+        None => some_day(dice, 20),
+    }
+}
+
+/// Any day, so many times in a hundred.
+fn some_day(dice: &mut Dice, percent: usize) -> Option<Vec<u8>> {
+    dice.chance(percent).then(|| date(dice))
 }
 
 /// An FPL; every ZZZZ and AFIL in it is explained in its field 18.
@@ -110,7 +135,7 @@ fn plan(dice: &mut Dice, flight: &Flight) -> Draft {
         [&flight.departure[..], &flight.off_block].concat(),
         content(dice, F15),
         sixteen,
-        other_information(dice, &due),
+        other_information(dice, &due, flight.day.clone()),
     ]
 }
 
@@ -139,7 +164,10 @@ fn entries(dice: &mut Dice, flight: &Flight) -> Vec<Vec<u8>> {
     for number in &numbers[..count] {
         let content = match Form::of_entry(number) {
             Some(F7) if dice.chance(50) => with_code(dice, &flight.identification),
-            Some(F18) if dice.chance(50) => other_information(dice, &[b"DEP", b"DEST", b"TYP", b"ALTN"]),
+            Some(F18) if dice.chance(50) => {
+                let day = some_day(dice, 40);
+                other_information(dice, &[b"DEP", b"DEST", b"TYP", b"ALTN"], day)
+            }
             Some(form) => content(dice, form),
             None => Vec::new(),
         };
@@ -179,7 +207,10 @@ pub fn content(dice: &mut Dice, form: Form) -> Vec<u8> {
             let aerodrome = aerodrome_or_zzzz(dice);
             arrival(dice, &aerodrome)
         }
-        F18 => other_information(dice, &[]),
+        F18 => {
+            let day = some_day(dice, 25);
+            other_information(dice, &[], day)
+        }
         F19 => supplement(dice),
         F22 => Vec::new(),
     }
@@ -500,22 +531,21 @@ fn words(dice: &mut Dice, least: usize, most: usize, word: impl Fn(&mut Dice) ->
     (0..count).map(|_| word(dice)).collect::<Vec<_>>().join(&b' ')
 }
 
-/// Field 18 with the items due and some others.
-fn other_information(dice: &mut Dice, due: &[&[u8]]) -> Vec<u8> {
-    if due.is_empty() && dice.chance(25) {
+/// Field 18 with the items due, the day if there is one, and some other items.
+fn other_information(dice: &mut Dice, due: &[&[u8]], day: Option<Vec<u8>>) -> Vec<u8> {
+    if due.is_empty() && day.is_none() && dice.chance(40) {
         return b"0".to_vec();
     }
     let rate = *dice.pick(&[2, 5, 12, 35]);
-    let mut items: Vec<Vec<u8>> = Vec::new();
+    let mut keys: Vec<&[u8]> = Vec::new();
     for key in KEYS {
-        if due.contains(&key) || dice.chance(rate) {
-            items.push([key, b"/", &item_words(dice, key)].concat());
-        }
+        let chosen = if key == b"DOF" { day.is_some() } else { due.contains(&key) || dice.chance(rate) };
+        keys.extend(chosen.then_some(key));
     }
-    if items.is_empty() {
-        let key = *dice.pick(&KEYS);
-        items.push([key, b"/", &item_words(dice, key)].concat());
+    if keys.is_empty() {
+        keys.push(*dice.pick(&[b"STS", b"PBN", b"DEP", b"REG", b"EET", b"PER", b"RMK"]));
     }
+    let mut items: Vec<Vec<u8>> = keys.iter().map(|key| item(dice, key, &day)).collect();
     if dice.wild() {
         items.push(b"RMK/A/C".to_vec());
     }
@@ -525,23 +555,26 @@ fn other_information(dice: &mut Dice, due: &[&[u8]]) -> Vec<u8> {
     items.join(&b' ')
 }
 
-fn item_words(dice: &mut Dice, key: &[u8]) -> Vec<u8> {
+fn item(dice: &mut Dice, key: &[u8], day: &Option<Vec<u8>>) -> Vec<u8> {
     let one_more = dice.wild();
-    let mut made = match key {
+    let words = match (key, day) {
+        (b"DOF", Some(day)) => day.clone(),
+        _ => item_words(dice, key),
+    };
+    [key, b"/", &words, if one_more { b" MORE" } else { b"" }].concat()
+}
+
+fn item_words(dice: &mut Dice, key: &[u8]) -> Vec<u8> {
+    match key {
         b"STS" if dice.wild() => one_of(dice, &[b"HOS", b"SAR.", b"NONRVS", b"ATFMEX", b"STATEX", b"HUM HEA", b"SA"]),
         b"STS" => words(dice, 1, 3, |dice| one_of(dice, &STATUSES)),
         b"PBN" => some_codes(dice, &["A1", "B123456", "C1234", "D1234", "L1", "O1234", "S12", "T12"], 8, 18),
-        b"DOF" => date(dice),
         b"SEL" => bytes(dice, LETTERS, 4, 4),
         b"CODE" if dice.wild() => exact(dice, SIGNS, 6, 6),
         b"CODE" => bytes(dice, b"0123456789ABCDEF", 6, 6),
         b"EET" | b"DLE" => words(dice, 1, 4, |dice| [bytes(dice, SIGNS, 2, 11), elapsed(dice)].concat()),
         _ => text(dice),
-    };
-    if one_more {
-        made.extend(b" MORE");
     }
-    made
 }
 
 fn date(dice: &mut Dice) -> Vec<u8> {

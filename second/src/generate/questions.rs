@@ -4,7 +4,8 @@ use std::collections::VecDeque;
 
 use super::contents::Flight;
 use super::dice::Dice;
-use super::{contents, damaged, damaged_deep, drafts, form_and_content, long_change, long_plan, offered, valid};
+use super::{contents, damage, drafts, end_with_remark, long_change, long_plan};
+use super::{damaged, damaged_deep, form_and_content, offered, valid};
 use crate::escapes::escaped;
 use crate::kind::Kind;
 use crate::message::{read, LONGEST};
@@ -124,6 +125,7 @@ fn some_strip(dice: &mut Dice) -> Updated {
     let strip = match dice.below(25) {
         0 => no_strip(dice),
         1..=4 => long_plan(dice),
+        5 => full_plan(dice),
         _ => plan(dice),
     };
     let state = if dice.chance(85) { State::Filed } else { some_state(dice) };
@@ -133,6 +135,25 @@ fn some_strip(dice: &mut Dice) -> Updated {
 fn plan(dice: &mut Dice) -> Vec<u8> {
     let flight = Flight::any(dice);
     drafts::plain(&contents::draft(dice, Kind::Fpl, &flight))
+}
+
+/// A plan that leaves less room below 1,800 bytes than a date takes, or hardly more.
+fn full_plan(dice: &mut Dice) -> Vec<u8> {
+    let flight = Flight::any(dice);
+    let mut draft = contents::draft(dice, Kind::Fpl, &flight);
+    end_with_remark(&mut draft);
+    let due = LONGEST - dice.below(16);
+    damage::lengthen(dice, &mut draft, due);
+    let surplus = drafts::plain(&draft).len().saturating_sub(due);
+    if let Some(eighteen) = draft.last_mut() {
+        eighteen.truncate(eighteen.len() - surplus);
+        // No space stands last.
+        if eighteen.ends_with(b" ") {
+            eighteen.pop();
+            eighteen.push(b'X');
+        }
+    }
+    drafts::plain(&draft)
 }
 
 /// A plan that is spelled otherwise or damaged, or another message.
@@ -175,7 +196,9 @@ fn some_aerodrome(dice: &mut Dice) -> [u8; 4] {
 fn message_for(dice: &mut Dice, held: &Updated) -> Vec<u8> {
     let flight = Flight::of_strip(dice, &held.strip);
     let kinds = if dice.chance(3) { &Kind::ALL } else { kinds_for(held.state) };
+    let is_full = held.strip.len() + 16 > LONGEST;
     match *dice.pick(kinds) {
+        _ if is_full && dice.chance(30) => offered(dice, Kind::Dla, &flight),
         Kind::Chg if dice.chance(1) => long_change(dice, &flight),
         Kind::Chg if dice.chance(5) => edge_change(dice, &flight, &held.strip),
         kind => offered(dice, kind, &flight),
