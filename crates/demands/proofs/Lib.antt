@@ -4,3 +4,5 @@ pub mod Pointed
 pub mod Demands
 pub mod Turns
 pub mod Determined
+pub mod Bundles
+pub mod BundleExamples
