@@ -20,9 +20,10 @@ dated own date e = sym (ap (λ (b : Bool). cond b own (withDate date own)) (null
 
 put-requires : tie.Need-put-requires
 put-requires c κs =
-    let s = c .before .before .before .before .before in
+    let t = c .before in
+    let s = t .before .before .before .before in
     let a = s .args in
-    room-same (a .out .now) (sym (kept (a .own .now) (a .date .now) (c .before .if1 .taken))) (s .pre)
+    room-same (a .out .now) (sym (kept (a .own .now) (a .date .now) (t .if1 .taken))) (s .pre)
 
 same-length : tie.Need-same-length
 same-length c = search needs
@@ -35,9 +36,10 @@ returns c =
 
 put-dated-requires : tie.Need-put-dated-requires
 put-dated-requires c κs =
-    let s = c .before .before .before .before .before in
+    let t = c .before in
+    let s = t .before .before .before .before in
     let a = s .args in
-    room-same (a .out .now) (sym (dated (a .own .now) (a .date .now) (c .before .if1 .left))) (s .pre)
+    room-same (a .out .now) (sym (dated (a .own .now) (a .date .now) (t .if1 .left))) (s .pre)
 
 same-length-2 : tie.Need-same-length-2
 same-length-2 c = search needs

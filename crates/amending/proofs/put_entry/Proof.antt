@@ -69,8 +69,9 @@ same-length-2 c = search needs
 
 returns-2 : tie.Need-returns-2
 returns-2 c =
-    let d = c .before .before .before .before .before in
-    put-same (start d .args .out .now) (kept d (c .before .before .before .before .if1 .left)) (c .before .before .put .ensures)
+    let t = c .before .before .before .before in
+    let d = t .before in
+    put-same (start d .args .out .now) (kept d (t .if1 .left)) (c .before .before .put .ensures)
 
 pub put-entry-spec : {M : Type 1} → statement M
 put-entry-spec =
