@@ -4,3 +4,4 @@ pub mod Pointed
 pub mod Demands
 pub mod Turns
 pub mod Determined
+pub mod Rooms

@@ -2,3 +2,4 @@ pub mod Examples
 pub mod Demands
 pub mod Turns
 pub mod Determined
+pub mod Rooms
