@@ -63,7 +63,8 @@ module _ (held next : Strip) (room : ℕ) where
   amended-agrees cs = go (eqb (unexplainedIn cs) 0) refl
     where
       go : (b : Bool) → eqb (unexplainedIn cs) 0 ≡ b
-          → Agree held (cond b NothingMore (Missing (keyFor (unexplainedIn cs) cs))) (cond b (roomAs (messageOf cs) next room) (Refused 10 (unexplainedIn cs) 0))
+          → Agree held (cond b NothingMore (Missing (keyFor (unexplainedIn cs) cs)))
+          (cond b (roomAs (messageOf cs) next room) (Refused 10 (unexplainedIn cs) 0))
       go true e = room-agrees (messageOf cs)
       go false e = ap (λ (f : ℕ). Refused 10 f 0) (sym (key-field cs (eqb-false (unexplainedIn cs) 0 e)))
 

@@ -10,6 +10,7 @@ use Rattle.alphabet.specs.Text.{bytes}
 use Rattle.alphabet.specs.Alphabet.{oneOf}
 use Rattle.text.specs.Words.{Word, split}
 use Rattle.space.specs.Fields.{inner}
+use Rattle.aerodromes.specs.Aerodromes.{fourLetters}
 use Rattle.other.specs.Field18.{hasKey}
 use Rattle.kinds.specs.declared.MessageType.the-variants.{Chg, Dla, Dep}
 use Rattle.kinds.specs.declared.Role.{Role}
@@ -100,7 +101,7 @@ missing : (offeredCause (roleOf Chg) filed justFiled (bytes "CHG-ABC12-EHAM0930-
     × (offeredCause (roleOf Chg) filed justFiled (bytes "CHG-ABC12-EHAM0930-EDDF-0-16/ZZZZ0100 ZZZZ-18/DEST/X") ≡ Missing Altn)
     × (offeredCause (roleOf Chg) filed justFiled (bytes "CHG-ABC12-EHAM0930-EDDF-0-9/ZZZZ/M") ≡ Missing Typ)
     × (offeredCause (roleOf Chg) filed justFiled (bytes "CHG-ABC12-EHAM0930-EDDF-0-13/AFIL0930") ≡ Missing DepKey)
-unfolding offeredCause namedBy labels unexplained hasKey
+unfolding offeredCause namedBy labels fourLetters unexplained hasKey
 missing = (refl, refl, refl, refl)
 
 -- what differs comes before the state, and the state before the plan

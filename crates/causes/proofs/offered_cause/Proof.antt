@@ -41,7 +41,8 @@ returns c =
     let compared = c .before .before in
     let d = compared .before in
     let a = start d .args in
-    differing (a .role) (a .plan .now) (a .held) (a .said .now) _ (says d) _ (compared .differences-in .ensures) (sym (c .before .any .ensures) ∙ c .if1 .taken)
+    differing (a .role) (a .plan .now) (a .held) (a .said .now) _ (says d) _ (compared .differences-in .ensures)
+    (sym (c .before .any .ensures) ∙ c .if1 .taken)
 
 allows-requires : tie.Need-allows-requires
 allows-requires c κs = search needs
@@ -52,7 +53,8 @@ returns-2 c =
     let compared = same .before .before in
     let d = compared .before in
     let a = start d .args in
-    forbidden (a .role) (a .plan .now) (a .held) (a .said .now) _ (says d) _ (compared .differences-in .ensures) (sym (same .before .any .ensures) ∙ same .if1 .left)
+    forbidden (a .role) (a .plan .now) (a .held) (a .said .now) _ (says d) _ (compared .differences-in .ensures)
+    (sym (same .before .any .ensures) ∙ same .if1 .left)
     (sym (c .before .allows .ensures) ∙ not-true _ (c .if2 .taken))
 
 amended-cause-requires : tie.Need-amended-cause-requires
@@ -70,7 +72,8 @@ returns-4 c =
     let compared = same .before .before in
     let d = compared .before in
     let a = start d .args in
-    allowed (a .role) (a .plan .now) (a .held) (a .said .now) _ (says d) _ (compared .differences-in .ensures) (sym (same .before .any .ensures) ∙ same .if1 .left)
+    allowed (a .role) (a .plan .now) (a .held) (a .said .now) _ (says d) _ (compared .differences-in .ensures)
+    (sym (same .before .any .ensures) ∙ same .if1 .left)
     (sym (may .before .allows .ensures) ∙ not-false _ (may .if2 .left)) _ (c .amended-cause .ensures)
 
 pub offered-cause-spec : {M : Type 1} → statement M
