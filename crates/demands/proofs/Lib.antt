@@ -5,3 +5,4 @@ pub mod Demands
 pub mod Turns
 pub mod Determined
 pub mod Rooms
+pub mod Whys

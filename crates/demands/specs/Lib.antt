@@ -3,3 +3,4 @@ pub mod Demands
 pub mod Turns
 pub mod Determined
 pub mod Rooms
+pub mod Whys
