@@ -125,7 +125,7 @@ pub fn update<'a>(strip: &[u8], state: &mut Numbers, message: &[u8], out: &'a mu
 #[derive(Clone, Copy, Debug, PartialEq, Eq)]
 pub enum Cause {
     NothingMore,
-    Another { identification: bool, aerodrome: bool, time: bool, destination: bool },
+    Another { identification: bool, aerodrome: bool, time: bool, destination: bool, date: bool },
     Missing(&'static str),
     Forbidden(Numbers),
 }
@@ -138,7 +138,13 @@ pub fn cause(strip: &[u8], state: &Numbers, message: &[u8]) -> Cause {
     };
     let [_, a, b, c, d, e, f, g, h] = shown;
     match number {
-        12 => Cause::Another { identification: a == 1, aerodrome: b == 1, time: c == 1, destination: d == 1 },
+        12 => Cause::Another {
+            identification: a == 1,
+            aerodrome: b == 1,
+            time: c == 1,
+            destination: d == 1,
+            date: e == 1,
+        },
         10 => Cause::Missing(["TYP", "DEP", "DEST", "ALTN"][a as usize - 1]),
         13 => Cause::Forbidden([a, b, c, d, e, f, g, h]),
         _ => Cause::NothingMore,

@@ -72,7 +72,7 @@ static strip filed(const char *plan)
 /* Shows why a message is refused, behind its number: what differs, the missing key, or the state found. */
 static void print_cause(const strip *held, const char *message)
 {
-    static const char *const values[] = {"IDENTIFICATION", "AERODROME", "TIME", "DESTINATION"};
+    static const char *const values[] = {"IDENTIFICATION", "AERODROME", "TIME", "DESTINATION", "DATE"};
     static const char *const keys[] = {"", "TYP", "DEP", "DEST", "ALTN"};
     beechdoublet_shown cause;
     beechdoublet_state found;
@@ -271,6 +271,13 @@ static void show_flight(strip *held)
     show_plan(held->bytes, held->length);
 }
 
+/* A departure on another day than the strip's. */
+static void show_another_day(void)
+{
+    strip held = filed("(FPL-ABC12-IS-B738/M-SDFG/S-EHAM0930-N0440F310 DCT PAM DCT-EDDF0100 EDDK-DOF/240229)");
+    offer(&held, "(DEP-ABC12-EHAM0941-EDDF-DOF/240301)", BEECHDOUBLET_MOST);
+}
+
 /* Offers a message to a strip and lends the strip's own bytes as the output. That is not a call, and the strip stays as it was. */
 static void offer_in_place(strip *held, const char *message)
 {
@@ -317,6 +324,7 @@ int main(void)
     show_plans();
     show_states(&held);
     show_flight(&held);
+    show_another_day();
     show_no_calls();
     return 0;
 }

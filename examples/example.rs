@@ -57,11 +57,12 @@ fn show_reading(message: &[u8], room: usize) {
 fn why(cause: Cause) -> String {
     match cause {
         Cause::NothingMore => String::new(),
-        Cause::Another { identification, aerodrome, time, destination } => [
+        Cause::Another { identification, aerodrome, time, destination, date } => [
             (identification, " IDENTIFICATION"),
             (aerodrome, " AERODROME"),
             (time, " TIME"),
             (destination, " DESTINATION"),
+            (date, " DATE"),
         ]
         .iter()
         .filter(|(differs, _)| *differs)
@@ -194,16 +195,29 @@ fn show_flight(held: &mut Strip) {
     show_plan(&held.spelling);
 }
 
-fn run() {
+/// A departure on another day than the strip's.
+fn show_another_day() {
+    let plan = b"(FPL-ABC12-IS-B738/M-SDFG/S-EHAM0930-N0440F310 DCT PAM DCT-EDDF0100 EDDK-DOF/240229)";
+    let Some(mut held) = filed(plan) else { return };
+    offer(&mut held, b"(DEP-ABC12-EHAM0941-EDDF-DOF/240301)", MOST);
+}
+
+/// A filed strip: the spelling of an FPL.
+fn filed(plan: &[u8]) -> Option<Strip> {
     let mut out = [0; MOST];
-    let Ok((1, spelling)) = read(PLAN, &mut out) else { return };
-    let mut held = Strip { spelling: spelling.to_vec(), state: State::Filed.numbers() };
+    let Ok((1, spelling)) = read(plan, &mut out) else { return None };
+    Some(Strip { spelling: spelling.to_vec(), state: State::Filed.numbers() })
+}
+
+fn run() {
+    let Some(mut held) = filed(PLAN) else { return };
     show_readings();
     show_parts(&held);
     show_fields();
     show_plans();
     show_states(&held);
     show_flight(&mut held);
+    show_another_day();
 }
 
 #[cfg(not(emulated))]

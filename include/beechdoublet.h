@@ -57,6 +57,7 @@ extern "C" {
 #define BEECHDOUBLET_AERODROME 1
 #define BEECHDOUBLET_TIME 2
 #define BEECHDOUBLET_DESTINATION 3
+#define BEECHDOUBLET_DATE 4
 
 /* The keys of field 18 that may be missing where an update gives 10. */
 #define BEECHDOUBLET_KEY_TYP 1

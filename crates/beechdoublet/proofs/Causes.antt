@@ -41,10 +41,11 @@ setBack ns =
       aerodrome = flagged (getD ns 2 0);
       time = flagged (getD ns 3 0);
       destination = flagged (getD ns 4 0);
+      date = flagged (getD ns 5 0);
     }
 
 set-back : (d : Differences) → setBack (setNumbers d) ≡ d
-set-back d = rw (flag-back (d .identification), flag-back (d .aerodrome), flag-back (d .time), flag-back (d .destination))
+set-back d = rw (flag-back (d .identification), flag-back (d .aerodrome), flag-back (d .time), flag-back (d .destination), flag-back (d .date))
 
 abbrev keyBack : ℕ → Key
 keyBack n = cond (eqb n 1) Typ (cond (eqb n 2) Dep (cond (eqb n 3) Dest Altn))

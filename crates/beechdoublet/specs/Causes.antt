@@ -1,6 +1,6 @@
 -- The cause of an update's answer as nine plain numbers. Assumes nothing.
 --     number (0 nothing more, 10, 12, 13), and then
---     for 12: whether identification, aerodrome, time and destination differ (1, or 0)
+--     for 12: whether identification, aerodrome, time, destination and date differ (1, or 0)
 --     for 10: the missing key (1 TYP, 2 DEP, 3 DEST, 4 ALTN)
 --     for 13: the eight numbers of the state found
 -- What is not used is 0.
@@ -24,7 +24,7 @@ flag b = cond b 1 0
 
 abbrev pub setNumbers : Differences → List ℕ
 setNumbers d =
-    12 ∷ flag (d .identification) ∷ flag (d .aerodrome) ∷ flag (d .time) ∷ flag (d .destination) ∷ 0 ∷ 0 ∷ 0 ∷ 0 ∷ []
+    12 ∷ flag (d .identification) ∷ flag (d .aerodrome) ∷ flag (d .time) ∷ flag (d .destination) ∷ flag (d .date) ∷ 0 ∷ 0 ∷ 0 ∷ []
 
 abbrev pub keyNumber : Key → ℕ
 keyNumber Typ = 1
@@ -51,7 +51,7 @@ causeAs NoState strip m = NothingMore
 
 -- EXAMPLES, computed: another time and destination, no DEST, off at 1021
 
-laid-out : (causeNumbers (Another (record { identification = false; aerodrome = false; time = true; destination = true }))
+laid-out : (causeNumbers (Another (record { identification = false; aerodrome = false; time = true; destination = true; date = false }))
     ≡ 12 ∷ 0 ∷ 0 ∷ 1 ∷ 1 ∷ 0 ∷ 0 ∷ 0 ∷ 0 ∷ [])
     × (causeNumbers (Missing Dest) ≡ 10 ∷ 3 ∷ 0 ∷ 0 ∷ 0 ∷ 0 ∷ 0 ∷ 0 ∷ 0 ∷ [])
     × (causeNumbers (Forbidden (Departed (record { 0 = 621 }))) ≡ 13 ∷ 1 ∷ 1 ∷ 621 ∷ 0 ∷ 0 ∷ 0 ∷ 0 ∷ 0 ∷ [])

@@ -459,7 +459,7 @@ fn set_numbers(d: Differences) -> [u64; 9]
         flag_of(d.aerodrome),
         flag_of(d.time),
         flag_of(d.destination),
-        0,
+        flag_of(d.date),
         0,
         0,
         0,

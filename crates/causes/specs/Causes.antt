@@ -11,7 +11,7 @@ use Rattle.alphabet.specs.Alphabet.{oneOf}
 use Rattle.text.specs.Words.{Word, split}
 use Rattle.space.specs.Fields.{inner}
 use Rattle.aerodromes.specs.Aerodromes.{fourLetters}
-use Rattle.other.specs.Field18.{hasKey}
+use Rattle.other.specs.Field18.{hasKey, wordsUnder}
 use Rattle.kinds.specs.declared.MessageType.the-variants.{Chg, Dla, Dep}
 use Rattle.kinds.specs.declared.Role.{Role}
 use Rattle.kinds.specs.Kinds.{roleOf, plan16, plan18}
@@ -89,23 +89,32 @@ Agree held (Forbidden state) answer = (answer ≡ Refused 13 0 0) × (state ≡ 
 abbrev filed : List ℕ
 filed = bytes "FPL-ABC12-IS-B738/M-SDFG/S-EHAM0930-N0440F310 DCT PAM DCT-EDDF0100 EDDK-0"
 
+abbrev dayFiled : List ℕ
+dayFiled = bytes "FPL-ABC12-IS-B738/M-SDFG/S-EHAM0930-N0440F310 DCT PAM DCT-EDDF0100 EDDK-DOF/240229"
+
 abbrev gone : Strip
 gone = record { state = Departed (record { 0 = 621 }) }
 
 compared : offeredCause (roleOf Chg) filed justFiled (bytes "CHG-ABC12-EHAM0931-EDDK-0-8/IN")
-    ≡ Another (differences (roleOf Chg) (split 45 filed) (split 45 (bytes "CHG-ABC12-EHAM0931-EDDK-0-8/IN")))
-unfolding offeredCause
+    ≡ Another (record { identification = false; aerodrome = false; time = true; destination = true; date = false })
+unfolding offeredCause wordsUnder
 compared = refl
+
+-- another day, where both carry a date
+dated : offeredCause (roleOf Dep) dayFiled justFiled (bytes "DEP-ABC12-EHAM0941-EDDF-DOF/240301")
+    ≡ Another (record { identification = false; aerodrome = false; time = false; destination = false; date = true })
+unfolding offeredCause wordsUnder
+dated = refl
 
 missing : (offeredCause (roleOf Chg) filed justFiled (bytes "CHG-ABC12-EHAM0930-EDDF-0-16/ZZZZ0100 ZZZZ") ≡ Missing Dest)
     × (offeredCause (roleOf Chg) filed justFiled (bytes "CHG-ABC12-EHAM0930-EDDF-0-16/ZZZZ0100 ZZZZ-18/DEST/X") ≡ Missing Altn)
     × (offeredCause (roleOf Chg) filed justFiled (bytes "CHG-ABC12-EHAM0930-EDDF-0-9/ZZZZ/M") ≡ Missing Typ)
     × (offeredCause (roleOf Chg) filed justFiled (bytes "CHG-ABC12-EHAM0930-EDDF-0-13/AFIL0930") ≡ Missing DepKey)
-unfolding offeredCause namedBy labels fourLetters unexplained hasKey
+unfolding offeredCause namedBy labels fourLetters unexplained hasKey wordsUnder
 missing = (refl, refl, refl, refl)
 
 -- what differs comes before the state, and the state before the plan
 found : (offeredCause (roleOf Dla) filed gone (bytes "DLA-ABC12-EHAM1015-EDDF-0") ≡ Forbidden (gone .state))
     × (offeredCause (roleOf Dep) filed justFiled (bytes "DEP-ABC12-EHAM0941-EDDF-0") ≡ NothingMore)
-unfolding offeredCause unexplained hasKey
+unfolding offeredCause unexplained hasKey wordsUnder
 found = (refl, refl)

@@ -8,16 +8,17 @@ use lib.Dec.{eqb, ltb}
 use lib.ListN.{take, drop, getD}
 use borrow.Author.Tests.{ltb-true, ltb-false}
 use Rattle.alphabet.specs.Alphabet.{oneOf}
-use Rattle.text.specs.Words.{Word, split, before, same}
+use Rattle.text.specs.Words.{Word, split, before, null, same}
 use Rattle.text.proofs.Tests.{both, and-both, same-eq, same-self}
 use Rattle.space.specs.Fields.{inner}
 use Rattle.outer.specs.Outer.{most}
 use Rattle.sent.specs.Sent.{contents}
 use Rattle.other.specs.Field18.{hasKey}
+use Rattle.dates.specs.Dates.{dateIn}
 use Rattle.kinds.specs.declared.MessageType.{MessageType}
 use Rattle.kinds.specs.declared.Role.{Role}
 use Rattle.kinds.specs.declared.Role.the-variants.{Files, Changes, Delays, Cancels, Departs, Arrives, Neither}
-use Rattle.kinds.specs.Kinds.{roleOf, plan7, plan13, plan16, plan18, brief7, brief13, brief16}
+use Rattle.kinds.specs.Kinds.{roleOf, plan7, plan13, plan16, plan18, brief7, brief13, brief16, brief18}
 use Rattle.plan.specs.Unexplained.{unexplained}
 use Rattle.message.specs.declared.Answer.{Answer}
 use Rattle.message.specs.Reading.{unexplainedIn, answerOf}
@@ -32,20 +33,22 @@ use Rattle.strip.specs.declared.Differences.{Differences}
 use Rattle.strip.specs.declared.Offered.{Offered}
 use Rattle.strip.specs.declared.Offered.the-variants.{Says, Unfit}
 use Rattle.strip.specs.declared.Updated.the-variants.{Refused}
-use Rattle.strip.specs.Updating.{eventOf, comparesTime, differences, differs, updateOf}
+use Rattle.strip.specs.Updating.{eventOf, comparesTime, comparesDate, otherDay, differences, differs, updateOf}
 use Rattle.causes.specs.declared.Key.{Key}
 use Rattle.causes.specs.declared.Key.the-variants.{Typ, Dep, Dest, Altn}
 use Rattle.causes.specs.declared.Cause.{Cause as Shown}
 use Rattle.causes.specs.declared.Cause.the-variants.{NothingMore, Another, Missing, Forbidden}
 use Rattle.causes.specs.Causes.{keyFor, eventCause, offeredCause, openedCause, causeOf, fieldFor, showsNothing, Agree}
 use Rattle.causes.proofs.Agreed.{agrees}
+use Rattle.history.specs.Eighteen.{dateTold}
 use Rattle.history.specs.History.{Plan, planIn, nine, Told}
 use Rattle.history.specs.Demand3.{fitRole, TimeToo, Same, allowed, planOn, amendedOn, told, toldAs, Passes, Cause}
 use Rattle.history.specs.Demand3.Cause.{not-proper, not-read, not-fit, no-type, another-flight, not-allowed as forbidden-there}
 use Rattle.history.specs.Demand3.Cause.{unexplained as left-unexplained, too-long, no-room}
+use Rattle.history.proofs.Eighteen.{date-told}
 use Rattle.history.proofs.Strip.{plain, said-contents, proper-stripped, proper-tested, plan-contents}
 use Rattle.history.proofs.Causes.{told-is, amended-on, refused-cause, cause-refused}
-use Rattle.demands.specs.Whys.{Sorted, ofEach, TheSet, nameOf, wants, rankOf, Lacks, Heard, Why}
+use Rattle.demands.specs.Whys.{Sorted, ofEach, ofDates, TheSet, nameOf, wants, rankOf, Lacks, Heard, Why}
 use Rattle.demands.specs.Whys.Why.{differing, not-allowed, lacking, no-more}
 
 -- THE SET
@@ -75,6 +78,32 @@ sorted-time Departs v w = beside v w
 sorted-time Files v w = beside v w
 sorted-time Neither v w = beside v w
 
+-- the dates, where both carry one
+some-byte : (x : ℕ) (v : Word) → x ∷ v ≡ [] → ⊥
+some-byte x v e = false≢true (ap null e)
+
+sorted-day : (v w : Word) → Sorted (λ P. (v ≡ [] → ⊥) → (w ≡ [] → ⊥) → P) (otherDay v w) v w
+sorted-day [] w = record { unequal = λ e q. false≢true e; equal = λ e a b. absurd (a refl); compared = λ e. refl }
+sorted-day (x ∷ v) [] = record { unequal = λ e q. false≢true e; equal = λ e a b. absurd (b refl); compared = λ e. refl }
+sorted-day (x ∷ v) (y ∷ w) =
+    let s = sorted (x ∷ v) (y ∷ w) in
+    record { unequal = s .unequal; equal = λ e a b. s .equal e; compared = λ e. absurd (e (some-byte x v) (some-byte y w)) }
+
+sorted-date : (role : Role) (v w : Word) → Sorted (ofDates role v w) (comparesDate role && otherDay v w) v w
+sorted-date Changes v w = sorted-day v w
+sorted-date Cancels v w = sorted-day v w
+sorted-date Departs v w = sorted-day v w
+sorted-date Delays v w = beside v w
+sorted-date Arrives v w = beside v w
+sorted-date Files v w = beside v w
+sorted-date Neither v w = beside v w
+
+date-told-sorted : (role : Role) (c d : Word)
+    → Sorted (ofDates role (dateTold c) (dateTold d)) (comparesDate role && otherDay (dateIn c) (dateIn d)) (dateTold c) (dateTold d)
+date-told-sorted role c d =
+    subst (λ (b : Bool). Sorted (ofDates role (dateTold c) (dateTold d)) b (dateTold c) (dateTold d))
+    (ap₂ (λ (v w : Word). comparesDate role && otherDay v w) (date-told c) (date-told d)) (sorted-date role (dateTold c) (dateTold d))
+
 the-set : (t : MessageType) (ps cs : List Word) → TheSet (planIn ps) (record { type = t; fields = cs }) (differences (roleOf t) ps cs)
 the-set t ps cs =
     record {
@@ -82,6 +111,7 @@ the-set t ps cs =
       aerodrome-sorted = sorted (take 4 (getD ps plan13 [])) (take 4 (getD cs brief13 []));
       time-sorted = sorted-time (roleOf t) (drop 4 (getD ps plan13 [])) (drop 4 (getD cs brief13 []));
       destination-sorted = sorted (take 4 (getD ps plan16 [])) (take 4 (getD cs brief16 []));
+      date-sorted = date-told-sorted (roleOf t) (getD ps plan18 []) (getD cs brief18 []);
     }
 
 -- there is one such set
@@ -102,23 +132,34 @@ time-passing Departs P Q f p = tt
 time-passing Files P Q f p = tt
 time-passing Neither P Q f p = tt
 
+date-passing : (role : Role) (v w : Word) → Passing (ofDates role v w)
+date-passing Changes v w P Q f p = λ a b. f (p a b)
+date-passing Cancels v w P Q f p = λ a b. f (p a b)
+date-passing Departs v w P Q f p = λ a b. f (p a b)
+date-passing Delays v w P Q f p = tt
+date-passing Arrives v w P Q f p = tt
+date-passing Files v w P Q f p = tt
+date-passing Neither v w P Q f p = tt
+
 sorted-one : {asks : Type 0 → Type 0} → Passing asks → (a b : Bool) (v w : Word) → Sorted asks a v w → Sorted asks b v w → a ≡ b
 sorted-one f true true v w s z = refl
 sorted-one f false false v w s z = refl
 sorted-one f true false v w s z = s .compared (f (v ≡ w) ⊥ (s .unequal refl) (z .equal refl))
 sorted-one f false true v w s z = sym (z .compared (f (v ≡ w) ⊥ (z .unequal refl) (s .equal refl)))
 
-abbrev setOf : Bool → Bool → Bool → Bool → Differences
-setOf i a t d = record { identification = i; aerodrome = a; time = t; destination = d }
+abbrev setOf : Bool → Bool → Bool → Bool → Bool → Differences
+setOf i a t f d = record { identification = i; aerodrome = a; time = t; destination = f; date = d }
 
 set-one : (p : Plan) (m : Told) (d e : Differences) → TheSet p m d → TheSet p m e → d ≡ e
 set-one p m d e s z =
-    ap₂ (λ (i a : Bool). setOf i a (d .time) (d .destination))
+    ap₂ (λ (i a : Bool). setOf i a (d .time) (d .destination) (d .date))
     (sorted-one of-each _ _ _ _ (s .identification-sorted) (z .identification-sorted))
     (sorted-one of-each _ _ _ _ (s .aerodrome-sorted) (z .aerodrome-sorted))
-    ∙ ap₂ (λ (t f : Bool). setOf (e .identification) (e .aerodrome) t f)
+    ∙ ap₂ (λ (t f : Bool). setOf (e .identification) (e .aerodrome) t f (d .date))
     (sorted-one (time-passing (roleOf (m .type))) _ _ _ _ (s .time-sorted) (z .time-sorted))
     (sorted-one of-each _ _ _ _ (s .destination-sorted) (z .destination-sorted))
+    ∙ ap (λ (b : Bool). setOf (e .identification) (e .aerodrome) (e .time) (e .destination) b)
+    (sorted-one (date-passing (roleOf (m .type)) _ _) _ _ _ _ (s .date-sorted) (z .date-sorted))
 
 -- THE KEY
 

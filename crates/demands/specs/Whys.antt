@@ -14,7 +14,8 @@ use Rattle.aerodromes.specs.Aerodromes.{aerodromeOf}
 use Rattle.aerodromes.specs.Asked.{hasAlternate}
 use Rattle.other.specs.Field18.{hasKey}
 use Rattle.kinds.specs.declared.MessageType.{MessageType}
-use Rattle.kinds.specs.Kinds.{roleOf, plan9, plan13, plan16, plan18, brief7, brief13, brief16}
+use Rattle.kinds.specs.declared.Role.{Role}
+use Rattle.kinds.specs.Kinds.{roleOf, plan9, plan13, plan16, plan18, brief7, brief13, brief16, brief18}
 use Rattle.plan.specs.Unexplained.{unlisted, filedInFlight}
 use Rattle.message.specs.declared.Answer.the-variants.{Accepted as ReadAs}
 use Rattle.message.specs.Reading.{answerOf}
@@ -24,9 +25,10 @@ use Rattle.causes.specs.declared.Key.{Key}
 use Rattle.causes.specs.declared.Key.the-variants.{Typ, Dep, Dest, Altn}
 use Rattle.causes.specs.declared.Cause.{Cause as Shown}
 use Rattle.causes.specs.declared.Cause.the-variants.{NothingMore, Another, Missing, Forbidden}
+use Rattle.history.specs.Eighteen.{dateTold}
 use Rattle.history.specs.History.{Plan, nine, Told}
-use Rattle.history.specs.History.Part.{identification, aerodrome, offBlock, destination}
-use Rattle.history.specs.Demand3.{Proper, fitType, TimeToo, Same, allowed, planOn, amendedOn, told, Passes, Cause}
+use Rattle.history.specs.History.Part.{identification, aerodrome, offBlock, destination, date}
+use Rattle.history.specs.Demand3.{Proper, fitType, TimeToo, DateToo, Same, allowed, planOn, amendedOn, told, Passes, Cause}
 
 -- 12: THE SET OF WHAT DIFFERS
 
@@ -42,11 +44,17 @@ pub record Sorted (asks : Type 0 → Type 0) (inSet : Bool) (ours theirs : List 
 abbrev pub ofEach : Type 0 → Type 0
 ofEach question = question
 
+-- of dates, each nothing where there is none: where both carry one
+abbrev pub ofDates : Role → Word → Word → Type 0 → Type 0
+ofDates role ours theirs question = DateToo role ((ours ≡ [] → ⊥) → (theirs ≡ [] → ⊥) → question)
+
 pub record TheSet (p : Plan) (m : Told) (d : Differences) : Type 0 where
   pub identification-sorted : Sorted ofEach (d .identification) (before 47 (p identification)) (before 47 (getD (m .fields) brief7 []))
   pub aerodrome-sorted : Sorted ofEach (d .aerodrome) (p aerodrome) (take 4 (getD (m .fields) brief13 []))
   pub time-sorted : Sorted (TimeToo (roleOf (m .type))) (d .time) (p offBlock) (drop 4 (getD (m .fields) brief13 []))
   pub destination-sorted : Sorted ofEach (d .destination) (p destination) (take 4 (getD (m .fields) brief16 []))
+  pub date-sorted :
+      Sorted (ofDates (roleOf (m .type)) (p date) (dateTold (getD (m .fields) brief18 []))) (d .date) (p date) (dateTold (getD (m .fields) brief18 []))
 
 -- 10: THE MISSING KEY, of a plan's nine contents
 

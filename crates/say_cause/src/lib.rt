@@ -16,6 +16,7 @@ fn differences(d: Differences) {
     name(d.aerodrome, b"AERODROME");
     name(d.time, b"TIME");
     name(d.destination, b"DESTINATION");
+    name(d.date, b"DATE");
 }
 
 fn key(k: Key) {
