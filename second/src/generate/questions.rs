@@ -9,7 +9,8 @@ use super::{damaged, damaged_deep, form_and_content, offered, valid};
 use crate::escapes::escaped;
 use crate::kind::Kind;
 use crate::message::{read, LONGEST};
-use crate::strip::{update, State, Updated, PLAN_FIELDS};
+use crate::state::State;
+use crate::strip::{update, Updated, PLAN_FIELDS};
 
 /// A line for the vectors program.
 pub type Line = Vec<u8>;
