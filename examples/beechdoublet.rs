@@ -23,6 +23,14 @@ extern "C" {
         room: usize,
         answer: &mut [u64; 4],
     ) -> u8;
+    fn beechdoublet_cause(
+        strip: *const u8,
+        strip_length: usize,
+        state: &Numbers,
+        message: *const u8,
+        length: usize,
+        cause: &mut [u64; 9],
+    ) -> u8;
     fn beechdoublet_in_force(
         strip: *const u8,
         strip_length: usize,
@@ -111,6 +119,36 @@ pub fn update<'a>(strip: &[u8], state: &mut Numbers, message: &[u8], out: &'a mu
     let [_, field, place, length] = answer;
     refused(number, field, place)?;
     Ok(&out[..length as usize])
+}
+
+/// What is shown of a refused update: what differs, the missing key of field 18, or the state found.
+#[derive(Clone, Copy, Debug, PartialEq, Eq)]
+pub enum Cause {
+    NothingMore,
+    Another { identification: bool, aerodrome: bool, time: bool, destination: bool, date: bool },
+    Missing(&'static str),
+    Forbidden(Numbers),
+}
+
+/// Why an update of a strip by a message is refused, however much room is lent to it.
+pub fn cause(strip: &[u8], state: &Numbers, message: &[u8]) -> Cause {
+    let mut shown = [0; 9];
+    let number = unsafe {
+        beechdoublet_cause(strip.as_ptr(), strip.len(), state, message.as_ptr(), message.len(), &mut shown)
+    };
+    let [_, a, b, c, d, e, f, g, h] = shown;
+    match number {
+        12 => Cause::Another {
+            identification: a == 1,
+            aerodrome: b == 1,
+            time: c == 1,
+            destination: d == 1,
+            date: e == 1,
+        },
+        10 => Cause::Missing(["TYP", "DEP", "DEST", "ALTN"][a as usize - 1]),
+        13 => Cause::Forbidden([a, b, c, d, e, f, g, h]),
+        _ => Cause::NothingMore,
+    }
 }
 
 /// A field in force, and where it stands.

@@ -1,6 +1,6 @@
 /*
- * Beechdoublet from C: reads messages, files a strip, keeps it up to date, asks for a field in force, shows fields and the parts of plans, and what
- * is not a call. Every line that it writes stands in examples/expected.txt, and of the last in examples/expected-c.txt.
+ * Beechdoublet from C: reads messages, files a strip, keeps it up to date, says why it is not, asks for a field in force, shows fields and the parts of
+ * plans, and what is not a call. Every line that it writes stands in examples/expected.txt, and of the last in examples/expected-c.txt.
  */
 #include <inttypes.h>
 #include <stdio.h>
@@ -69,13 +69,49 @@ static strip filed(const char *plan)
     return held;
 }
 
+/* Shows why a message is refused, behind its number: what differs, the missing key, or the state found. */
+static void print_cause(const strip *held, const char *message)
+{
+    static const char *const values[] = {"IDENTIFICATION", "AERODROME", "TIME", "DESTINATION", "DATE"};
+    static const char *const keys[] = {"", "TYP", "DEP", "DEST", "ALTN"};
+    beechdoublet_shown cause;
+    beechdoublet_state found;
+    size_t i;
+    switch (beechdoublet_cause(held->bytes, held->length, &held->state, bytes_of(message), strlen(message), &cause)) {
+    case 12:
+        for (i = 0; i < sizeof values / sizeof values[0]; i++) {
+            if (cause.shown[i] != 0) {
+                printf(" %s", values[i]);
+            }
+        }
+        break;
+    case 10:
+        printf(" %s", keys[cause.shown[0]]);
+        break;
+    case 13:
+        memcpy(&found, cause.shown, sizeof found);
+        printf(" ");
+        print_state(&found);
+        break;
+    default: /* nothing more is shown */
+        break;
+    }
+}
+
+static void tell_why(const strip *held, const char *message, const beechdoublet_updating *answer)
+{
+    printf("NO %" PRIu64 " %" PRIu64 " %" PRIu64, answer->number, answer->field, answer->place);
+    print_cause(held, message);
+    printf("\n");
+}
+
 /* Offers a message to a strip. The new strip comes in another buffer, from which it is copied back. */
 static void offer(strip *held, const char *message, size_t room)
 {
     uint8_t out[BEECHDOUBLET_MOST];
     beechdoublet_updating answer;
     if (beechdoublet_update(held->bytes, held->length, &held->state, bytes_of(message), strlen(message), out, room, &answer) != 0) {
-        tell_refusal(answer.number, answer.field, answer.place);
+        tell_why(held, message, &answer);
         return;
     }
     held->length = (size_t)answer.length;
@@ -225,6 +261,7 @@ static void show_flight(strip *held)
     offer(held, "(CHG-ABC13-EHAM0930-EDDF-0-8/IS)", BEECHDOUBLET_MOST);
     offer(held, "(DLA-ABC12-EHAM0935-EDDF-0)", 0);
     offer(held, "(DLA-ABC12-EHAM0935-EDDF-0)", BEECHDOUBLET_MOST);
+    offer(held, "(CHG-ABC12-EHAM0930-EDDK-0-8/IS)", BEECHDOUBLET_MOST);
     offer(held, "(RQP-ABC12-EHAM0935-EDDF-0)", BEECHDOUBLET_MOST);
     offer(held, "(CHG-ABC12-EHAM0935-EDDF-0-16/ZZZZ0100)", BEECHDOUBLET_MOST);
     offer(held, DEPARTURE, BEECHDOUBLET_MOST);
@@ -232,6 +269,13 @@ static void show_flight(strip *held)
     offer(held, "(ARR-ABC12-EHAM0935-EDDF-EDDK1042)", BEECHDOUBLET_MOST);
     offer(held, CHANGE, BEECHDOUBLET_MOST);
     show_plan(held->bytes, held->length);
+}
+
+/* A departure on another day than the strip's. */
+static void show_another_day(void)
+{
+    strip held = filed("(FPL-ABC12-IS-B738/M-SDFG/S-EHAM0930-N0440F310 DCT PAM DCT-EDDF0100 EDDK-DOF/240229)");
+    offer(&held, "(DEP-ABC12-EHAM0941-EDDF-DOF/240301)", BEECHDOUBLET_MOST);
 }
 
 /* Offers a message to a strip and lends the strip's own bytes as the output. That is not a call, and the strip stays as it was. */
@@ -280,6 +324,7 @@ int main(void)
     show_plans();
     show_states(&held);
     show_flight(&held);
+    show_another_day();
     show_no_calls();
     return 0;
 }

@@ -1,10 +1,11 @@
-//! Beechdoublet from Rust: reads messages, files a strip, keeps it up to date, asks for a field in force, and shows fields and the parts of plans.
+//! Beechdoublet from Rust: reads messages, files a strip, keeps it up to date, says why it is not, asks for a field in force, and shows fields and the
+//! parts of plans.
 //! Every line that it writes stands in examples/expected.txt.
 #![cfg_attr(emulated, no_main)]
 
 mod beechdoublet;
 
-use beechdoublet::{field, in_force, is_sound, plan, read, update, Numbers, Part, Refusal, State, MOST};
+use beechdoublet::{cause, field, in_force, is_sound, plan, read, update, Cause, Numbers, Part, Refusal, State, MOST};
 
 const TYPES: [&str; 10] = ["", "FPL", "CHG", "CNL", "DLA", "DEP", "ARR", "RQP", "RQS", "SPL"];
 const PLAN: &[u8] = b"(FPL-ABC12-IS-B738/M-SDFG/S-EHAM0930-N0440F310 DCT PAM DCT-EDDF0100 EDDK-0)";
@@ -52,6 +53,26 @@ fn show_reading(message: &[u8], room: usize) {
     }
 }
 
+/// Why a message is refused, behind its number: what differs, the missing key, or the state found.
+fn why(cause: Cause) -> String {
+    match cause {
+        Cause::NothingMore => String::new(),
+        Cause::Another { identification, aerodrome, time, destination, date } => [
+            (identification, " IDENTIFICATION"),
+            (aerodrome, " AERODROME"),
+            (time, " TIME"),
+            (destination, " DESTINATION"),
+            (date, " DATE"),
+        ]
+        .iter()
+        .filter(|(differs, _)| *differs)
+        .map(|(_, name)| *name)
+        .collect(),
+        Cause::Missing(key) => format!(" {key}"),
+        Cause::Forbidden(state) => format!(" {}", shown(&state)),
+    }
+}
+
 /// Offers a message to a strip. The new strip comes in another buffer, which then takes the old one's place.
 fn offer(held: &mut Strip, message: &[u8], room: usize) {
     let mut out = vec![0; room];
@@ -62,7 +83,7 @@ fn offer(held: &mut Strip, message: &[u8], room: usize) {
             out.truncate(length);
             held.spelling = out;
         }
-        Err(why) => println!("{}", refusal(why)),
+        Err(refused) => println!("{}{}", refusal(refused), why(cause(&held.spelling, &held.state, message))),
     }
 }
 
@@ -164,6 +185,7 @@ fn show_flight(held: &mut Strip) {
     offer(held, b"(CHG-ABC13-EHAM0930-EDDF-0-8/IS)", MOST);
     offer(held, b"(DLA-ABC12-EHAM0935-EDDF-0)", 0);
     offer(held, b"(DLA-ABC12-EHAM0935-EDDF-0)", MOST);
+    offer(held, b"(CHG-ABC12-EHAM0930-EDDK-0-8/IS)", MOST);
     offer(held, b"(RQP-ABC12-EHAM0935-EDDF-0)", MOST);
     offer(held, b"(CHG-ABC12-EHAM0935-EDDF-0-16/ZZZZ0100)", MOST);
     offer(held, DEPARTURE, MOST);
@@ -173,16 +195,29 @@ fn show_flight(held: &mut Strip) {
     show_plan(&held.spelling);
 }
 
-fn run() {
+/// A departure on another day than the strip's.
+fn show_another_day() {
+    let plan = b"(FPL-ABC12-IS-B738/M-SDFG/S-EHAM0930-N0440F310 DCT PAM DCT-EDDF0100 EDDK-DOF/240229)";
+    let Some(mut held) = filed(plan) else { return };
+    offer(&mut held, b"(DEP-ABC12-EHAM0941-EDDF-DOF/240301)", MOST);
+}
+
+/// A filed strip: the spelling of an FPL.
+fn filed(plan: &[u8]) -> Option<Strip> {
     let mut out = [0; MOST];
-    let Ok((1, spelling)) = read(PLAN, &mut out) else { return };
-    let mut held = Strip { spelling: spelling.to_vec(), state: State::Filed.numbers() };
+    let Ok((1, spelling)) = read(plan, &mut out) else { return None };
+    Some(Strip { spelling: spelling.to_vec(), state: State::Filed.numbers() })
+}
+
+fn run() {
+    let Some(mut held) = filed(PLAN) else { return };
     show_readings();
     show_parts(&held);
     show_fields();
     show_plans();
     show_states(&held);
     show_flight(&mut held);
+    show_another_day();
 }
 
 #[cfg(not(emulated))]

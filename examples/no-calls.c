@@ -44,6 +44,12 @@ static uint8_t update_row(const row *r)
                                at(r->out), r->out_length, (beechdoublet_updating *)(void *)at(r->answer));
 }
 
+static uint8_t cause_row(const row *r)
+{
+    return beechdoublet_cause(at(r->first), r->first_length, (const beechdoublet_state *)(void *)at(r->state), at(r->second), r->second_length,
+                              (beechdoublet_shown *)(void *)at(r->answer));
+}
+
 static uint8_t in_force_row(const row *r)
 {
     return beechdoublet_in_force(at(r->first), r->first_length, (const beechdoublet_state *)(void *)at(r->state), at(r->second), r->second_length, 9,
@@ -147,6 +153,20 @@ static const row UPDATE[] = {
     {0, 100, 400, 104, 100, 208, 100, 376, SILENT}, /* and ends in the state */
 };
 
+/* A cause has 72 bytes. */
+static const row CAUSE[] = {
+    {0, 100, 400, 104, 100, 0, 0, 800, CALL},
+    {0, 100, 0, 0, 100, 0, 0, 800, CALL}, /* all of these are only read */
+    {0, 104, 400, 176, 100, 0, 0, 104, CALL},
+    {NONE, 0, 400, 104, 100, 0, 0, 800, ANSWERED},
+    {0, 100, NONE, 104, 100, 0, 0, 800, ANSWERED},
+    {0, 100, 400, NONE, 0, 0, 0, 800, ANSWERED},
+    {0, 100, 400, 104, 100, 0, 0, NONE, SILENT},
+    {0, 105, 400, 176, 100, 0, 0, 104, SILENT}, /* the cause begins in the strip, ends in the message, begins in the state */
+    {0, 104, 400, 175, 100, 0, 0, 104, SILENT},
+    {0, 100, 400, 104, 100, 0, 0, 456, SILENT},
+};
+
 /* The answer has 48 bytes. */
 static const row IN_FORCE[] = {
     {0, 100, 400, 104, 100, 0, 0, 800, CALL},
@@ -191,6 +211,7 @@ int main(void)
 {
     int wrong = told("read", read_row, READ, COUNT(READ), 5);
     wrong |= told("update", update_row, UPDATE, COUNT(UPDATE), 4);
+    wrong |= told("cause", cause_row, CAUSE, COUNT(CAUSE), 9);
     wrong |= told("in force", in_force_row, IN_FORCE, COUNT(IN_FORCE), 6);
     wrong |= told("field", field_row, FIELD, COUNT(FIELD), 6);
     wrong |= told("plan", plan_row, PLAN, COUNT(PLAN), 19);

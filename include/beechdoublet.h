@@ -1,5 +1,6 @@
 /*
- * Beechdoublet: reads air traffic messages, keeps a strip up to date, says where a field in force stands, and tells the parts of a message.
+ * Beechdoublet: reads air traffic messages, keeps a strip up to date and says why it is not, says where a field in force stands, and tells the parts of
+ * a message.
  *
  * Link with target/staticlib/libbeechdoublet.a (x86-64 Linux; gcc or clang, C99 or C++11 and later). Each function of the library is proved to
  * give the answer that its contract names; docs/GUIDE.md says what is proved and what the caller has to see to. In short:
@@ -50,6 +51,19 @@ extern "C" {
 #define BEECHDOUBLET_IN_STRIP 1
 #define BEECHDOUBLET_IN_CHANGE 2
 #define BEECHDOUBLET_IN_MESSAGE 1
+
+/* What may differ where an update gives 12: places in what a cause shows. */
+#define BEECHDOUBLET_IDENTIFICATION 0
+#define BEECHDOUBLET_AERODROME 1
+#define BEECHDOUBLET_TIME 2
+#define BEECHDOUBLET_DESTINATION 3
+#define BEECHDOUBLET_DATE 4
+
+/* The keys of field 18 that may be missing where an update gives 10. */
+#define BEECHDOUBLET_KEY_TYP 1
+#define BEECHDOUBLET_KEY_DEP 2
+#define BEECHDOUBLET_KEY_DEST 3
+#define BEECHDOUBLET_KEY_ALTN 4
 
 /*
  * The number of what is not a call: a pointer is null, or what is to be written overlaps something else that is lent. Nothing is written but the
@@ -127,6 +141,18 @@ typedef struct {
     uint64_t arrival;         /* when arrived */
 } beechdoublet_state;
 
+/* Why an update is refused. */
+typedef struct {
+    uint64_t number; /* 10, 12 or 13; 0 where nothing more is shown */
+    /*
+     * 12: shown[BEECHDOUBLET_IDENTIFICATION], .. are 1 where the message's differs from the strip's, 0 where it is equal or not compared
+     * 10: shown[0] is the missing key, BEECHDOUBLET_KEY_TYP to BEECHDOUBLET_KEY_ALTN
+     * 13: shown has the eight numbers of the state found, in the order of beechdoublet_state
+     * What is not used is 0.
+     */
+    uint64_t shown[8];
+} beechdoublet_shown;
+
 /*
  * Reads a message. Accepted: its spelling stands at the front of out, and the bytes behind it are as they were. Refused (1 to 11): every byte of
  * out is as it was. Gives the number back; 255, not a call, where a pointer is null or out or answer overlaps something else.
@@ -143,6 +169,14 @@ static inline uint8_t beechdoublet_read(const uint8_t *message, size_t message_l
 static inline uint8_t beechdoublet_update(const uint8_t *strip, size_t strip_length, beechdoublet_state *state, const uint8_t *message,
                                           size_t message_length, uint8_t *out, size_t out_length,
                                           beechdoublet_updating *answer) __asm__("beechdoublet_seen_update");
+
+/*
+ * Says why an update of a strip by a message is refused, however much room is lent to it: for 12 what differs, for 10 the missing key of the field
+ * named, for 13 the state found. The number is the update's if that is 10, 12 or 13, and otherwise 0: nothing more is shown of any other number, nor
+ * of an accepted update. Nothing else is written. Gives the number back; 255, not a call, where a pointer is null or cause overlaps something else.
+ */
+static inline uint8_t beechdoublet_cause(const uint8_t *strip, size_t strip_length, const beechdoublet_state *state, const uint8_t *message,
+                                         size_t message_length, beechdoublet_shown *cause) __asm__("beechdoublet_seen_cause");
 
 /*
  * Says where the content of a field in force stands: in the CHG if one of its entries names the field, otherwise in the strip. The field is one of
@@ -185,6 +219,8 @@ uint8_t beechdoublet_proved_read(const uint8_t *message, size_t message_length, 
 uint8_t beechdoublet_proved_update(const uint8_t *strip, size_t strip_length, beechdoublet_state *state, const uint8_t *message,
                                    size_t message_length, uint8_t *out, size_t out_length,
                                    beechdoublet_updating *answer) __asm__("beechdoublet_update");
+uint8_t beechdoublet_proved_cause(const uint8_t *strip, size_t strip_length, const beechdoublet_state *state, const uint8_t *message,
+                                  size_t message_length, beechdoublet_shown *cause) __asm__("beechdoublet_cause");
 uint8_t beechdoublet_proved_in_force(const uint8_t *strip, size_t strip_length, const beechdoublet_state *state, const uint8_t *change,
                                      size_t change_length, uint64_t field, beechdoublet_part *answer) __asm__("beechdoublet_in_force");
 bool beechdoublet_proved_sound(const beechdoublet_state *state) __asm__("beechdoublet_sound");
@@ -234,6 +270,21 @@ static inline uint8_t beechdoublet_update(const uint8_t *strip, size_t strip_len
         return BEECHDOUBLET_NOT_A_CALL;
     }
     return beechdoublet_proved_update(strip, strip_length, state, message, message_length, out, out_length, answer);
+}
+
+static inline uint8_t beechdoublet_cause(const uint8_t *strip, size_t strip_length, const beechdoublet_state *state, const uint8_t *message,
+                                         size_t message_length, beechdoublet_shown *cause)
+{
+    const beechdoublet_shown not_a_call = {BEECHDOUBLET_NOT_A_CALL, {0, 0, 0, 0, 0, 0, 0, 0}};
+    if (cause == NULL || beechdoublet_meet(cause, sizeof *cause, strip, strip_length) ||
+        beechdoublet_meet(cause, sizeof *cause, state, sizeof *state) || beechdoublet_meet(cause, sizeof *cause, message, message_length)) {
+        return BEECHDOUBLET_NOT_A_CALL;
+    }
+    if (strip == NULL || state == NULL || message == NULL) {
+        *cause = not_a_call;
+        return BEECHDOUBLET_NOT_A_CALL;
+    }
+    return beechdoublet_proved_cause(strip, strip_length, state, message, message_length, cause);
 }
 
 static inline uint8_t beechdoublet_in_force(const uint8_t *strip, size_t strip_length, const beechdoublet_state *state, const uint8_t *change,
@@ -292,6 +343,7 @@ BEECHDOUBLET_IN_A_ROW(beechdoublet_reading, 5);
 BEECHDOUBLET_IN_A_ROW(beechdoublet_updating, 4);
 BEECHDOUBLET_IN_A_ROW(beechdoublet_part, 6);
 BEECHDOUBLET_IN_A_ROW(beechdoublet_state, 8);
+BEECHDOUBLET_IN_A_ROW(beechdoublet_shown, 9);
 BEECHDOUBLET_IN_A_ROW(beechdoublet_plan_parts, 19);
 
 #endif

@@ -5,10 +5,12 @@
 //! buffer of reduced white space and no cutting into fields beforehand.
 
 mod alphabet;
+mod cause;
 mod codes;
 pub mod corpus;
 mod escapes;
 mod explained;
+mod flight;
 mod forms;
 pub mod generate;
 mod kind;
@@ -20,15 +22,19 @@ mod places;
 pub mod programs;
 mod refusal;
 mod route;
+mod state;
 mod strip;
 mod supplement;
 pub mod tally;
 pub mod vectors;
 mod words;
 
+pub use cause::{Cause, Refused};
+pub use flight::Difference;
 pub use forms::{field_fits, spelling19, Form};
 pub use kind::Kind;
 pub use message::{read, Accepted, LONGEST};
 pub use places::field_misfit;
 pub use refusal::Refusal;
-pub use strip::{field_in_force, in_force, update, InForce, State, Updated};
+pub use state::State;
+pub use strip::{field_in_force, in_force, offer, update, InForce, Updated};

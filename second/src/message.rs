@@ -80,7 +80,7 @@ impl Reading {
     fn check_explained(&self) -> Result<(), Refusal> {
         let [nine, thirteen, sixteen, eighteen] = [9, 13, 16, 18].map(|number| self.own(number));
         match unexplained(nine, thirteen, sixteen, eighteen) {
-            Some(form) => Err(Refusal::new(10, form.number(), self.place(form.number()))),
+            Some((form, _)) => Err(Refusal::new(10, form.number(), self.place(form.number()))),
             None => Ok(()),
         }
     }

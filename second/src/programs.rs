@@ -2,11 +2,13 @@
 
 use std::io::{self, Read, Write};
 
+use crate::cause::Refused;
 use crate::kind::Kind;
 use crate::message::{read, Accepted, LONGEST};
 use crate::pieces::{pieces, read_input};
 use crate::refusal::Refusal;
-use crate::strip::{update, State, Updated};
+use crate::state::State;
+use crate::strip::{self, Updated};
 
 /// One line for each piece: `OK`, type, spelling; or `NO`, number, field, place.
 pub fn listing(input: impl Read, out: &mut impl Write) -> io::Result<()> {
@@ -69,7 +71,7 @@ fn visible(b: u8) -> char {
 }
 
 /// The first accepted FPL becomes the strip, each later piece is offered to it; one line for each:
-/// `OK`, state, strip; or `NO`, number, field, place.
+/// `OK`, state, strip; or `NO`, number, field, place and, of an update, the cause of 12, 10 and 13.
 pub fn desk(input: impl Read, out: &mut impl Write) -> io::Result<()> {
     let Some(input) = read_input(input)? else { return writeln!(out, "TOO LONG") };
     let mut held = None;
@@ -81,20 +83,20 @@ pub fn desk(input: impl Read, out: &mut impl Write) -> io::Result<()> {
                 writeln!(out)?;
                 held = Some(updated);
             }
-            Err(refusal) => writeln!(out, "{refusal}")?,
+            Err(refused) => writeln!(out, "{refused}")?,
         }
     }
     Ok(())
 }
 
 /// Offers a piece to the strip; before there is one, only an FPL is fit.
-pub fn offer(held: &Option<Updated>, piece: &[u8]) -> Result<Updated, Refusal> {
+pub fn offer(held: &Option<Updated>, piece: &[u8]) -> Result<Updated, Refused> {
     if let Some(held) = held {
-        return update(&held.strip, held.state, piece, LONGEST);
+        return strip::offer(&held.strip, held.state, piece, LONGEST);
     }
     let accepted = read(piece, LONGEST)?;
     match accepted.kind {
         Kind::Fpl => Ok(Updated { strip: accepted.spelling, state: State::Filed }),
-        _ => Err(Refusal::bare(14)),
+        _ => Err(Refusal::bare(14).into()),
     }
 }

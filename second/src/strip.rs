@@ -1,68 +1,17 @@
 //! The strip: one plan and the state of its flight.
 
 use std::borrow::Cow;
-use std::fmt;
 use std::ops::Range;
 
-use crate::alphabet::{is_four_letters, time_of_day};
+use crate::alphabet::time_of_day;
+use crate::cause::{Cause, Refused};
 use crate::explained::unexplained;
+use crate::flight::differences;
 use crate::kind::Kind;
 use crate::message::{Reading, LONGEST};
 use crate::other::{date_of, with_date};
 use crate::refusal::Refusal;
-
-/// The flight's state; times are minutes of the day.
-#[derive(Clone, Copy, Debug, PartialEq, Eq)]
-pub enum State {
-    /// As the plan stands.
-    Filed,
-    /// Departed at a time.
-    Departed {
-        /// When.
-        time: u16,
-    },
-    /// Arrived at an aerodrome and time.
-    Arrived {
-        /// When it departed, if known.
-        departed: Option<u16>,
-        /// Where it arrived.
-        aerodrome: [u8; 4],
-        /// When it arrived.
-        time: u16,
-    },
-    /// Cancelled.
-    Cancelled,
-}
-
-impl State {
-    /// Times to 1,439 minutes, an aerodrome of four letters.
-    fn is_sound(&self) -> bool {
-        let timely = |time: u16| time <= 1439;
-        match self {
-            State::Filed | State::Cancelled => true,
-            State::Departed { time } => timely(*time),
-            State::Arrived { departed, aerodrome, time } => {
-                departed.is_none_or(timely) && is_four_letters(aerodrome) && timely(*time)
-            }
-        }
-    }
-}
-
-impl fmt::Display for State {
-    fn fmt(&self, f: &mut fmt::Formatter<'_>) -> fmt::Result {
-        let clock = |time: u16| format!("{:02}{:02}", time / 60, time % 60);
-        match self {
-            State::Filed => write!(f, "FILED"),
-            State::Departed { time } => write!(f, "DEPARTED {}", clock(*time)),
-            State::Arrived { departed, aerodrome, time } => {
-                let departed = departed.map_or("----".to_string(), clock);
-                let aerodrome = String::from_utf8_lossy(aerodrome);
-                write!(f, "ARRIVED {departed} {aerodrome} {}", clock(*time))
-            }
-            State::Cancelled => write!(f, "CANCELLED"),
-        }
-    }
-}
+use crate::state::State;
 
 /// The strip after an accepted message.
 #[derive(Clone, Debug, PartialEq, Eq)]
@@ -80,23 +29,30 @@ type Contents<'a> = [Cow<'a, [u8]>; PLAN_FIELDS.len()];
 
 /// Offers a message to a strip; `room` is what the new strip may take.
 pub fn update(strip: &[u8], state: State, msg: &[u8], room: usize) -> Result<Updated, Refusal> {
+    offer(strip, state, msg, room).map_err(|refused| refused.refusal)
+}
+
+/// Offers a message to a strip; a refusal comes with its cause.
+pub fn offer(strip: &[u8], state: State, msg: &[u8], room: usize) -> Result<Updated, Refused> {
     let plan = read_strip(strip, state)?;
     let message = Reading::of(msg)?;
     if !matches!(message.kind, Kind::Chg | Kind::Dla | Kind::Cnl | Kind::Dep | Kind::Arr) {
-        return Err(Refusal::bare(14));
+        return Err(Refusal::bare(14).into());
     }
-    if !is_for(&message, &plan) {
-        return Err(Refusal::bare(12));
+    let differences = differences(&message, &plan);
+    if !differences.is_empty() {
+        return Err(Refused::by(Refusal::bare(12), Cause::Differs(differences)));
     }
-    let new_state = next_state(state, &message).ok_or(Refusal::bare(13))?;
+    let found = || Refused::by(Refusal::bare(13), Cause::Found(state));
+    let new_state = next_state(state, &message).ok_or_else(found)?;
     let contents = amended(&plan, &message);
     check_amended(&contents)?;
     let new_strip = spell_plan(plan.own(3), &contents);
     if new_strip.len() > LONGEST {
-        return Err(Refusal::bare(16));
+        return Err(Refusal::bare(16).into());
     }
     if new_strip.len() > room {
-        return Err(Refusal::bare(11));
+        return Err(Refusal::bare(11).into());
     }
     Ok(Updated { strip: new_strip, state: new_state })
 }
@@ -128,7 +84,7 @@ pub fn field_in_force(strip: &[u8], state: State, chg: &[u8], field: u32) -> Res
     if message.spelling != chg {
         return Err(Refusal::bare(17));
     }
-    if !is_for(&message, &plan) {
+    if !differences(&message, &plan).is_empty() {
         return Err(Refusal::bare(12));
     }
     if field == 16 && new_destination(&message).is_some() {
@@ -145,36 +101,6 @@ pub fn field_in_force(strip: &[u8], state: State, chg: &[u8], field: u32) -> Res
 fn read_strip(strip: &[u8], state: State) -> Result<Reading, Refusal> {
     let plan = Reading::of(strip).ok().filter(|plan| plan.is_plan() && plan.spelling == strip);
     plan.filter(|_| state.is_sound()).ok_or(Refusal::bare(15))
-}
-
-/// Whether the message is for the strip's flight as it stands before the message.
-fn is_for(message: &Reading, plan: &Reading) -> bool {
-    let compared = match message.kind {
-        Kind::Dla | Kind::Dep => 4,
-        _ => 8,
-    };
-    identification(message) == identification(plan)
-        && message.own(13).get(..compared) == plan.own(13).get(..compared)
-        && destination(message) == destination(plan)
-        && !on_another_day(message, plan)
-}
-
-/// Whether the message and the plan have dates that differ. A DLA's is not compared, and an ARR has none.
-fn on_another_day(message: &Reading, plan: &Reading) -> bool {
-    match (date_of(message.own(18)), date_of(plan.own(18))) {
-        (Some(date), Some(planned)) => message.kind != Kind::Dla && date != planned,
-        _ => false,
-    }
-}
-
-/// Field 7 without its code.
-fn identification(reading: &Reading) -> Option<&[u8]> {
-    reading.own(7).split(|&b| b == b'/').next()
-}
-
-/// The aerodrome of 16, or of 17 where 16 is absent.
-fn destination(reading: &Reading) -> Option<&[u8]> {
-    reading.own(16).get(..4).or_else(|| reading.own(17).get(..4))
 }
 
 /// The state that the message brings about; `None` if the present one forbids it.
@@ -232,10 +158,10 @@ fn new_destination(message: &Reading) -> Option<&[u8]> {
 }
 
 /// Number 10 for the amended plan.
-fn check_amended(contents: &Contents) -> Result<(), Refusal> {
+fn check_amended(contents: &Contents) -> Result<(), Refused> {
     let [_, _, nine, _, thirteen, _, sixteen, eighteen] = contents;
     match unexplained(nine, thirteen, sixteen, eighteen) {
-        Some(form) => Err(Refusal::new(10, form.number(), 0)),
+        Some((form, key)) => Err(Refused::by(Refusal::new(10, form.number(), 0), Cause::Lacks(key))),
         None => Ok(()),
     }
 }

@@ -34,11 +34,13 @@ impl Tally {
     }
 }
 
-/// As much of an answer as is counted: its words before the spelling, without numbers but a refusal's.
+/// As much of an answer as is counted: its words before the spelling, without numbers but a refusal's. Several differences are counted as one.
 fn head(answer: &str) -> String {
     let words: Vec<&str> = answer.split(' ').collect();
     match words[..] {
         ["OK", "ARRIVED", "----", ..] => "OK ARRIVED ----".to_string(),
+        ["CAUSE", "12", _, _, ..] => "CAUSE 12 SEVERAL".to_string(),
+        ["CAUSE", number, cause, ..] => format!("CAUSE {number} {cause}"),
         [kind @ ("OK" | "NO" | "IN"), which, ..] => format!("{kind} {which}"),
         _ => answer.to_string(),
     }
@@ -53,6 +55,10 @@ fn groups() -> Vec<(&'static str, Vec<String>)> {
         ("read", all("OK", &types)),
         ("refused", numbers),
         ("updated", all("OK", &["FILED", "DEPARTED", "ARRIVED", "ARRIVED ----", "CANCELLED"])),
+        ("differs", all("CAUSE 12", &["IDENTIFICATION", "AERODROME", "TIME", "DESTINATION", "DATE", "SEVERAL"])),
+        ("lacks", all("CAUSE 10", &["TYP", "DEP", "DEST", "ALTN"])),
+        ("found", all("CAUSE 13", &["DEPARTED", "ARRIVED", "CANCELLED"])),
+        ("no cause", vec!["NONE".to_string()]),
         ("in force", all("IN", &["STRIP", "CHG"])),
         ("held", vec!["HELD".to_string()]),
         ("content alone", vec!["FITS".to_string(), "NO".to_string()]),

@@ -1,17 +1,19 @@
 //! Questions to the reader, one to a line, and its answers: what the proved reader is compared by.
 //!
 //! `R message` and `r ROOM message` read it, `H STATE strip` holds a strip unchecked, `U message` and
-//! `u ROOM message` offer it to the strip held, `F NUMBER message` asks for the field in force,
-//! `C FORM content` holds a content alone to a form.
+//! `u ROOM message` offer it to the strip held, `W message` asks why that is refused and changes
+//! nothing, `F NUMBER message` asks for the field in force, `C FORM content` holds a content alone to a form.
 
 use std::io::{self, BufRead, Write};
 
 use crate::alphabet::number;
+use crate::cause::Refused;
 use crate::escapes::{escaped, unescaped};
 use crate::forms::{field_fits, Form};
 use crate::message::{read, LONGEST};
 use crate::refusal::Refusal;
-use crate::strip::{field_in_force, update, InForce, State, Updated};
+use crate::state::State;
+use crate::strip::{field_in_force, offer, update, InForce, Updated};
 
 /// The most bytes of a line that is answered.
 pub const LONGEST_LINE: usize = 8192;
@@ -42,6 +44,7 @@ impl Vectors {
         match kind {
             b"R" => Some(answer_read(&unescaped(rest)?, LONGEST)),
             b"U" => Some(self.offer(&unescaped(rest)?, LONGEST)),
+            b"W" => Some(self.cause(&unescaped(rest)?)),
             b"r" | b"u" | b"F" | b"H" | b"C" => self.answer_with(kind, rest),
             _ => None,
         }
@@ -72,6 +75,13 @@ impl Vectors {
                 with_text(format!("OK {} ", self.held.state), &self.held.strip)
             }
             Err(refusal) => answer_refused(refusal),
+        }
+    }
+
+    fn cause(&self, message: &[u8]) -> Vec<u8> {
+        match offer(&self.held.strip, self.held.state, message, LONGEST) {
+            Err(Refused { refusal, cause: Some(cause) }) => format!("CAUSE {} {cause}", refusal.number).into_bytes(),
+            _ => b"NONE".to_vec(),
         }
     }
 

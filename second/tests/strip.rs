@@ -3,7 +3,7 @@
 mod common;
 
 use common::desk_lines;
-use second::{in_force, update, Refusal, State};
+use second::{in_force, offer, update, Cause, Difference, Refusal, State};
 
 const STRIP: &str = "(FPL-ABC12-IS-B738/M-SDFG/S-EHAM0930-N0440F310 DCT PAM DCT-EDDF0100 EDDK-0)";
 const DEPARTED: State = State::Departed { time: 581 };
@@ -119,6 +119,35 @@ fn for_another_flight() {
     }
 }
 
+/// The cause of each refusal of a message of each type, and none where it is accepted.
+#[test]
+fn causes() {
+    use Difference::*;
+    let strip = STRIP.replace("-0)", "-DOF/240229)");
+    let cause = |message: &str| match offer(strip.as_bytes(), DEPARTED, message.as_bytes(), 1800) {
+        Err(refused) => refused.cause,
+        Ok(_) => None,
+    };
+    let differ = |differences: &[Difference]| Some(Cause::Differs(differences.to_vec()));
+    for (message, due) in [
+        ("(CHG-ABC13-EHRD0931-EDDK-DOF/240301-8/IN)", &[Identification, Aerodrome, Time, Destination, Date][..]),
+        ("(CNL-ABC13-EHRD0931-EDDK-DOF/240301)", &[Identification, Aerodrome, Time, Destination, Date]),
+        ("(DLA-ABC13-EHRD0931-EDDK-DOF/240301)", &[Identification, Aerodrome, Destination]),
+        ("(DEP-ABC13-EHRD0931-EDDK-DOF/240301)", &[Identification, Aerodrome, Destination, Date]),
+        ("(ARR-ABC13-EHRD0931-EDDK1030)", &[Identification, Aerodrome, Time, Destination]),
+        ("(ARR-ABC13-EHRD0931-EDDK-EDDF1030)", &[Identification, Aerodrome, Time, Destination]),
+    ] {
+        assert_eq!(cause(message), differ(due), "{message}");
+    }
+    assert_eq!(cause("(CHG-ABC12-EHAM0930-EDDF-0-16/ZZZZ0100 ZZZZ)"), Some(Cause::Lacks("DEST")));
+    assert_eq!(cause("(CHG-ABC12-EHAM0930-EDDF-0-16/ZZZZ0100 ZZZZ-18/DEST/X)"), Some(Cause::Lacks("ALTN")));
+    assert_eq!(cause("(DLA-ABC12-EHAM1000-EDDF-0)"), Some(Cause::Found(DEPARTED)));
+    for message in ["(CHG-ABC12-EHAM0930-EDDF-0-8/IN)", "(CHG-ABC12-EHAM0930-EDDF-0-14/X)", "(RQP-A1-EHAM-EDDF-0)", ""]
+    {
+        assert_eq!(cause(message), None, "{message}");
+    }
+}
+
 #[test]
 fn forbidden_by_the_state() {
     let arrived = State::Arrived { departed: None, aerodrome: *b"EDDF", time: 0 };
@@ -224,7 +253,7 @@ fn the_desk() {
         format!("OK FILED {}", strip("1000", "-IS-")),
         format!("OK DEPARTED 1001 {}", strip("1000", "-IS-")),
         format!("OK DEPARTED 1001 {}", strip("1000", "-IN-")),
-        "NO 13 0 0".to_string(),
+        "NO 13 0 0 DEPARTED 1001".to_string(),
         format!("OK ARRIVED 1001 EDDF 1105 {}", strip("1000", "-IN-")),
         "NO 14 0 0".to_string(),
         "NO 2 0 1".to_string(),
@@ -234,4 +263,25 @@ fn the_desk() {
     assert_eq!(desk_lines(&short)[1], format!("OK ARRIVED ---- EDDF 0005 {STRIP}"));
     let cancelled = format!("{STRIP}(CNL-ABC12-EHAM0930-EDDF-0)");
     assert_eq!(desk_lines(&cancelled)[1], format!("OK CANCELLED {STRIP}"));
+}
+
+/// The desk prints a cause behind a refusal of an update, and none before it holds a strip.
+#[test]
+fn the_desk_says_why() {
+    let input = format!(
+        "(FPL-ABC12-IS-ZZZZ/M-SDFG/S-EHAM0930-N0440F310 DCT-EDDF0100-0) {STRIP} (CHG-ABC12-EHAM0931-EDDK-0-8/IN)\
+         (CHG-ABC12-EHAM0930-EDDF-0-16/ZZZZ) (CHG-ABC12-EHAM0930-EDDF-0-14/X) (ARR-ABC12-EHAM0930-EDDF1126)\
+         (CNL-ABC12-EHAM0930-EDDF-0) (DLA-ABC13-EHAM1000-EDDF-0)"
+    );
+    let lines = [
+        "NO 10 9 13".to_string(),
+        format!("OK FILED {STRIP}"),
+        "NO 12 0 0 TIME DESTINATION".to_string(),
+        "NO 10 16 0 DEST".to_string(),
+        "NO 8 22 26".to_string(),
+        format!("OK ARRIVED ---- EDDF 1126 {STRIP}"),
+        "NO 13 0 0 ARRIVED ---- EDDF 1126".to_string(),
+        "NO 12 0 0 IDENTIFICATION".to_string(),
+    ];
+    assert_eq!(desk_lines(&input), lines);
 }

@@ -48,6 +48,15 @@ fn only_an_accepted_message_moves_the_strip() {
 }
 
 #[test]
+fn asking_for_a_cause_moves_nothing() {
+    let chg = "(CHG-ABC12-EHAM0930-EDDF-0-8/IN)";
+    let input = format!("H F {STRIP}\nW {chg}\nW (DLA-ABC13-EHAM1000-EDDF-0)\nU (DLA-ABC12-EHAM1000-EDDF-0)\nW {chg}");
+    let due =
+        format!("HELD\nNONE\nCAUSE 12 IDENTIFICATION\nOK FILED {}\nCAUSE 12 TIME\n", STRIP.replace("0930", "1000"));
+    assert_eq!(answers(input.as_bytes()), due);
+}
+
+#[test]
 fn where_a_field_stands() {
     let chg = b"(CHG-ABC12-EHAM0930-EDDF-0-9/B39M/M)";
     let asked = |field| field_in_force(STRIP.as_bytes(), State::Filed, chg, field).ok();

@@ -9,6 +9,7 @@ use lib.Dec.{eqb}
 use lib.ListN.{getD}
 use borrow.Author.Tests.{eq-eqb, ne-eqb, eqb-true, eqb-false}
 use Rattle.state.specs.declared.Departure.{Departure}
+use Rattle.state.specs.declared.Departure.the-variants.{Known as Off, Unknown as NotKnown}
 use Rattle.state.specs.declared.State.{State}
 use Rattle.state.specs.declared.State.the-variants.{Filed, Departed, Arrived, Cancelled}
 use Rattle.dates.specs.declared.FlightDate.{FlightDate}
@@ -66,7 +67,15 @@ module _ (ns xs : List ℕ) (s : State) (b : Bool) (es : s ≡ stateOf ns) (ex :
   unfolding handedAs
   one-handed e = rw (found ∙ e) (ap (λ (t : State). Held (record { state = t })) es)
 
--- A DATE, by the row of its numbers
+-- A STATE AND A DATE, by the row of their numbers
+
+pub state-laid : (s : State) (ns : List ℕ) → ns ≡ stateNumbers s
+    → getD ns 0 0 ∷ (getD ns 1 0 ∷ (getD ns 2 0 ∷ (getD ns 3 0 ∷ (getD ns 4 0 ∷ (getD ns 5 0 ∷ (getD ns 6 0 ∷ (getD ns 7 0 ∷ []))))))) ≡ stateNumbers s
+state-laid Filed ns e = rw e
+state-laid (Departed t) ns e = rw e
+state-laid (Arrived (Off d) a t) ns e = rw e
+state-laid (Arrived NotKnown a t) ns e = rw e
+state-laid Cancelled ns e = rw e
 
 pub date-laid : (d : FlightDate) (ns : List ℕ) → ns ≡ dateNumbers d → getD ns 0 0 ∷ (getD ns 1 0 ∷ (getD ns 2 0 ∷ (getD ns 3 0 ∷ []))) ≡ dateNumbers d
 date-laid (Known year month day) ns e = rw e

@@ -11,8 +11,11 @@ ghost use Rattle.beechdoublet.specs.Numbers.{askedNumber, askedNumbers, 
 ghost use Rattle.beechdoublet.specs.Numbers.{partNumber, partNumbers, partWhole, dateNumbers, planNumber, planNumbers, partsNumbers};
 ghost use Rattle.beechdoublet.specs.Handed.{arrivedNumbers, stateNumbers, kept, departureOf, stateOf, agree};
 ghost use Rattle.beechdoublet.specs.Handed.{byteOf, handedAs, soundAs, updateAs, outAs, stateAs, askedAs, contentAsked};
+ghost use Rattle.beechdoublet.specs.Causes.{flag, setNumbers, keyNumber, causeNumber, causeNumbers, causeAs};
 use aerodromes::Aerodrome;
 use asked::Asked;
+use causes::Cause;
+use causes::Key;
 use dates::FlightDate;
 use kinds::MessageType;
 use message::Answer;
@@ -23,6 +26,7 @@ use shape::Clock;
 use state::Departure;
 use state::State;
 use state::Strip;
+use strip::Differences;
 use strip::Updated;
 
 // What a caller's numbers are: a strip's state, or none.
@@ -427,4 +431,94 @@ pub extern "C" fn beechdoublet_plan(strip: &[u8], answer: &mut [u64; 19]) -> u8
         × ShowsPlan (plannedOf (now (strip .entry))) (now (strip .entry)) ⌝ }
 {
     tell_plan(parts::plan_parts(strip), answer)
+}
+
+// Why an update of a strip that is handed in is refused; nothing more where the numbers are no state.
+fn cause_as(strip: &[u8], h: Handed, msg: &[u8]) -> Cause
+    ensures { λ r. ⌜ r ≡ causeAs h (now (strip .entry)) (now (msg .entry)) ⌝ }
+{
+    match h {
+        Handed::Held(held) => causes::cause_of(strip, held, msg),
+        Handed::NoState => Cause::NothingMore,
+    }
+}
+
+fn flag_of(b: bool) -> u64
+    ensures { λ r. ⌜ r ≡ flag b ⌝ }
+{
+    if b { 1 } else { 0 }
+}
+
+// The numbers of what differs.
+fn set_numbers(d: Differences) -> [u64; 9]
+    ensures { λ r. ⌜ r ≡ setNumbers d ⌝ }
+{
+    [
+        12,
+        flag_of(d.identification),
+        flag_of(d.aerodrome),
+        flag_of(d.time),
+        flag_of(d.destination),
+        flag_of(d.date),
+        0,
+        0,
+        0,
+    ]
+}
+
+fn key_number(k: Key) -> u64
+    ensures { λ r. ⌜ r ≡ keyNumber k ⌝ }
+{
+    match k {
+        Key::Typ => 1,
+        Key::Dep => 2,
+        Key::Dest => 3,
+        Key::Altn => 4,
+    }
+}
+
+// The numbers of the state found.
+fn found_numbers(s: State) -> [u64; 9]
+    ensures { λ r. ⌜ r ≡ 13 ∷ stateNumbers s ⌝ }
+{
+    let n = state_numbers(s);
+    [13, n[0], n[1], n[2], n[3], n[4], n[5], n[6], n[7]]
+}
+
+// Lays out a cause, and gives its number.
+fn tell_cause(c: Cause, cause: &mut [u64; 9]) -> u8
+    ensures { λ r. ⌜ (r ≡ causeNumber c) × (now (cause .exit) ≡ causeNumbers c) ⌝ }
+{
+    match c {
+        Cause::NothingMore => {
+            *cause = [0; 9];
+            0
+        }
+        Cause::Another(d) => {
+            *cause = set_numbers(d);
+            12
+        }
+        Cause::Missing(k) => {
+            *cause = [10, key_number(k), 0, 0, 0, 0, 0, 0, 0];
+            10
+        }
+        Cause::Forbidden(s) => {
+            *cause = found_numbers(s);
+            13
+        }
+    }
+}
+
+// Says why an update is refused, as `causes::cause_of` does. The cause is its number and what that shows; the number is also given back.
+#[no_mangle]
+pub extern "C" fn beechdoublet_cause(
+    strip: &[u8],
+    state: &[u64; 8],
+    msg: &[u8],
+    cause: &mut [u64; 9],
+) -> u8
+    ensures { λ r. ⌜ (r ≡ causeNumber (causeAs (handedAs (now (state .entry))) (now (strip .entry)) (now (msg .entry))))
+        × (now (cause .exit) ≡ causeNumbers (causeAs (handedAs (now (state .entry))) (now (strip .entry)) (now (msg .entry)))) ⌝ }
+{
+    tell_cause(cause_as(strip, hand_in(state), msg), cause)
 }

@@ -4,5 +4,7 @@ pub mod Pointed
 pub mod Demands
 pub mod Turns
 pub mod Determined
+pub mod Rooms
+pub mod Whys
 pub mod Bundles
 pub mod BundleExamples

@@ -2,6 +2,8 @@
 // library's. The statements are in specs/, and beside them the examples of document 01.
 ghost use Rattle.demands.specs.Demands.{Reads, Demand1, Demand2};
 ghost use Rattle.demands.specs.Turns.{standing, offer, Updates, Turns};
+ghost use Rattle.demands.specs.Whys.{Why};
+use causes::Cause;
 use message::Answer;
 use state::Strip;
 use strip::Updated;
@@ -21,4 +23,11 @@ pub fn update(strip: &[u8], held: Strip, msg: &[u8], out: &mut [u8]) -> Updated
     ensures { λ a. ⌜ Turns (standing (now (strip .entry)) held) (offer (now (msg .entry)) (now (out .entry))) a (now (out .exit)) ⌝ }
 {
     strip::update(strip, held, msg, out)
+}
+
+// Why it is refused: for 12 the set of what differs, for 10 the missing key, for 13 the state found.
+pub fn cause(strip: &[u8], held: Strip, msg: &[u8]) -> Cause
+    ensures { λ c. ⌜ Why (now (strip .entry)) held (now (msg .entry)) c ⌝ }
+{
+    causes::cause_of(strip, held, msg)
 }

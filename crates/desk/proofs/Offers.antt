@@ -21,12 +21,14 @@ use Rattle.state.specs.State.{justFiled}
 use Rattle.strip.specs.declared.Updated.{Updated}
 use Rattle.strip.specs.declared.Updated.the-variants.{Accepted, Refused}
 use Rattle.strip.specs.Updating.{updateOf, outAfter as newAfter}
+use Rattle.causes.specs.Causes.{Agree}
+use Rattle.causes.proofs.Agreed.{agrees}
 use Rattle.history.specs.Demand3.{Standing, putAs, updater, offered, offeredAll}
 use Rattle.message.proofs.Plans.{plan-type}
 use Rattle.history.proofs.Causes.{accepted-fits}
 use Rattle.desk.specs.declared.Held.{Held}
 use Rattle.desk.specs.declared.Held.the-variants.{Nothing, Flight}
-use Rattle.desk.specs.Desk.{standingIn, InRoom, filingAs, filedBy, lent, offerOf, standingAfter, afterAll, heldAfter, Offering}
+use Rattle.desk.specs.Desk.{standingIn, InRoom, filingAs, answerTo, causeTo, filedBy, lent, offerOf, standingAfter, afterAll, heldAfter, Offering}
 
 -- FILING: `a` is what reading the piece gave, `after` what it left in the buffer
 
@@ -118,3 +120,7 @@ one-more s at e next b after all h z p q r i =
 pub as-offered : (b : Standing) (ms : List Word) → afterAll (some b) ms ≡ some (offeredAll updater b (map offerOf ms))
 as-offered b [] = refl
 as-offered b (m ∷ ms) = as-offered (offered updater b (offerOf m)) ms
+
+-- REQUEST 8: what is shown behind a line is the cause of its answer
+pub shown-agrees : (b : Standing) (m : List ℕ) → Agree (b .held) (causeTo (some b) m) (answerTo (some b) m)
+shown-agrees b m = agrees (b .strip) (b .held) m 1800

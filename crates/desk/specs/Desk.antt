@@ -17,6 +17,9 @@ use Rattle.state.specs.State.{justFiled}
 use Rattle.strip.specs.declared.Updated.{Updated}
 use Rattle.strip.specs.declared.Updated.the-variants.{Accepted, Refused}
 use Rattle.strip.specs.Updating.{updateOf}
+use Rattle.causes.specs.declared.Cause.{Cause}
+use Rattle.causes.specs.declared.Cause.the-variants.{NothingMore}
+use Rattle.causes.specs.Causes.{causeOf}
 use Rattle.history.specs.Demand3.{Standing, Offer, updater, offered, filedAs}
 use Rattle.desk.specs.declared.Held.{Held}
 use Rattle.desk.specs.declared.Held.the-variants.{Nothing, Flight}
@@ -41,6 +44,11 @@ filingAs (NotRead number field place) = Refused number field place
 abbrev pub answerTo : Option Standing → List ℕ → Updated
 answerTo none m = filingAs (answerOf m most)
 answerTo (some b) m = updateOf (b .strip) (b .held) m most
+
+-- and why, where it is a refusal: what is shown of an update
+abbrev pub causeTo : Option Standing → List ℕ → Cause
+causeTo none m = NothingMore
+causeTo (some b) m = causeOf (b .strip) (b .held) m
 
 -- WHAT IT HOLDS AFTERWARDS
 

@@ -1,12 +1,13 @@
 // The desk: the first accepted FPL of standard input becomes the strip, and each later piece is offered to it. One line for each piece: `OK`,
-// the state and the strip, or `NO`, number, field and place.
+// the state and the strip, or `NO`, number, field, place and the cause.
 ghost use Rattle.outer.specs.Outer.{most};
 ghost use mathlib.Core.Path.{_≡_};
 ghost use Prim.Native.Nat.{_≤_};
 ghost use mathlib.Core.Option.{none};
 ghost use lib.ListN.{length};
 ghost use Rattle.pieces.specs.Pieces.{piecesOf};
-ghost use Rattle.desk.specs.Desk.{standingIn, standingAfter, afterAll, InRoom, Offering};
+ghost use Rattle.desk.specs.Desk.{standingIn, causeTo, standingAfter, afterAll, InRoom, Offering};
+use causes::Cause;
 use message::Answer;
 use state::State;
 use state::Strip;
@@ -85,6 +86,17 @@ fn answer(desk: Held, piece: &[u8], strip: &mut [u8]) -> Updated
     }
 }
 
+// Why a piece is refused; before there is a strip, nothing more is shown.
+fn cause(desk: Held, piece: &[u8], strip: &[u8]) -> Cause
+    requires { ⌜ (length (now strip) ≡ most) × InRoom desk ⌝ }
+    ensures { λ r. ⌜ r ≡ causeTo (standingIn desk (now (strip .entry))) (now (piece .entry)) ⌝ }
+{
+    match desk {
+        Held::Nothing => Cause::NothingMore,
+        Held::Flight(held, n) => causes::cause_of(&strip[..n], held, piece),
+    }
+}
+
 // Takes a piece: prints its line and hands back what the desk then holds.
 fn take(desk: Held, piece: &[u8], strip: &mut [u8]) -> Held
     requires { ⌜ (length (now strip) ≡ most) × InRoom desk ⌝ }
@@ -100,7 +112,7 @@ fn take(desk: Held, piece: &[u8], strip: &mut [u8]) -> Held
             field,
             place,
         } => {
-            say::refusal(number, field, place);
+            say_cause::refusal(number, field, place, cause(desk, piece, strip));
             desk
         }
     }

@@ -52,16 +52,17 @@ module _ (m : List ℕ) (room other : ℕ) where
   type-same (Read t) e = count-same t (e t)
 
 -- the spelling of a message that numbers 1 to 3 let pass is no longer than the message
-spelling-short : (m : List ℕ) → outer m ≡ Good → (t : MessageType) → length (spellingOf t m) ≤ length m
+pub spelling-short : (m : List ℕ) → outer m ≡ Good → (t : MessageType) → length (spellingOf t m) ≤ length m
 unfolding spellingOf
 spelling-short m g t =
     let r = reduced m in
     let i = length-take (length r - 2) (drop 1 r) in
     omega (arith, spelled-short (formsOf t (countOf m)) (textOf m), reduced-two m [] _ g refl, length-drop 1 r, never-longer m)
 
-pub enough : (m : List ℕ) (room : ℕ) → length m ≤ room → answerOf m room ≡ answerOf m most
+-- the answer does not depend on the room, where a message that they let pass has room for all of its bytes
+enough-if : (m : List ℕ) (room : ℕ) → (outer m ≡ Good → length m ≤ room) → answerOf m room ≡ answerOf m most
 unfolding answerOf
-enough m room h = go (outer m) refl
+enough-if m room h = go (outer m) refl
   where
     go : (o : Outer) → outer m ≡ o → outerAs o m room ≡ outerAs o m most
     go (Bad number place) g = refl
@@ -70,4 +71,11 @@ enough m room h = go (outer m) refl
         (λ t.
         let l = spelling-short m g t in
         let k = good-short m g in
+        let w = h g in
         rw (le-ltb room (length (spellingOf t m)) (omega arith), le-ltb most (length (spellingOf t m)) (omega arith)))
+
+pub enough : (m : List ℕ) (room : ℕ) → length m ≤ room → answerOf m room ≡ answerOf m most
+enough m room h = enough-if m room (λ g. h)
+
+pub most-enough : (m : List ℕ) (room : ℕ) → most ≤ room → answerOf m room ≡ answerOf m most
+most-enough m room h = enough-if m room (λ g. let k = good-short m g in omega arith)

@@ -27,10 +27,14 @@ departureUnexplained thirteen eighteen =
     (unlisted (aerodromeOf thirteen) || filedInFlight (aerodromeOf thirteen)) && not (hasKey eighteen (bytes "DEP"))
 
 -- the destination without DEST, or an alternate without ALTN
+abbrev pub withoutDest : List ℕ → List ℕ → Bool
+withoutDest sixteen eighteen = unlisted (aerodromeOf sixteen) && not (hasKey eighteen (bytes "DEST"))
+
+abbrev pub withoutAltn : List ℕ → List ℕ → Bool
+withoutAltn sixteen eighteen = hasAlternate sixteen (bytes "ZZZZ") && not (hasKey eighteen (bytes "ALTN"))
+
 abbrev pub destinationUnexplained : List ℕ → List ℕ → Bool
-destinationUnexplained sixteen eighteen =
-    (unlisted (aerodromeOf sixteen) && not (hasKey eighteen (bytes "DEST")))
-    || (hasAlternate sixteen (bytes "ZZZZ") && not (hasKey eighteen (bytes "ALTN")))
+destinationUnexplained sixteen eighteen = withoutDest sixteen eighteen || withoutAltn sixteen eighteen
 
 -- the leftmost field that is unexplained, by its number; 0 where there is none
 unfoldable pub unexplained : List ℕ → List ℕ → List ℕ → List ℕ → ℕ

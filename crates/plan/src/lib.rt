@@ -1,10 +1,6 @@
 // Number 10: what a plan leaves unexplained in field 18.
 ghost use mathlib.Core.Path.{_≡_};
-ghost use mathlib.Core.Bool.{_&&_, not};
-ghost use Rattle.alphabet.specs.Text.{bytes};
-ghost use Rattle.aerodromes.specs.Aerodromes.{aerodromeOf};
-ghost use Rattle.other.specs.Field18.{hasKey};
-ghost use Rattle.plan.specs.Unexplained.{unlisted, typeUnexplained, departureUnexplained, destinationUnexplained, unexplained};
+ghost use Rattle.plan.specs.Unexplained.{typeUnexplained, departureUnexplained, withoutDest, destinationUnexplained, unexplained};
 
 // The type of aircraft is ZZZZ, without TYP.
 fn type_unexplained(nine: &[u8], eighteen: &[u8]) -> bool
@@ -31,8 +27,8 @@ fn departure_unexplained(thirteen: &[u8], eighteen: &[u8]) -> bool
 }
 
 // The destination is ZZZZ, without DEST.
-fn destination_alone(sixteen: &[u8], eighteen: &[u8]) -> bool
-    ensures { λ r. ⌜ r ≡ (unlisted (aerodromeOf (now (sixteen .entry))) && not (hasKey (now (eighteen .entry)) (bytes "DEST"))) ⌝ }
+pub fn without_dest(sixteen: &[u8], eighteen: &[u8]) -> bool
+    ensures { λ r. ⌜ r ≡ withoutDest (now (sixteen .entry)) (now (eighteen .entry)) ⌝ }
 {
     if text::same_bytes(aerodromes::aerodrome_of(sixteen), b"ZZZZ") {
         !other::has_key(eighteen, b"DEST")
@@ -45,7 +41,7 @@ fn destination_alone(sixteen: &[u8], eighteen: &[u8]) -> bool
 fn destination_unexplained(sixteen: &[u8], eighteen: &[u8]) -> bool
     ensures { λ r. ⌜ r ≡ destinationUnexplained (now (sixteen .entry)) (now (eighteen .entry)) ⌝ }
 {
-    if destination_alone(sixteen, eighteen) {
+    if without_dest(sixteen, eighteen) {
         return true;
     }
     if aerodromes::has_alternate(sixteen, b"ZZZZ") {

@@ -103,7 +103,7 @@ fn departure(d: Departure) {
 }
 
 fn arrival(d: Departure, a: Aerodrome, t: Clock) {
-    print(b"OK ARRIVED ");
+    print(b"ARRIVED ");
     departure(d);
     print(b" ");
     print(&[a.0, a.1, a.2, a.3]);
@@ -111,16 +111,17 @@ fn arrival(d: Departure, a: Aerodrome, t: Clock) {
     time(t);
 }
 
-fn state_of(held: Strip) {
-    let s = held.state;
+// A state: its name, and its times and aerodrome. Any state is printed; only one that `Strip::is_sound` passes has times and an aerodrome as
+// document 01 writes them.
+pub fn state(s: State) {
     match s {
-        State::Filed => print(b"OK FILED"),
+        State::Filed => print(b"FILED"),
         State::Departed(t) => {
-            print(b"OK DEPARTED ");
+            print(b"DEPARTED ");
             time(t);
         }
         State::Arrived(d, a, t) => arrival(d, a, t),
-        State::Cancelled => print(b"OK CANCELLED"),
+        State::Cancelled => print(b"CANCELLED"),
     }
 }
 
@@ -151,20 +152,26 @@ pub fn accepted(t: MessageType, spelling: &[u8]) {
     spelled(spelling);
 }
 
-// A strip: `OK`, its state, its spelling. Any state is printed; only one that `Strip::is_sound` passes has times and an aerodrome as
-// document 01 writes them.
+// A strip: `OK`, its state, its spelling.
 pub fn strip(held: Strip, spelling: &[u8]) {
-    state_of(held);
+    let s = held.state;
+    print(b"OK ");
+    state(s);
     spelled(spelling);
 }
 
-// A refusal: `NO`, number, field, place.
-pub fn refusal(number: u8, field: u8, place: usize) {
+// A refusal up to the end of its line: `NO`, number, field, place.
+pub fn refused(number: u8, field: u8, place: usize) {
     print(b"NO ");
     decimal(number as u64);
     print(b" ");
     decimal(field as u64);
     print(b" ");
     decimal(place as u64);
+}
+
+// A refusal, as a line.
+pub fn refusal(number: u8, field: u8, place: usize) {
+    refused(number, field, place);
     print(b"\n");
 }

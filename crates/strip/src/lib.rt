@@ -35,7 +35,7 @@ pub enum Updated {
 }
 
 // Room for a strip and a message together.
-const ROOM: usize = 3600;
+pub const ROOM: usize = 3600;
 
 // The last field of a text.
 fn last_field<'a>(s: &'a [u8]) -> &'a [u8]
@@ -62,7 +62,7 @@ fn time_in(s: &[u8]) -> Clock
 }
 
 // What a message says of the state, from the text of its spelling.
-fn event_of(role: Role, said: &[u8]) -> Offered
+pub fn event_of(role: Role, said: &[u8]) -> Offered
     ensures { λ r. ⌜ r ≡ eventOf role (split 45 (now (said .entry))) ⌝ }
 {
     match role {

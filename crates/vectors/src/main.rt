@@ -1,7 +1,7 @@
 // Answers questions, one to a line of standard input, which may be of any length. `R message` and `r ROOM message` read a message;
 // `H STATE strip` holds a strip, unchecked; `U message` and `u ROOM message` offer a message to the strip held; `F NUMBER message` asks for
-// the field in force; `C FORM content` holds a content alone to a form. In a message, strip or content `\` and two hexadecimal digits stand
-// for a byte. A line that asks nothing is answered `BAD LINE`.
+// the field in force; `W message` asks why the strip held is not updated by a message; `C FORM content` holds a content alone to a form. In a
+// message, strip or content `\` and two hexadecimal digits stand for a byte. A line that asks nothing is answered `BAD LINE`.
 ghost use mathlib.Core.Path.{_≡_};
 ghost use Prim.Native.Nat.{_+_, _≤_, _<_};
 ghost use lib.ListN.{length};
@@ -96,12 +96,13 @@ fn decode(s: &[u8], out: &mut [u8]) -> Decoded
 // WHAT A LINE ASKS
 
 // What is asked of the bytes that a line ends with: to read them into a room, to offer them with a room, to hold them as the strip, to show
-// the field in force of this number, to hold them to a form.
+// the field in force of this number, to say why they are refused, to hold them to a form.
 enum Question {
     Read(usize),
     Offer(usize),
     Hold(State),
     Show(usize),
+    Why,
     Fit(Form),
     Nothing,
 }
@@ -212,7 +213,7 @@ fn form_of(w: &[u8]) -> Question {
     Question::Fit(forms[k - 1])
 }
 
-// What a letter and the word behind it ask; `R` and `U`, which lend all the room, have no word.
+// What a letter and the word behind it ask; `R` and `U`, which lend all the room, and `W` have no word.
 fn question_of(letter: u8, word: &[u8]) -> Question {
     match letter {
         b'R' => Question::Read(MOST_ROOM),
@@ -220,14 +221,15 @@ fn question_of(letter: u8, word: &[u8]) -> Question {
         b'r' => Question::Read(number_of(word)),
         b'u' => Question::Offer(number_of(word)),
         b'F' => Question::Show(number_of(word)),
+        b'W' => Question::Why,
         b'H' => state_of(word),
         b'C' => form_of(word),
         _ => Question::Nothing,
     }
 }
 
-// Where the text begins of which a line asks; 0 where there is none. A letter and a space stand before it, and but for `R` and `U` a word and a
-// space.
+// Where the text begins of which a line asks; 0 where there is none. A letter and a space stand before it, and but for `R`, `U` and `W` a word
+// and a space.
 fn text_from(line: &[u8]) -> usize
     ensures { λ r. ⌜ r ≤ length (now (line .entry)) ⌝ }
 {
@@ -237,7 +239,7 @@ fn text_from(line: &[u8]) -> usize
     if line[1] != b' ' {
         return 0;
     }
-    if shape::one_of(line[0], b"RU") {
+    if shape::one_of(line[0], b"RUW") {
         return 2;
     }
     let e = text::find(line, 2, b' ');
@@ -359,6 +361,7 @@ fn tell<'a>(q: Question, bytes: &'a [u8], held: Strip, strip: &'a [u8]) {
     match q {
         Question::Read(room) => read(bytes, room),
         Question::Show(number) => show(bytes, number, held, strip),
+        Question::Why => say_cause::line(causes::cause_of(strip, held, bytes)),
         Question::Fit(form) => say_fit(form, bytes),
         _ => say_bad(),
     }

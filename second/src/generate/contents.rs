@@ -35,7 +35,7 @@ impl Flight {
         }
     }
 
-    /// The flight of a canonical strip; one time in ten something of it differs.
+    /// The flight of a canonical strip; one time in eight something of it differs, or several things.
     pub fn of_strip(dice: &mut Dice, strip: &[u8]) -> Self {
         let mut flight = Flight::any(dice);
         let mut fields = strip.split(|&b| b == b'-');
@@ -43,20 +43,22 @@ impl Flight {
         let thirteen = fields.nth(3).unwrap_or_default();
         let sixteen = fields.nth(1).unwrap_or_default();
         let eighteen = fields.next().unwrap_or_default();
-        let differs = if dice.chance(12) { dice.below(5) } else { 5 };
-        if differs != 0 {
+        let one_or_more = if dice.chance(60) { 1 << dice.below(5) } else { dice.from_to(1, 31) };
+        let differing = if dice.chance(12) { one_or_more } else { 0 };
+        let same = |value: usize| differing & 1 << value == 0;
+        if same(0) {
             flight.identification = seven.split(|&b| b == b'/').next().unwrap_or_default().to_vec();
         }
-        if differs != 1 {
+        if same(1) {
             flight.departure = thirteen.iter().take(4).copied().collect();
         }
-        if differs != 2 {
+        if same(2) {
             flight.off_block = thirteen.iter().skip(4).copied().collect();
         }
-        if differs != 3 {
+        if same(3) {
             flight.destination = sixteen.iter().take(4).copied().collect();
         }
-        if differs != 4 {
+        if same(4) {
             flight.day = date_of(eighteen.strip_suffix(b")").unwrap_or(eighteen)).map(<[u8]>::to_vec);
         }
         flight

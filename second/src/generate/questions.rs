@@ -9,7 +9,8 @@ use super::{damaged, damaged_deep, form_and_content, offered, valid};
 use crate::escapes::escaped;
 use crate::kind::Kind;
 use crate::message::{read, LONGEST};
-use crate::strip::{update, State, Updated, PLAN_FIELDS};
+use crate::state::State;
+use crate::strip::{update, Updated, PLAN_FIELDS};
 
 /// A line for the vectors program.
 pub type Line = Vec<u8>;
@@ -86,6 +87,9 @@ pub fn update_run(dice: &mut Dice, length: usize) -> Vec<Line> {
     let mut lines = vec![hold(&held)];
     for _ in 0..dice.from_to(length / 2, length + length / 2) {
         let message = message_for(dice, &held);
+        if asks_why(dice, &held, &message) {
+            lines.push(ask("W", &message));
+        }
         let (line, room) = offer(dice, &held, &message);
         lines.push(line);
         if let Ok(updated) = update(&held.strip, held.state, &message, room) {
@@ -96,6 +100,12 @@ pub fn update_run(dice: &mut Dice, length: usize) -> Vec<Line> {
         }
     }
     lines
+}
+
+/// Whether the cause of an update is asked for: of a refusal by 10, which is rare, always.
+fn asks_why(dice: &mut Dice, held: &Updated, message: &[u8]) -> bool {
+    let refusal = update(&held.strip, held.state, message, LONGEST).err();
+    refusal.is_some_and(|refusal| refusal.number == 10) || dice.chance(40)
 }
 
 /// A strip, and about so many questions for a field in force.

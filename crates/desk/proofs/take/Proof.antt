@@ -28,6 +28,13 @@ strip-requires c κs = search needs
 enum-known-number : tie.Need-enum-known-number
 enum-known-number c = search needs
 
+cause-requires : tie.Need-cause-requires
+cause-requires c κs =
+    let told = c .before .before .before in
+    let n = told .before .before .before in
+    let start = n .before .before .before .before in
+    (omega (arith, start .pre .0, n .answer .kept .1 .1 .0), start .pre .1)
+
 refusal-requires : tie.Need-refusal-requires
 refusal-requires c κs = search needs
 
@@ -44,7 +51,7 @@ same-length-2 c = search needs
 
 returns-2 : tie.Need-returns-2
 returns-2 c =
-    let n = c .before .before in
+    let n = c .before .before .before .before in
     then-holds _ _ _ _ _ _ (n .before .before .before .before .answer .ensures) (n .number .given .1)
 
 pub take-spec : {M : Type 1} → statement M
@@ -57,6 +64,7 @@ take-spec =
     slice-aggregate-strip
     strip-requires
     enum-known-number
+    cause-requires
     refusal-requires
     same-length
     returns

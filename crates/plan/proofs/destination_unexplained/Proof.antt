@@ -5,11 +5,11 @@ use borrow.Author.Needs.{needs}
 use Rattle.plan.proofs.destination_unexplained.Statement.{statement}
 use Rattle.plan.proofs.destination_unexplained.Tie as tie
 
-destination-alone-requires : tie.Need-destination-alone-requires
-destination-alone-requires c κs = search needs
+without-dest-requires : tie.Need-without-dest-requires
+without-dest-requires c κs = search needs
 
 returns : tie.Need-returns
-returns c = rw (sym (c .before .destination-alone .ensures) ∙ c .if1 .taken)
+returns c = rw (sym (c .before .without-dest .ensures) ∙ c .if1 .taken)
 
 slice-aggregate-has-alternate : tie.Need-slice-aggregate-has-alternate
 slice-aggregate-has-alternate c = search needs
@@ -27,19 +27,19 @@ returns-2 : tie.Need-returns-2
 returns-2 c =
     let d = c .before .before .before in
     let other = d .before .before in
-    rw (sym (other .before .destination-alone .ensures) ∙ other .if1 .left, sym (d .has-alternate .ensures) ∙ c .before .before .if2 .taken)
+    rw (sym (other .before .without-dest .ensures) ∙ other .if1 .left, sym (d .has-alternate .ensures) ∙ c .before .before .if2 .taken)
     (ap not (c .has-key .ensures))
 
 returns-3 : tie.Need-returns-3
 returns-3 c =
     let other = c .before .before .before in
-    rw (sym (other .before .destination-alone .ensures) ∙ other .if1 .left, sym (c .before .has-alternate .ensures) ∙ c .if2 .left)
+    rw (sym (other .before .without-dest .ensures) ∙ other .if1 .left, sym (c .before .has-alternate .ensures) ∙ c .if2 .left)
 
 pub destination-unexplained-spec : {M : Type 1} → statement M
 destination-unexplained-spec =
     tie.close
     (tie.spec
-    destination-alone-requires
+    without-dest-requires
     returns
     slice-aggregate-has-alternate
     has-alternate-requires

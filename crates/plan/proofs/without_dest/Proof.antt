@@ -1,11 +1,11 @@
--- `plan::destination_alone` meets its contract. Assumes nothing.
+-- `plan::without_dest` meets its contract. Assumes nothing.
 use mathlib.Core.Path.{ap}
 use mathlib.Core.Bool.{not}
 use Rattle.alphabet.specs.Text.{bytes}
 use Rattle.plan.proofs.Laws.{told}
 use borrow.Author.Needs.{needs}
-use Rattle.plan.proofs.destination_alone.Statement.{statement}
-use Rattle.plan.proofs.destination_alone.Tie as tie
+use Rattle.plan.proofs.without_dest.Statement.{statement}
+use Rattle.plan.proofs.without_dest.Tie as tie
 
 aerodrome-of-requires : tie.Need-aerodrome-of-requires
 aerodrome-of-requires c κs = search needs
@@ -33,8 +33,8 @@ returns-2 c =
     let compared = c .before in
     rw (told _ (bytes "ZZZZ") (compared .before .before .aerodrome-of .ensures) (compared .same-bytes .ensures) (c .if1 .left))
 
-pub destination-alone-spec : {M : Type 1} → statement M
-destination-alone-spec =
+pub without-dest-spec : {M : Type 1} → statement M
+without-dest-spec =
     tie.close
     (tie.spec
     aerodrome-of-requires
