@@ -8,7 +8,7 @@
 use crate::generate::neighbours;
 use crate::generate::probes::probes;
 use crate::generate::questions::{
-    content_alone, in_force_run, read_damaged, read_in_short_rooms, read_valid, update_run, Line,
+    content_alone, in_force_run, read_damaged, read_in_promised_room, read_in_short_rooms, read_valid, update_run, Line,
 };
 use crate::generate::Dice;
 use crate::kind::Kind;
@@ -150,6 +150,7 @@ fn generated() -> Vec<Line> {
     }
     lines.extend((0..5000).map(|_| read_damaged(&mut dice)));
     lines.extend((0..200).flat_map(|_| read_in_short_rooms(&mut dice)));
+    lines.extend((0..200).flat_map(|_| read_in_promised_room(&mut dice)));
     lines.extend((0..500).flat_map(|_| update_run(&mut dice, 10)));
     lines.extend((0..200).flat_map(|_| in_force_run(&mut dice, 10)));
     lines.extend(neighbours::questions());

@@ -37,6 +37,18 @@ impl Asked {
         read(self.message().as_bytes(), LONGEST).is_ok_and(|read| read.spelling == self.message().as_bytes())
     }
 
+    /// The room that the question lends.
+    fn room(&self) -> Option<usize> {
+        self.question.split(' ').nth(1)?.parse().ok()
+    }
+
+    /// Whether a reading or an update with as much room as is promised is answered so.
+    fn in_promised_room(&self, question: &str, answer: &str) -> bool {
+        let held = if question == "u " { length(&self.held) } else { 0 };
+        let promised = (held + length(self.message())).min(LONGEST);
+        self.is(question, answer) && self.room() == Some(promised)
+    }
+
     /// Whether an entry of 16 has four letters and so many digits, and then ends.
     fn has_entry_16(&self, digits: usize) -> bool {
         self.message().split("-16/").skip(1).any(|behind| {
@@ -78,6 +90,11 @@ impl Asked {
         let placed = |(first, last): (&str, &str)| stands(first, before) && stands(&last[7..], behind);
         self.is("U (DLA", "OK FILED") && is_put && eighteen.split_once("DOF/").is_some_and(placed)
     }
+}
+
+/// The bytes that a text stands for; an escape stands for one.
+fn length(text: &str) -> usize {
+    text.len() - 2 * text.matches('\\').count()
 }
 
 /// The date in a text that has one.
@@ -128,6 +145,16 @@ const DATES: [Case; 15] = [
     ("another in force", |asked| asked.is("F ", "NO 12") && asked.is_on_another_day()),
 ];
 
+/// Request 11: the room that is promised to be enough, and one byte less than is needed.
+const ROOMS: [Case; 6] = [
+    ("read in its length", |asked| asked.in_promised_room("r ", "OK")),
+    ("refused in its length", |asked| asked.in_promised_room("r ", "NO 7")),
+    ("read in too little", |asked| asked.is("r ", "NO 11")),
+    ("updated in both lengths", |asked| asked.in_promised_room("u ", "OK")),
+    ("refused in both lengths", |asked| asked.in_promised_room("u ", "NO")),
+    ("updated in too little", |asked| asked.is("u ", "NO 11")),
+];
+
 /// How often each case was met in ten thousand questions.
 fn met(seed: u64, cases: &[Case]) -> Vec<(&'static str, usize)> {
     let mut dice = Dice::new(seed);
@@ -162,4 +189,17 @@ fn a_bare_new_destination() {
 #[test]
 fn which_day() {
     all_met(&DATES);
+}
+
+#[test]
+fn rooms() {
+    all_met(&ROOMS);
+    let never: [Case; 2] = [
+        ("read in its length", |asked| asked.in_promised_room("r ", "NO 11")),
+        ("updated in both lengths", |asked| asked.in_promised_room("u ", "NO 11")),
+    ];
+    for seed in [1, 2, 3] {
+        let met = met(seed, &never);
+        assert!(met.iter().all(|(_, times)| *times == 0), "seed {seed}: {met:?}");
+    }
 }

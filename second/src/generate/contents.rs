@@ -25,7 +25,7 @@ pub struct Flight {
 impl Flight {
     /// Any flight; now and then from or to an aerodrome without a name of its own.
     pub fn any(dice: &mut Dice) -> Self {
-        let departure = if dice.chance(12) { dice.pick(&[b"ZZZZ", b"AFIL"]).to_vec() } else { aerodrome(dice) };
+        let departure = departure(dice);
         Flight {
             identification: bytes(dice, SIGNS, 2, 7),
             departure,
@@ -197,7 +197,7 @@ pub fn content(dice: &mut Dice, form: Form) -> Vec<u8> {
         F9 => aircraft(dice),
         F10 => equipment(dice),
         F13Open if dice.chance(50) => aerodrome(dice),
-        F13 | F13Open => [aerodrome(dice), time(dice)].concat(),
+        F13 | F13Open => [departure(dice), time(dice)].concat(),
         F15 => route(dice),
         F16 => aerodrome_or_zzzz(dice),
         F16Entry if dice.chance(40) => aerodrome_or_zzzz(dice),
@@ -280,6 +280,14 @@ fn elapsed(dice: &mut Dice) -> Vec<u8> {
 
 fn aerodrome(dice: &mut Dice) -> Vec<u8> {
     bytes(dice, LETTERS, 4, 4)
+}
+
+fn departure(dice: &mut Dice) -> Vec<u8> {
+    if dice.chance(12) {
+        dice.pick(&[b"ZZZZ", b"AFIL"]).to_vec()
+    } else {
+        aerodrome(dice)
+    }
 }
 
 fn aerodrome_or_zzzz(dice: &mut Dice) -> Vec<u8> {

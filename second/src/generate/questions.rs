@@ -32,7 +32,7 @@ impl Questions {
 }
 
 fn some_questions(dice: &mut Dice) -> Vec<Line> {
-    match dice.below(121) {
+    match dice.below(130) {
         0..=7 => {
             let kind = *dice.pick(&Kind::ALL);
             vec![read_valid(dice, kind)]
@@ -40,8 +40,9 @@ fn some_questions(dice: &mut Dice) -> Vec<Line> {
         8..=27 => vec![read_damaged(dice)],
         28..=97 => vec![read_damaged_deep(dice)],
         98..=100 => read_in_short_rooms(dice),
-        101..=105 => update_run(dice, 8),
-        106..=108 => in_force_run(dice, 4),
+        101..=103 => read_in_promised_room(dice),
+        104..=113 => update_run(dice, 8),
+        114..=117 => in_force_run(dice, 4),
         _ => vec![content_alone(dice)],
     }
 }
@@ -79,6 +80,16 @@ pub fn read_in_short_rooms(dice: &mut Dice) -> Vec<Line> {
     let due = read(&message, LONGEST).map_or(0, |accepted| accepted.spelling.len());
     let rooms = [due, due.saturating_sub(1), dice.below(LONGEST + 1)];
     rooms.map(|room| ask(&format!("r {room}"), &message)).to_vec()
+}
+
+/// Reading a message, valid or damaged, into as much room as it has bytes, which is enough, and into one byte less than it needs.
+pub fn read_in_promised_room(dice: &mut Dice) -> Vec<Line> {
+    let kind = *dice.pick(&Kind::ALL);
+    let flight = Flight::any(dice);
+    let message = offered(dice, kind, &flight);
+    let needed = read(&message, LONGEST).ok().map(|accepted| accepted.spelling.len());
+    let rooms = [Some(message.len().min(LONGEST)), needed.map(|needed| needed - 1)];
+    rooms.into_iter().flatten().map(|room| ask(&format!("r {room}"), &message)).collect()
 }
 
 /// A strip, and about so many messages offered to it.
@@ -239,13 +250,14 @@ fn edge_change(dice: &mut Dice, flight: &Flight, strip: &[u8]) -> Vec<u8> {
     drafts::plain(&draft)
 }
 
-/// An offer with room enough, or with the new strip's length or about it.
+/// An offer with room enough; or with the room of strip and message together, with the new strip's length, or about it.
 fn offer(dice: &mut Dice, held: &Updated, message: &[u8]) -> (Line, usize) {
-    if dice.chance(85) {
+    if dice.chance(80) {
         return (ask("U", message), LONGEST);
     }
     let due = update(&held.strip, held.state, message, LONGEST).map_or(0, |updated| updated.strip.len());
-    let rooms = [due, due.saturating_sub(1), dice.below(LONGEST + 1)];
+    let promised = (held.strip.len() + message.len()).min(LONGEST);
+    let rooms = [promised, promised, due, due.saturating_sub(1), dice.below(LONGEST + 1)];
     let room = *dice.pick(&rooms);
     (ask(&format!("u {room}"), message), room)
 }
