@@ -24,7 +24,7 @@ pub struct Listed {
 }
 
 /// The lists of questions. The first begins before any strip is held.
-const QUESTIONS: [&str; 12] = [
+const QUESTIONS: [&str; 13] = [
     include_str!("../data/bad-strips.txt"),
     include_str!("../data/document-01.txt"),
     include_str!("../data/document-01-further.txt"),
@@ -35,6 +35,7 @@ const QUESTIONS: [&str; 12] = [
     include_str!("../data/document-02-dates.txt"),
     include_str!("../data/document-02-causes.txt"),
     include_str!("../data/document-02-rooms.txt"),
+    include_str!("../data/document-02-bundles.txt"),
     include_str!("../data/printed-messages.txt"),
     include_str!("../data/lines.txt"),
 ];

@@ -71,7 +71,8 @@ pub fn draft(dice: &mut Dice, kind: Kind, flight: &Flight) -> Draft {
         Kind::Fpl => plan(dice, flight),
         Kind::Chg => {
             let mut draft = with_head(dice, kind, flight, &[F7, F13, F16, F18]);
-            draft.extend(entries(dice, flight));
+            let count = if dice.chance(60) { dice.from_to(1, 3) } else { dice.from_to(1, 8) };
+            draft.extend(entries(dice, flight, count));
             draft
         }
         Kind::Arr if dice.chance(50) => with_head(dice, kind, flight, &[F7, F13, F17]),
@@ -154,14 +155,13 @@ fn due_items(nine: &[u8], flight: &Flight, unnamed_alternate: bool) -> Vec<&'sta
     items.into_iter().filter(|(due, _)| *due).map(|(_, key)| key).collect()
 }
 
-/// One to eight entries of field 22.
-fn entries(dice: &mut Dice, flight: &Flight) -> Vec<Vec<u8>> {
+/// So many entries of field 22, eight at most.
+pub fn entries(dice: &mut Dice, flight: &Flight, count: usize) -> Vec<Vec<u8>> {
     let mut numbers: [&[u8]; 8] = [b"7", b"8", b"9", b"10", b"13", b"15", b"16", b"18"];
     dice.shuffle(&mut numbers);
     if dice.chance(15) {
         numbers.sort_by_key(|number| *number != b"16");
     }
-    let count = if dice.chance(60) { dice.from_to(1, 3) } else { dice.from_to(1, 8) };
     let mut entries = Vec::new();
     for number in &numbers[..count] {
         let content = match Form::of_entry(number) {
