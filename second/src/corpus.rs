@@ -8,7 +8,8 @@
 use crate::generate::neighbours;
 use crate::generate::probes::probes;
 use crate::generate::questions::{
-    content_alone, in_force_run, read_damaged, read_in_promised_room, read_in_short_rooms, read_valid, update_run, Line,
+    bundle_run, content_alone, in_force_run, read_damaged, read_in_promised_room, read_in_short_rooms, read_valid,
+    update_run, Line,
 };
 use crate::generate::Dice;
 use crate::kind::Kind;
@@ -154,6 +155,7 @@ fn generated() -> Vec<Line> {
     lines.extend((0..200).flat_map(|_| read_in_promised_room(&mut dice)));
     lines.extend((0..500).flat_map(|_| update_run(&mut dice, 10)));
     lines.extend((0..200).flat_map(|_| in_force_run(&mut dice, 10)));
+    lines.extend((0..100).flat_map(|_| bundle_run(&mut dice)));
     lines.extend(neighbours::questions());
     lines
 }

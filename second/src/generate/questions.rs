@@ -2,6 +2,7 @@
 
 use std::collections::VecDeque;
 
+use super::bundles::Bundle;
 use super::contents::Flight;
 use super::dice::Dice;
 use super::{contents, damage, drafts, end_with_remark, long_change, long_plan};
@@ -32,7 +33,7 @@ impl Questions {
 }
 
 fn some_questions(dice: &mut Dice) -> Vec<Line> {
-    match dice.below(130) {
+    match dice.below(132) {
         0..=7 => {
             let kind = *dice.pick(&Kind::ALL);
             vec![read_valid(dice, kind)]
@@ -43,6 +44,7 @@ fn some_questions(dice: &mut Dice) -> Vec<Line> {
         101..=103 => read_in_promised_room(dice),
         104..=113 => update_run(dice, 8),
         114..=117 => in_force_run(dice, 4),
+        118..=119 => bundle_run(dice),
         _ => vec![content_alone(dice)],
     }
 }
@@ -110,6 +112,16 @@ pub fn update_run(dice: &mut Dice, length: usize) -> Vec<Line> {
             break;
         }
     }
+    lines
+}
+
+/// A strip and a CHG of several entries; then the strip again, and the entries one by one in some order.
+pub fn bundle_run(dice: &mut Dice) -> Vec<Line> {
+    let bundle = Bundle::some(dice);
+    let mut order: Vec<&Vec<u8>> = bundle.entries.iter().collect();
+    dice.shuffle(&mut order);
+    let mut lines = vec![hold(&bundle.held), ask("U", &bundle.whole()), hold(&bundle.held)];
+    lines.extend(bundle.singles(order).iter().map(|single| ask("U", single)));
     lines
 }
 
