@@ -28,7 +28,7 @@ static void tell_refusal(uint64_t number, uint64_t field, uint64_t place)
 }
 
 /* Reads a message into an output of so many bytes. */
-static void show_reading(const char *message, size_t room)
+static void show_reading_in(const char *message, size_t room)
 {
     uint8_t out[BEECHDOUBLET_MOST];
     beechdoublet_reading answer;
@@ -37,6 +37,12 @@ static void show_reading(const char *message, size_t room)
         return;
     }
     printf("OK %s %.*s\n", TYPES[answer.type], (int)answer.length, (const char *)out);
+}
+
+/* As many bytes as the message has are always enough. */
+static void show_reading(const char *message)
+{
+    show_reading_in(message, strlen(message));
 }
 
 static void print_time(uint64_t minute)
@@ -106,7 +112,7 @@ static void tell_why(const strip *held, const char *message, const beechdoublet_
 }
 
 /* Offers a message to a strip. The new strip comes in another buffer, from which it is copied back. */
-static void offer(strip *held, const char *message, size_t room)
+static void offer_in(strip *held, const char *message, size_t room)
 {
     uint8_t out[BEECHDOUBLET_MOST];
     beechdoublet_updating answer;
@@ -121,13 +127,19 @@ static void offer(strip *held, const char *message, size_t room)
     printf(" %.*s\n", (int)held->length, (const char *)held->bytes);
 }
 
+/* As many bytes as strip and message have together are always enough. */
+static void offer(strip *held, const char *message)
+{
+    offer_in(held, message, held->length + strlen(message));
+}
+
 /* Offers a message to the strip with another state, of which nothing is kept. */
 static void offer_with(const strip *held, beechdoublet_state state, const char *message)
 {
     strip other = *held;
     printf("%s ", beechdoublet_sound(&state) ? "SOUND" : "NO STATE");
     other.state = state;
-    offer(&other, message, sizeof other.bytes);
+    offer(&other, message);
 }
 
 static void show_in_force(const strip *held, const char *change, uint64_t field)
@@ -192,15 +204,15 @@ static const char *const DEPARTURE = "(DEP-ABC12-EHAM0941-EDDF-0)";
 
 static void show_readings(void)
 {
-    show_reading("(CNL-ABC12-EHAM0930-EDDF-0)", BEECHDOUBLET_MOST);
-    show_reading("(DLA-ABC12-EHAM2460-EDDF-0)", BEECHDOUBLET_MOST);
-    show_reading("(ACP-ABC12)", BEECHDOUBLET_MOST);
-    show_reading("(CNL-ABC12 -EHAM0930\r\n-EDDF\r\n-0 )", BEECHDOUBLET_MOST);
-    show_reading("(SPL-ABC12-EHAM0930-EDDF0100-0-E/0745 P/006 R/EV J/L)", BEECHDOUBLET_MOST);
-    show_reading("", BEECHDOUBLET_MOST);
-    show_reading("(CNL-ABC12-EHAM0930-EDDF-0)", 27);
-    show_reading("(CNL-ABC12-EHAM0930-EDDF-0)", 26);
-    show_reading("(CNL-ABC12-EHAM0930-EDDF-0)", 0);
+    show_reading("(CNL-ABC12-EHAM0930-EDDF-0)");
+    show_reading("(DLA-ABC12-EHAM2460-EDDF-0)");
+    show_reading("(ACP-ABC12)");
+    show_reading("(CNL-ABC12 -EHAM0930\r\n-EDDF\r\n-0 )");
+    show_reading("(SPL-ABC12-EHAM0930-EDDF0100-0-E/0745 P/006 R/EV J/L)");
+    show_reading("");
+    show_reading_in("(CNL-ABC12-EHAM0930-EDDF-0)", 27);
+    show_reading_in("(CNL-ABC12-EHAM0930-EDDF-0)", 26);
+    show_reading_in("(CNL-ABC12-EHAM0930-EDDF-0)", 0);
 }
 
 static void show_parts(const strip *held)
@@ -257,17 +269,17 @@ static void show_states(const strip *held)
 
 static void show_flight(strip *held)
 {
-    offer(held, CHANGE, BEECHDOUBLET_MOST);
-    offer(held, "(CHG-ABC13-EHAM0930-EDDF-0-8/IS)", BEECHDOUBLET_MOST);
-    offer(held, "(DLA-ABC12-EHAM0935-EDDF-0)", 0);
-    offer(held, "(DLA-ABC12-EHAM0935-EDDF-0)", BEECHDOUBLET_MOST);
-    offer(held, "(CHG-ABC12-EHAM0930-EDDK-0-8/IS)", BEECHDOUBLET_MOST);
-    offer(held, "(RQP-ABC12-EHAM0935-EDDF-0)", BEECHDOUBLET_MOST);
-    offer(held, "(CHG-ABC12-EHAM0935-EDDF-0-16/ZZZZ0100)", BEECHDOUBLET_MOST);
-    offer(held, DEPARTURE, BEECHDOUBLET_MOST);
-    offer(held, "(CNL-ABC12-EHAM0935-EDDF-0)", BEECHDOUBLET_MOST);
-    offer(held, "(ARR-ABC12-EHAM0935-EDDF-EDDK1042)", BEECHDOUBLET_MOST);
-    offer(held, CHANGE, BEECHDOUBLET_MOST);
+    offer(held, CHANGE);
+    offer(held, "(CHG-ABC13-EHAM0930-EDDF-0-8/IS)");
+    offer_in(held, "(DLA-ABC12-EHAM0935-EDDF-0)", 0);
+    offer(held, "(DLA-ABC12-EHAM0935-EDDF-0)");
+    offer(held, "(CHG-ABC12-EHAM0930-EDDK-0-8/IS)");
+    offer(held, "(RQP-ABC12-EHAM0935-EDDF-0)");
+    offer(held, "(CHG-ABC12-EHAM0935-EDDF-0-16/ZZZZ0100)");
+    offer(held, DEPARTURE);
+    offer(held, "(CNL-ABC12-EHAM0935-EDDF-0)");
+    offer(held, "(ARR-ABC12-EHAM0935-EDDF-EDDK1042)");
+    offer(held, CHANGE);
     show_plan(held->bytes, held->length);
 }
 
@@ -275,7 +287,7 @@ static void show_flight(strip *held)
 static void show_another_day(void)
 {
     strip held = filed("(FPL-ABC12-IS-B738/M-SDFG/S-EHAM0930-N0440F310 DCT PAM DCT-EDDF0100 EDDK-DOF/240229)");
-    offer(&held, "(DEP-ABC12-EHAM0941-EDDF-DOF/240301)", BEECHDOUBLET_MOST);
+    offer(&held, "(DEP-ABC12-EHAM0941-EDDF-DOF/240301)");
 }
 
 /* Offers a message to a strip and lends the strip's own bytes as the output. That is not a call, and the strip stays as it was. */
@@ -310,7 +322,7 @@ static void show_no_calls(void)
 {
     strip held = filed(PLAN);
     offer_in_place(&held, CHANGE);
-    offer(&held, CHANGE, BEECHDOUBLET_MOST);
+    offer(&held, CHANGE);
     read_in_place();
     ask_with_null(&held);
 }

@@ -45,12 +45,17 @@ fn shown(state: &Numbers) -> String {
 }
 
 /// Reads a message into an output of so many bytes.
-fn show_reading(message: &[u8], room: usize) {
+fn show_reading_in(message: &[u8], room: usize) {
     let mut out = vec![0; room];
     match read(message, &mut out) {
         Ok((kind, spelling)) => println!("OK {} {}", TYPES[kind as usize], text(spelling)),
         Err(why) => println!("{}", refusal(why)),
     }
+}
+
+/// As many bytes as the message has are always enough.
+fn show_reading(message: &[u8]) {
+    show_reading_in(message, message.len());
 }
 
 /// Why a message is refused, behind its number: what differs, the missing key, or the state found.
@@ -74,7 +79,7 @@ fn why(cause: Cause) -> String {
 }
 
 /// Offers a message to a strip. The new strip comes in another buffer, which then takes the old one's place.
-fn offer(held: &mut Strip, message: &[u8], room: usize) {
+fn offer_in(held: &mut Strip, message: &[u8], room: usize) {
     let mut out = vec![0; room];
     match update(&held.spelling, &mut held.state, message, &mut out) {
         Ok(spelling) => {
@@ -87,10 +92,16 @@ fn offer(held: &mut Strip, message: &[u8], room: usize) {
     }
 }
 
+/// As many bytes as strip and message have together are always enough.
+fn offer(held: &mut Strip, message: &[u8]) {
+    let room = held.spelling.len() + message.len();
+    offer_in(held, message, room);
+}
+
 /// Offers a message to the strip with another state, of which nothing is kept.
 fn offer_with(held: &Strip, state: Numbers, message: &[u8]) {
     print!("{} ", if is_sound(&state) { "SOUND" } else { "NO STATE" });
-    offer(&mut Strip { state, ..held.clone() }, message, MOST);
+    offer(&mut Strip { state, ..held.clone() }, message);
 }
 
 fn show_in_force(held: &Strip, change: &[u8], field: u64) {
@@ -128,15 +139,15 @@ fn show_plan(message: &[u8]) {
 }
 
 fn show_readings() {
-    show_reading(b"(CNL-ABC12-EHAM0930-EDDF-0)", MOST);
-    show_reading(b"(DLA-ABC12-EHAM2460-EDDF-0)", MOST);
-    show_reading(b"(ACP-ABC12)", MOST);
-    show_reading(b"(CNL-ABC12 -EHAM0930\r\n-EDDF\r\n-0 )", MOST);
-    show_reading(b"(SPL-ABC12-EHAM0930-EDDF0100-0-E/0745 P/006 R/EV J/L)", MOST);
-    show_reading(b"", MOST);
-    show_reading(b"(CNL-ABC12-EHAM0930-EDDF-0)", 27);
-    show_reading(b"(CNL-ABC12-EHAM0930-EDDF-0)", 26);
-    show_reading(b"(CNL-ABC12-EHAM0930-EDDF-0)", 0);
+    show_reading(b"(CNL-ABC12-EHAM0930-EDDF-0)");
+    show_reading(b"(DLA-ABC12-EHAM2460-EDDF-0)");
+    show_reading(b"(ACP-ABC12)");
+    show_reading(b"(CNL-ABC12 -EHAM0930\r\n-EDDF\r\n-0 )");
+    show_reading(b"(SPL-ABC12-EHAM0930-EDDF0100-0-E/0745 P/006 R/EV J/L)");
+    show_reading(b"");
+    show_reading_in(b"(CNL-ABC12-EHAM0930-EDDF-0)", 27);
+    show_reading_in(b"(CNL-ABC12-EHAM0930-EDDF-0)", 26);
+    show_reading_in(b"(CNL-ABC12-EHAM0930-EDDF-0)", 0);
 }
 
 fn show_parts(held: &Strip) {
@@ -181,17 +192,17 @@ fn show_states(held: &Strip) {
 }
 
 fn show_flight(held: &mut Strip) {
-    offer(held, CHANGE, MOST);
-    offer(held, b"(CHG-ABC13-EHAM0930-EDDF-0-8/IS)", MOST);
-    offer(held, b"(DLA-ABC12-EHAM0935-EDDF-0)", 0);
-    offer(held, b"(DLA-ABC12-EHAM0935-EDDF-0)", MOST);
-    offer(held, b"(CHG-ABC12-EHAM0930-EDDK-0-8/IS)", MOST);
-    offer(held, b"(RQP-ABC12-EHAM0935-EDDF-0)", MOST);
-    offer(held, b"(CHG-ABC12-EHAM0935-EDDF-0-16/ZZZZ0100)", MOST);
-    offer(held, DEPARTURE, MOST);
-    offer(held, b"(CNL-ABC12-EHAM0935-EDDF-0)", MOST);
-    offer(held, b"(ARR-ABC12-EHAM0935-EDDF-EDDK1042)", MOST);
-    offer(held, CHANGE, MOST);
+    offer(held, CHANGE);
+    offer(held, b"(CHG-ABC13-EHAM0930-EDDF-0-8/IS)");
+    offer_in(held, b"(DLA-ABC12-EHAM0935-EDDF-0)", 0);
+    offer(held, b"(DLA-ABC12-EHAM0935-EDDF-0)");
+    offer(held, b"(CHG-ABC12-EHAM0930-EDDK-0-8/IS)");
+    offer(held, b"(RQP-ABC12-EHAM0935-EDDF-0)");
+    offer(held, b"(CHG-ABC12-EHAM0935-EDDF-0-16/ZZZZ0100)");
+    offer(held, DEPARTURE);
+    offer(held, b"(CNL-ABC12-EHAM0935-EDDF-0)");
+    offer(held, b"(ARR-ABC12-EHAM0935-EDDF-EDDK1042)");
+    offer(held, CHANGE);
     show_plan(&held.spelling);
 }
 
@@ -199,7 +210,7 @@ fn show_flight(held: &mut Strip) {
 fn show_another_day() {
     let plan = b"(FPL-ABC12-IS-B738/M-SDFG/S-EHAM0930-N0440F310 DCT PAM DCT-EDDF0100 EDDK-DOF/240229)";
     let Some(mut held) = filed(plan) else { return };
-    offer(&mut held, b"(DEP-ABC12-EHAM0941-EDDF-DOF/240301)", MOST);
+    offer(&mut held, b"(DEP-ABC12-EHAM0941-EDDF-DOF/240301)");
 }
 
 /// A filed strip: the spelling of an FPL.

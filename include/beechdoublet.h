@@ -27,7 +27,7 @@
 extern "C" {
 #endif
 
-/* The most bytes of a message and of a strip: an output of this size always has room. */
+/* The most bytes of a message and of a strip: an output of this size always has room. Each call says below how much is enough otherwise. */
 #define BEECHDOUBLET_MOST 1800
 
 /* The types of messages. */
@@ -154,14 +154,15 @@ typedef struct {
 } beechdoublet_shown;
 
 /*
- * Reads a message. Accepted: its spelling stands at the front of out, and the bytes behind it are as they were. Refused (1 to 11): every byte of
- * out is as it was. Gives the number back; 255, not a call, where a pointer is null or out or answer overlaps something else.
+ * Reads a message. As many bytes of out as the message has are always enough. Accepted: its spelling stands at the front of out, and the bytes behind
+ * it are as they were. Refused (1 to 11): every byte of out is as it was. Gives the number back; 255, not a call, where a pointer is null or out or answer overlaps something else.
  */
 static inline uint8_t beechdoublet_read(const uint8_t *message, size_t message_length, uint8_t *out, size_t out_length,
                                         beechdoublet_reading *answer) __asm__("beechdoublet_seen_read");
 
 /*
- * Offers a message to a strip, which is an accepted FPL's spelling with its state. Accepted: the new strip stands at the front of out, the bytes
+ * Offers a message to a strip, which is an accepted FPL's spelling with its state. As many bytes of out as strip and message have together are always
+ * enough. Accepted: the new strip stands at the front of out, the bytes
  * behind it are as they were, and state is the new state. Refused (1 to 16; 12 also where strip and message carry unequal dates): every byte of out
  * and the state are as they were. Gives the number back; 255, not a call, where a pointer is null or state, out or answer overlaps something else. So
  * out is never the strip itself. The strip's date is told by beechdoublet_plan.
