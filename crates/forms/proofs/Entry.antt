@@ -13,7 +13,7 @@ use Rattle.text.proofs.Tests.{both, and-both, all-imp, other, same-eq, of-elem,
 use Rattle.text.proofs.Joined.{seam, holds-seam, before-seam, behind-seam}
 use Rattle.text.proofs.Tidy.{no-space, digit-tidy, oblique-tidy}
 use Rattle.shape.specs.Field.{Field, Laws}
-use Rattle.shape.proofs.Fields.{Facts, plain, read-some, fits-spelling, spelling-fits}
+use Rattle.shape.proofs.Fields.{plain, read-some, fits-spelling, spelling-fits}
 use Rattle.other.specs.Field18.{field18}
 use Rattle.other.proofs.Field18.{field18-laws}
 use Rattle.records.specs.Records.{LawsAll}
@@ -142,7 +142,8 @@ module _ (es : Entries) (k : Sound es) where
 
     spelled : spellEntry es (recordEntry es s) ≡ s
     spelled =
-        ap₂ (λ (v w : Word). v ++ (47 ∷ w)) (ranked-number (before 47 s) (p .some) .spelt) (fits-spelling (formNamed es n) (form-laws n) (behind 47 s) (p .rest) .1)
+        ap₂ (λ (v w : Word). v ++ (47 ∷ w)) (ranked-number (before 47 s) (p .some) .spelt)
+        (fits-spelling (formNamed es n) (form-laws n) (behind 47 s) (p .rest) .1)
         ∙ seam 47 s (p .cut)
 
     held : validEntry es (recordEntry es s) ≡ true
