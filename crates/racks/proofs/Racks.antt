@@ -1,6 +1,6 @@
 -- The racks of the board as the code holds it: what stands in a slot, and a rack after one place was changed. Assumes nothing.
-use Prim.Native.Nat.{ℕ, zero, suc, _+_, _-_, _*_, _≤_, _<_}
-use mathlib.Core.Path.{_≡_, refl, sym, ap, subst, _∙_}
+use Prim.Native.Nat.{ℕ, zero, suc, _+_, _*_, _≤_, _<_}
+use mathlib.Core.Path.{_≡_, refl, sym, ap, _∙_}
 use mathlib.Core.Bool.{Bool, true, false, cond}
 use mathlib.Core.List.{List, [], _∷_}
 use mathlib.Core.Option.{Option, none, some}
@@ -8,16 +8,15 @@ use native.Mathlib.Omega.{arith}
 use lib.Dec.{eqb, leb}
 use lib.ListN.{length, take, drop, getD, set, length-set, List·getD-eq-default}
 use lib.Seq.{getD-set-same, getD-set-other, ext-getD}
-use borrow.Author.Tests.{eqb-true, eqb-false, leb-true, leb-false}
+use borrow.Author.Tests.{eqb-true, eqb-false, leb-true}
 use Rattle.history.specs.Demand3.{Standing}
 use Rattle.rooms.specs.declared.Firm.{Firm}
 use Rattle.rooms.specs.declared.Firm.the-variants.{First, Second}
-use Rattle.rooms.specs.Rooms.{heldIn, lowest, Rack}
-use Rattle.board.specs.House.{house}
-use Rattle.board.specs.declared.Held.{Held}
-use Rattle.board.specs.declared.Held.the-variants.{Nothing, Flight}
-use Rattle.board.specs.declared.Place.{Place}
-use Rattle.board.specs.Places.{inPlace, stripIn, vacant, heldAt, standsIn, rackFrom, base, rackAt, boardIn}
+use Rattle.rooms.specs.Rooms.{heldIn, lowest}
+use Rattle.racks.specs.declared.Held.{Held}
+use Rattle.racks.specs.declared.Held.the-variants.{Nothing, Flight}
+use Rattle.racks.specs.declared.Place.{Place}
+use Rattle.racks.specs.Places.{inPlace, stripIn, vacant, heldAt, standsIn, rackFrom, base, rackAt, boardIn}
 
 pub rack-length : (ps : List Place) (bytes : List ℕ) (i n : ℕ) → length (rackFrom ps bytes i n) ≡ n
 rack-length ps bytes i zero = refl
@@ -31,7 +30,7 @@ rack-at ps bytes i (suc n) (suc k) h = rack-at ps bytes (suc i) n k (omega arith
 
 -- THE BYTES PLAY NO PART in how many strips stand there and which slot is the lowest empty one
 
-held-cons : (h : Held) (a b : List ℕ) (r s : Rack house) → heldIn r ≡ heldIn s → heldIn (stripIn h a ∷ r) ≡ heldIn (stripIn h b ∷ s)
+held-cons : (h : Held) (a b : List ℕ) (r s : List (Option Standing)) → heldIn r ≡ heldIn s → heldIn (stripIn h a ∷ r) ≡ heldIn (stripIn h b ∷ s)
 held-cons Nothing a b r s e = e
 held-cons (Flight held n) a b r s e = ap suc e
 
@@ -40,7 +39,7 @@ held-any ps a b i zero = refl
 held-any ps a b i (suc n) =
     held-cons (heldAt ps i) (drop (1800 * i) a) (drop (1800 * i) b) (rackFrom ps a (suc i) n) (rackFrom ps b (suc i) n) (held-any ps a b (suc i) n)
 
-lowest-cons : (h : Held) (a b : List ℕ) (r s : Rack house) → lowest r ≡ lowest s → lowest (stripIn h a ∷ r) ≡ lowest (stripIn h b ∷ s)
+lowest-cons : (h : Held) (a b : List ℕ) (r s : List (Option Standing)) → lowest r ≡ lowest s → lowest (stripIn h a ∷ r) ≡ lowest (stripIn h b ∷ s)
 lowest-cons Nothing a b r s e = refl
 lowest-cons (Flight held n) a b r s e = ap suc e
 
@@ -107,7 +106,8 @@ module _ (ps : List Place) (bytes after : List ℕ) (i : ℕ) (p : Place) (insid
   rack-with from n k e h =
       ext-getD none _ _ (rack-length (set ps i p) after from n ∙ sym (length-set (rackFrom ps bytes from n) k _ ∙ rack-length ps bytes from n)) each
     where
-      at : (q : ℕ) → q < n → (b : Bool) → eqb q k ≡ b → standsIn (set ps i p) after (from + q) ≡ getD (set (rackFrom ps bytes from n) k (stripIn (p .held) (drop (1800 * i) after))) q none
+      at : (q : ℕ) → q < n → (b : Bool) → eqb q k ≡ b
+          → standsIn (set ps i p) after (from + q) ≡ getD (set (rackFrom ps bytes from n) k (stripIn (p .held) (drop (1800 * i) after))) q none
       at q z true c =
           let same : q ≡ k = eqb-true q k c in
           ap (standsIn (set ps i p) after) (ap (λ (x : ℕ). from + x) same ∙ sym e)
@@ -128,7 +128,8 @@ module _ (ps : List Place) (bytes after : List ℕ) (i : ℕ) (p : Place) (insid
   pub rack-without : (from n : ℕ) → ((k : ℕ) → k < n → i ≡ from + k → ⊥) → rackFrom (set ps i p) after from n ≡ rackFrom ps bytes from n
   rack-without from n apart = ext-getD none _ _ (rack-length (set ps i p) after from n ∙ sym (rack-length ps bytes from n)) each
     where
-      each : (q : ℕ) → q < length (rackFrom (set ps i p) after from n) → getD (rackFrom (set ps i p) after from n) q none ≡ getD (rackFrom ps bytes from n) q none
+      each : (q : ℕ) → q < length (rackFrom (set ps i p) after from n)
+          → getD (rackFrom (set ps i p) after from n) q none ≡ getD (rackFrom ps bytes from n) q none
       each q z =
           let y : q < n = omega (arith, rack-length (set ps i p) after from n) in
           rack-at (set ps i p) after from n q y ∙ other-place (from + q) (apart q y) ∙ sym (rack-at ps bytes from n q y)

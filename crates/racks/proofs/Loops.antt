@@ -1,19 +1,20 @@
 -- The walks over a firm's ten places. Assumes nothing.
-use Prim.Native.Nat.{ℕ, zero, suc, _+_, _-_, _*_, _≤_, _<_}
-use mathlib.Core.Path.{_≡_, refl, sym, ap, _∙_}
+use Prim.Native.Nat.{ℕ, suc, _+_, _-_, _*_, _≤_, _<_}
+use mathlib.Core.Path.{_≡_, sym, ap, _∙_}
 use mathlib.Core.List.{List, [], _∷_}
+use mathlib.Core.Option.{Option}
 use native.Mathlib.Omega.{arith}
 use lib.ListN.{drop}
 use Rattle.state.specs.declared.Strip.{Strip}
-use Rattle.rooms.specs.Rooms.{heldIn, lowest, Rack}
-use Rattle.board.specs.House.{house}
-use Rattle.board.specs.declared.Held.{Held}
-use Rattle.board.specs.declared.Held.the-variants.{Nothing, Flight}
-use Rattle.board.specs.declared.Place.{Place}
-use Rattle.board.specs.Places.{stripIn, heldAt, standsIn, rackFrom, rackAt}
+use Rattle.history.specs.Demand3.{Standing}
+use Rattle.rooms.specs.Rooms.{heldIn, lowest}
+use Rattle.racks.specs.declared.Held.{Held}
+use Rattle.racks.specs.declared.Held.the-variants.{Nothing, Flight}
+use Rattle.racks.specs.declared.Place.{Place}
+use Rattle.racks.specs.Places.{stripIn, heldAt, rackFrom, rackAt}
 
 -- the slots ahead of slot k
-unfoldable pub ahead : List Place → ℕ → ℕ → Rack house
+unfoldable pub ahead : List Place → ℕ → ℕ → List (Option Standing)
 ahead ps from k = rackFrom ps [] (from + k) (10 - k)
 
 module _ (ps : List Place) (from : ℕ) where
@@ -45,7 +46,7 @@ module _ (ps : List Place) (from : ℕ) where
 
   module _ (n k : ℕ) (less : k < 10) (inv : n + heldIn (ahead ps from k) ≡ heldIn (rackAt ps [] from)) where
     pub held-none : heldAt ps (from + k) ≡ Nothing → n + heldIn (ahead ps from (k + 1)) ≡ heldIn (rackAt ps [] from)
-    held-none e = sym (ap (λ (r : Rack house). n + heldIn r) (ahead-next k less Nothing e)) ∙ inv
+    held-none e = sym (ap (λ (r : List (Option Standing)). n + heldIn r) (ahead-next k less Nothing e)) ∙ inv
 
     pub held-one : (held : Strip) (m : ℕ) → heldAt ps (from + k) ≡ Flight held m → n + 1 + heldIn (ahead ps from (k + 1)) ≡ heldIn (rackAt ps [] from)
     held-one held m e = let z = ap heldIn (ahead-next k less (Flight held m) e) in omega (arith, z)
