@@ -1,12 +1,10 @@
--- WHAT WAS ASKED OF THE BOARD, of strips as they are: the counts, 20 and the lowest slot, non-interference, and the third demand for each strip
--- from its filing to its clearing. Assumes nothing.
-use Prim.Native.Nat.{ℕ, _≤_}
-use mathlib.Core.Path.{_≡_, refl, sym, ap, subst, _∙_}
-use mathlib.Core.Bool.{Bool, true, false, cond, false≢true}
+-- WHAT WAS ASKED OF THE BOARD, of strips as they are: `board-meets`, `each-strip` and `handlers-apart` are the theorems to read. Assumes nothing.
+use Prim.Native.Nat.{ℕ}
+use mathlib.Core.Path.{_≡_, refl, sym, ap, _∙_}
+use mathlib.Core.Bool.{Bool, true, false, cond}
 use mathlib.Core.List.{List, [], _∷_, map}
-use mathlib.Core.Option.{Option, none, some}
+use mathlib.Core.Option.{Option, some}
 use native.Mathlib.Omega.{arith}
-use Rattle.sent.specs.Sent.{contents}
 use Rattle.kinds.specs.declared.MessageType.{MessageType}
 use Rattle.kinds.specs.declared.MessageType.the-variants.{Fpl}
 use Rattle.message.specs.declared.Answer.{Answer}
@@ -15,33 +13,29 @@ use Rattle.message.specs.Reading.{isPlan, answerOf}
 use Rattle.strip.specs.declared.Updated.{Updated}
 use Rattle.strip.specs.declared.Updated.the-variants.{Accepted, Refused}
 use Rattle.strip.specs.Updating.{updateOf, outAfter}
-use Rattle.history.specs.Demand3.{Standing, putAs, updater, offered, offeredAll, filedAs, Demand3}
+use Rattle.history.specs.Demand3.{Standing, putAs, updater, offered, offeredAll, filedAs}
 use Rattle.message.proofs.Plans.{plan-type}
 use Rattle.history.proofs.Demand3.{demand3}
 use Rattle.rooms.specs.declared.Firm.{Firm}
-use Rattle.rooms.specs.Rooms.{Outcome, House, Call, Board, firmOf, empty, stands, said, after, afterAll, isOf, kept, Heard, heard, Independent}
+use Rattle.rooms.specs.Rooms.{Outcome, Call, Board, firmOf, empty, said, after}
 use Rattle.rooms.specs.Rooms.Outcome.{takes, refuses}
-use Rattle.rooms.specs.Counts.{Life, logOf, lifeAt, Counts, Filings, offeredAs, offerAll, Lived}
-use Rattle.rooms.specs.Counts.Lived.{vacant, lives}
+use Rattle.rooms.specs.Keeper.{isOf, kept, Heard, keeper, logOf, heard}
+use Rattle.rooms.specs.Counts.{Life, lifeAt}
+use Rattle.rooms.specs.Demands.{offeredAs, offerAll, Lived, Meets}
+use Rattle.rooms.specs.Demands.Lived.{vacant, lives}
 use Rattle.rooms.proofs.Independent.{independent}
-use Rattle.rooms.proofs.Counts.{counts, filings-right}
 use Rattle.rooms.proofs.Lives.{lives-right}
+use Rattle.rooms.proofs.Meets.{meets}
 use Rattle.board.specs.House.{Why, filingAs, updatingAs, lent, house}
 use Rattle.board.specs.declared.Verdict.{Verdict}
 use Rattle.board.specs.Turns.{told}
-use Rattle.board.specs.Runs.{verdicts, offerOf, FromFiling, EachStrip, ownVerdicts, HandlersApart}
+use Rattle.board.specs.Runs.{verdicts}
+use Rattle.board.specs.Demands.{offerOf, FromFiling, EachStrip, ownVerdicts, HandlersApart}
 use Rattle.board.proofs.Runs.{faithful}
 
--- THE ROOM AND THE FIRMS: the abstract theorems, of strips as they are
-
-pub board-counts : Counts house
-board-counts = counts house
-
-pub board-filings : Filings house
-board-filings = filings-right house
-
-pub board-independent : Independent house
-board-independent = independent house
+-- THE ROOM, THE SLOTS, THE FIRMS AND THE JOURNAL
+pub board-meets : Meets house (keeper house)
+board-meets = meets house
 
 -- A FILING is an accepted FPL
 
@@ -101,15 +95,15 @@ each-strip cs f k s e = from-life f k cs s _ _ refl (lives-right house cs f k) e
 abbrev toldOf : List (Heard house) → List Verdict
 toldOf hs = map (λ (h : Heard house). told (h .answer)) hs
 
-told-kept : (b : Bool) (h : Heard house) (hs : List (Heard house)) → kept house b (told (h .answer)) (toldOf hs) ≡ toldOf (kept house b h hs)
+told-kept : (b : Bool) (h : Heard house) (hs : List (Heard house)) → kept b (told (h .answer)) (toldOf hs) ≡ toldOf (kept b h hs)
 told-kept true h hs = refl
 told-kept false h hs = refl
 
 own-heard : (f : Firm) (cs : List (Call (List ℕ))) (b : Board house) → ownVerdicts f cs (verdicts b cs) ≡ toldOf (heard house f b cs)
 own-heard f [] b = refl
 own-heard f (c ∷ cs) b =
-    ap (λ (vs : List Verdict). kept house (isOf house f (firmOf (c .by))) (told (said house b c)) vs) (own-heard f cs (after house b c))
-    ∙ told-kept (isOf house f (firmOf (c .by))) (record { answer = said house b c; rack = after house b c f }) (heard house f (after house b c) cs)
+    ap (λ (vs : List Verdict). kept (isOf f (firmOf (c .by))) (told (said house b c)) vs) (own-heard f cs (after house b c))
+    ∙ told-kept (isOf f (firmOf (c .by))) (record { answer = said house b c; rack = after house b c f }) (heard house f (after house b c) cs)
 
 pub handlers-apart : HandlersApart
 handlers-apart f one two l k cs ds vs ws qs rs end fin p q same =

@@ -1,16 +1,14 @@
 -- RUNS: `faithful` is the theorem to read. Each turn that a contract allows leaves on the board what the definition says. Assumes nothing.
-use Prim.Native.Nat.{ℕ, zero, suc, _+_, _*_, _≤_, _<_}
-use mathlib.Core.Path.{_≡_, refl, sym, ap, subst, fun-ext, _∙_}
+use Prim.Native.Nat.{ℕ, _+_, _*_, _≤_, _<_}
+use mathlib.Core.Path.{_≡_, refl, ap, subst, fun-ext, _∙_}
 use mathlib.Core.Bool.{Bool, true, false, cond}
-use mathlib.Core.List.{List, [], _∷_}
+use mathlib.Core.List.{List, _∷_}
 use mathlib.Core.Option.{Option, none, some}
 use native.Mathlib.Omega.{arith}
 use lib.Dec.{leb}
-use lib.ListN.{length, take, drop, getD, set, replicate, length-set, length-take, getD-replicate, List·getD-eq-default}
-use lib.Seq.{length-take-le}
+use lib.ListN.{length, take, drop, getD, set, replicate, length-set, length-take}
 use borrow.Author.Tests.{le-leb, leb-true, leb-false}
 use Rattle.kinds.specs.declared.MessageType.{MessageType}
-use Rattle.kinds.specs.declared.MessageType.the-variants.{Fpl}
 use Rattle.message.specs.declared.Answer.{Answer}
 use Rattle.message.specs.declared.Answer.the-variants.{Accepted as ReadAs, Refused as NotRead}
 use Rattle.message.specs.Reading.{isPlan, spellingOf, answerOf}
@@ -23,19 +21,20 @@ use Rattle.message.proofs.Plans.{plan-type}
 use Rattle.history.proofs.Causes.{accepted-fits}
 use Rattle.rooms.specs.declared.Firm.{Firm}
 use Rattle.rooms.specs.declared.Firm.the-variants.{First, Second}
-use Rattle.rooms.specs.Rooms.{Outcome, House, firmOf, other, same, Act, Call, Board, heldIn, lowest, beyond, hasRoom, Said, empty, filedAs, updatedAs, offeredAt, clearedAt, reply}
-use Rattle.rooms.specs.Rooms.{left, saidTo, said, put, after, afterAll}
+use Rattle.rooms.specs.Rooms.{firmOf, other, same, Act, Call, Board, heldIn, lowest, beyond, hasRoom, Said, empty}
+use Rattle.rooms.specs.Rooms.{filedAs, updatedAs, offeredAt, clearedAt, reply}
+use Rattle.rooms.specs.Rooms.{saidTo, said, put, after}
 use Rattle.rooms.specs.Rooms.Outcome.{takes, refuses}
 use Rattle.rooms.specs.Rooms.Act.{file, update, clear}
 use Rattle.rooms.specs.Rooms.Reply.{filed, updated, cleared, refused, noFirm, noSlot, noRoom, notOver}
 use Rattle.rooms.proofs.Racks.{lowest-inside, room-below}
-use Rattle.board.specs.House.{Why, filingAs, updatingAs, lent, overIn, house}
+use Rattle.board.specs.House.{filingAs, updatingAs, lent, overIn, house}
 use Rattle.racks.specs.declared.Place.{Place}
 use Rattle.board.specs.declared.Verdict.{Verdict}
 use Rattle.board.specs.declared.Turn.{Turn}
-use Rattle.racks.specs.Places.{Sized, inPlace, stripIn, vacant, standsIn, rackFrom, base, rackAt, boardIn, placeOf, written}
+use Rattle.racks.specs.Places.{Sized, inPlace, stripIn, vacant, base, rackAt, boardIn, placeOf, written}
 use Rattle.board.specs.Turns.{told, placed, lentAfter, placedBy, lentBy, Turned}
-use Rattle.board.specs.Runs.{Plays, verdicts, Goes, Faithful}
+use Rattle.board.specs.Runs.{Plays, Goes, Faithful}
 use Rattle.board.specs.Runs.Plays.{done, turn}
 use Rattle.racks.proofs.Written.{written-length, written-there, written-other}
 use Rattle.racks.proofs.Racks.{board-length, board-past, rack-with, rack-without}
@@ -162,7 +161,8 @@ same-board First b Second = refl
 same-board Second b First = refl
 same-board Second b Second = refl
 
-said-left : (g : Firm) (ps : List Place) (bytes : List ℕ) → Sized ps bytes → (x : Said house) → Proper x → Left (some g) ps bytes x (placed g x ps) (lentAfter g x bytes)
+said-left : (g : Firm) (ps : List Place) (bytes : List ℕ) → Sized ps bytes → (x : Said house) → Proper x
+    → Left (some g) ps bytes x (placed g x ps) (lentAfter g x bytes)
 said-left g ps bytes z (filed k s) p = record { board-is = put-there ps bytes z k (p .0) g s (p .1); sized = put-sized ps bytes z k (p .0) g s (p .1) }
 said-left g ps bytes z (updated k s) p = record { board-is = put-there ps bytes z k (p .0) g s (p .1); sized = put-sized ps bytes z k (p .0) g s (p .1) }
 said-left g ps bytes z (cleared k) p =
@@ -174,7 +174,8 @@ said-left g ps bytes z noRoom p = record { board-is = same-board g (boardIn ps b
 said-left g ps bytes z notOver p = record { board-is = same-board g (boardIn ps bytes); sized = z }
 
 turn-left : (w : Option Firm) (ps : List Place) (bytes : List ℕ) → Sized ps bytes → (a : Act (List ℕ))
-    → Left w ps bytes (saidTo house w (boardIn ps bytes) a) (placedBy w (saidTo house w (boardIn ps bytes) a) ps) (lentBy w (saidTo house w (boardIn ps bytes) a) bytes)
+    → Left w ps bytes (saidTo house w (boardIn ps bytes) a) (placedBy w (saidTo house w (boardIn ps bytes) a) ps)
+    (lentBy w (saidTo house w (boardIn ps bytes) a) bytes)
 turn-left none ps bytes z a = record { board-is = λ f. refl; sized = z }
 turn-left (some g) ps bytes z a =
     said-left g ps bytes z (saidTo house (some g) (boardIn ps bytes) a) (reply-proper ps bytes g (beyond (heldIn (boardIn ps bytes (other g)))) a)
@@ -186,7 +187,8 @@ one-turn c ps bytes t mid z k =
 
 -- A RUN
 
-pub goes : {ps qs : List Place} {bytes end : List ℕ} {cs : List (Call (List ℕ))} {vs : List Verdict} → (b : Board house) → ((f : Firm) → boardIn ps bytes f ≡ b f)
+pub goes : {ps qs : List Place} {bytes end : List ℕ} {cs : List (Call (List ℕ))} {vs : List Verdict} → (b : Board house)
+    → ((f : Firm) → boardIn ps bytes f ≡ b f)
     → Sized ps bytes → Plays ps bytes cs vs qs end → Goes b cs vs qs end
 goes b e z done = record { stands-as = e; answers-as = refl; sized = z }
 goes {ps = ps} {bytes = bytes} b e z (turn {mid = mid} {c = c} {cs = cs} {vs = vs} t k rest) =

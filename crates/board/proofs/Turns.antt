@@ -25,7 +25,7 @@ use Rattle.rooms.specs.declared.Firm.{Firm}
 use Rattle.rooms.specs.Rooms.{Outcome, firmOf, other, Act, Call, heldIn, lowest, beyond, hasRoom, Said, filedAs, updatedAs, offeredAt, clearedAt, saidTo}
 use Rattle.rooms.specs.Rooms.Outcome.{takes, refuses}
 use Rattle.rooms.specs.Rooms.Act.{file, update, clear}
-use Rattle.rooms.specs.Rooms.Reply.{filed, updated, cleared, refused, noFirm, noSlot, noRoom, notOver}
+use Rattle.rooms.specs.Rooms.Reply.{filed, updated, cleared, refused, noSlot, noRoom, notOver}
 use Rattle.rooms.proofs.Racks.{lowest-inside, room-below}
 use Rattle.racks.specs.declared.Held.{Held}
 use Rattle.racks.specs.declared.Held.the-variants.{Nothing, Flight}
@@ -188,7 +188,8 @@ module _ (f : Firm) (slot : ℕ) (b : Board) (bytes : List ℕ) where
 
     pub clear-not : (t : Turn) → t ≡ refusal b 13 0 0 → overIn (held .state) ≡ false → TurnOf f (clear slot) (b .places) bytes t bytes
     clear-not t r q =
-        turned f (clear slot) (b .places) bytes t bytes notOver (over-said false q) (ap (λ (u : Turn). u .verdict) r) (ap (λ (u : Turn). u .board .places) r) refl
+        turned f (clear slot) (b .places) bytes t bytes notOver (over-said false q)
+        (ap (λ (u : Turn). u .verdict) r) (ap (λ (u : Turn). u .board .places) r) refl
 
     pub clear-done : (t : Turn) → overIn (held .state) ≡ true → t .verdict ≡ Cleared → t .board .places ≡ set (b .places) (base f + slot) vacant
         → TurnOf f (clear slot) (b .places) bytes t bytes
@@ -221,6 +222,6 @@ pub turned-one : (c : Call (List ℕ)) (ps : List Place) (bytes : List ℕ) (t u
     → (t ≡ u) × (x ≡ y)
 turned-one c ps bytes t u x y k l = (
   ap₂ (λ (v : Verdict) (qs : List Place). record { board = record { places = qs }; verdict = v }) (k .verdict-is ∙ sym (l .verdict-is))
-  (k .places-are ∙ sym (l .places-are)),
+      (k .places-are ∙ sym (l .places-are)),
   k .bytes-are ∙ sym (l .bytes-are),
 )

@@ -13,7 +13,7 @@ use Rattle.racks.specs.declared.Held.{Held}
 use Rattle.racks.specs.declared.Held.the-variants.{Nothing, Flight}
 use Rattle.racks.specs.declared.Place.{Place}
 use Rattle.racks.specs.Places.{vacant, base, boardIn, heldTo, shownTo, placeOf, written}
-use Rattle.board.specs.House.{Why, house}
+use Rattle.board.specs.House.{house}
 use Rattle.board.specs.declared.Verdict.{Verdict}
 use Rattle.board.specs.declared.Verdict.the-variants.{Filed, Updated, Cleared, Refused}
 use Rattle.board.specs.declared.Turn.{Turn}
