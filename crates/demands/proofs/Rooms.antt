@@ -19,7 +19,7 @@ use Rattle.aerodromes.specs.Field16.{fits16plan}
 use Rattle.route.specs.Levels.{speedDigits, levelDigits, speeds, levels, starts}
 use Rattle.route.specs.Points.{within, radialFits, indicators, nameFits, pointFits}
 use Rattle.route.specs.Field15.{elementFits, fits15}
-use Rattle.other.specs.Field18.{fitsIn, hasKey}
+use Rattle.other.specs.Field18.{fitsIn, hasKey, wordsUnder}
 use Rattle.plan.specs.Unexplained.{unexplained}
 use Rattle.forms.specs.Field22.{labels, fits22, fault22}
 use Rattle.force.specs.InForce.{namedBy}
@@ -142,5 +142,5 @@ update-tight : updateOf filed justFiled (bytes "(CHG-ABC12-EHAM0930-EDDF-0-9/2B7
 unfolding answerOf countAs faultIn spellingOf outer parens parensFrom lettersFrom inAlphabet white text reduced reducedFrom standsForRun opens closes
     hyphens typeNamed typeRanked typesRead types formsOf planForms briefForms fits3 numbersFit fits7 fits8 fits9 countFits aircraftFits fits10
     valid10 present fits16plan fits15 starts speeds levels speedDigits levelDigits elementFits letters within radialFits indicators nameFits
-    pointFits fourLetters joined timeFits fitsIn unexplained hasKey labels fits22 fault22 canonicalPlan openingOf offeredAs newStrip updateOf namedBy
+    pointFits fourLetters joined timeFits fitsIn unexplained hasKey wordsUnder labels fits22 fault22 canonicalPlan openingOf offeredAs newStrip updateOf namedBy
 update-tight = refl
