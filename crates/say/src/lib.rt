@@ -15,7 +15,7 @@ use state::State;
 use state::Strip;
 
 // Says what went wrong first, and no more: standard error is then closed.
-fn complain(what: &[u8]) {
+pub fn complain(what: &[u8]) {
     io::write_all(STDERR_FILENO, what);
     libc::close(STDERR_FILENO);
 }
@@ -103,7 +103,7 @@ fn departure(d: Departure) {
 }
 
 fn arrival(d: Departure, a: Aerodrome, t: Clock) {
-    print(b"OK ARRIVED ");
+    print(b"ARRIVED ");
     departure(d);
     print(b" ");
     print(&[a.0, a.1, a.2, a.3]);
@@ -111,16 +111,17 @@ fn arrival(d: Departure, a: Aerodrome, t: Clock) {
     time(t);
 }
 
-fn state_of(held: Strip) {
+// A strip's state.
+pub fn state(held: Strip) {
     let s = held.state;
     match s {
-        State::Filed => print(b"OK FILED"),
+        State::Filed => print(b"FILED"),
         State::Departed(t) => {
-            print(b"OK DEPARTED ");
+            print(b"DEPARTED ");
             time(t);
         }
         State::Arrived(d, a, t) => arrival(d, a, t),
-        State::Cancelled => print(b"OK CANCELLED"),
+        State::Cancelled => print(b"CANCELLED"),
     }
 }
 
@@ -139,7 +140,7 @@ fn type_of(t: MessageType) {
 }
 
 // The end of a line: a space and the spelling.
-fn spelled(spelling: &[u8]) {
+pub fn spelled(spelling: &[u8]) {
     print(b" ");
     print(spelling);
     print(b"\n");
@@ -154,17 +155,23 @@ pub fn accepted(t: MessageType, spelling: &[u8]) {
 // A strip: `OK`, its state, its spelling. Any state is printed; only one that `Strip::is_sound` passes has times and an aerodrome as
 // document 01 writes them.
 pub fn strip(held: Strip, spelling: &[u8]) {
-    state_of(held);
+    print(b"OK ");
+    state(held);
     spelled(spelling);
 }
 
 // A refusal: `NO`, number, field, place.
 pub fn refusal(number: u8, field: u8, place: usize) {
+    refused(number, field, place);
+    print(b"\n");
+}
+
+// The same without the end of the line.
+pub fn refused(number: u8, field: u8, place: usize) {
     print(b"NO ");
     decimal(number as u64);
     print(b" ");
     decimal(field as u64);
     print(b" ");
     decimal(place as u64);
-    print(b"\n");
 }
