@@ -140,7 +140,7 @@ fn type_of(t: MessageType) {
 }
 
 // The end of a line: a space and the spelling.
-fn spelled(spelling: &[u8]) {
+pub fn spelled(spelling: &[u8]) {
     print(b" ");
     print(spelling);
     print(b"\n");
