@@ -12,6 +12,7 @@ use crate::generate::questions::{
     update_run, Line,
 };
 use crate::generate::Dice;
+use crate::handlers::Handlers;
 use crate::kind::Kind;
 use crate::vectors::Vectors;
 
@@ -25,7 +26,7 @@ pub struct Listed {
 }
 
 /// The lists of questions. The first begins before any strip is held.
-const QUESTIONS: [&str; 13] = [
+const QUESTIONS: [&str; 14] = [
     include_str!("../data/bad-strips.txt"),
     include_str!("../data/document-01.txt"),
     include_str!("../data/document-01-further.txt"),
@@ -37,11 +38,15 @@ const QUESTIONS: [&str; 13] = [
     include_str!("../data/document-02-causes.txt"),
     include_str!("../data/document-02-rooms.txt"),
     include_str!("../data/document-02-bundles.txt"),
+    include_str!("../data/document-02-board.txt"),
     include_str!("../data/printed-messages.txt"),
     include_str!("../data/lines.txt"),
 ];
 
 const CONTENTS: &str = include_str!("../data/printed-contents.txt");
+
+/// Calls of two handlers, for their program.
+const CALLS: &str = include_str!("../data/handlers.txt");
 
 /// Lines that hold a content alone to a form, with their answers.
 const ALONE: &str = include_str!("../data/content-lines.txt");
@@ -73,13 +78,17 @@ pub fn listed() -> Vec<Listed> {
     questions.chain(contents(CONTENTS)).chain(self::questions(ALONE)).collect()
 }
 
-/// The questions that the second reader answers otherwise than listed, each with both answers.
+/// The list of calls for the program of two handlers.
+pub fn listed_calls() -> Vec<Listed> {
+    questions(CALLS)
+}
+
+/// The questions and calls that the second reader answers otherwise than listed, each with both answers.
 pub fn answered_otherwise() -> Vec<(Listed, String)> {
-    let mut vectors = Vectors::default();
-    let answered = listed().into_iter().map(|listed| {
-        let answer = vectors.answer(listed.question.as_bytes());
-        (listed, String::from_utf8_lossy(&answer).into_owned())
-    });
+    let (mut vectors, mut handlers) = (Vectors::default(), Handlers::default());
+    let asked = listed().into_iter().map(|listed| (vectors.answer(listed.question.as_bytes()), listed));
+    let called = listed_calls().into_iter().map(|listed| (handlers.answer(listed.question.as_bytes()), listed));
+    let answered = asked.chain(called).map(|(answer, listed)| (listed, String::from_utf8_lossy(&answer).into_owned()));
     answered.filter(|(listed, answer)| listed.answer != *answer).collect()
 }
 

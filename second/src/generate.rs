@@ -6,6 +6,7 @@ mod damage;
 mod dice;
 mod drafts;
 pub mod neighbours;
+pub mod offers;
 pub mod probes;
 pub mod questions;
 
