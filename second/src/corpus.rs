@@ -5,11 +5,12 @@
 //! an accepted message spelled as it stands, and `{3*AB}` is AB three times. `#` begins a remark.
 //! The lines of `contents.txt` have no answer.
 
+use crate::generate::boards::{handlers_line, BoardRun};
 use crate::generate::neighbours;
 use crate::generate::probes::probes;
 use crate::generate::questions::{
-    bundle_run, content_alone, in_force_run, read_damaged, read_in_promised_room, read_in_short_rooms, read_valid,
-    update_run, Line,
+    board_run, bundle_run, content_alone, in_force_run, read_damaged, read_in_promised_room, read_in_short_rooms,
+    read_valid, update_run, Line,
 };
 use crate::generate::Dice;
 use crate::handlers::Handlers;
@@ -165,6 +166,7 @@ fn generated() -> Vec<Line> {
     lines.extend((0..500).flat_map(|_| update_run(&mut dice, 10)));
     lines.extend((0..200).flat_map(|_| in_force_run(&mut dice, 10)));
     lines.extend((0..100).flat_map(|_| bundle_run(&mut dice)));
+    lines.extend((0..40).flat_map(|_| board_run(&mut dice, 50)));
     lines.extend(neighbours::questions());
     lines
 }
@@ -181,6 +183,19 @@ fn contents_alone() -> Vec<Line> {
 pub fn corpus() -> Vec<u8> {
     let listed = listed().into_iter().map(|listed| listed.question.into_bytes());
     let lines: Vec<Line> = listed.chain(generated()).chain(contents_alone()).chain(probes()).collect();
+    lines.join(&b'\n')
+}
+
+/// Calls for the program of two handlers: those listed, then generated ones for the board that these leave, the same each time.
+pub fn calls() -> Vec<u8> {
+    let mut lines: Vec<Line> = listed_calls().into_iter().map(|listed| listed.question.into_bytes()).collect();
+    let mut handlers = Handlers::default();
+    for line in &lines {
+        handlers.answer(line);
+    }
+    let mut dice = Dice::new(2026);
+    let mut run = BoardRun::on(handlers.into_board(), &mut dice);
+    lines.extend((0..1000).map(|_| handlers_line(&mut dice, &mut run)));
     lines.join(&b'\n')
 }
 

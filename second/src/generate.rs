@@ -1,5 +1,6 @@
 //! A deterministic generator of messages and field contents, valid, nearly valid and damaged.
 
+pub mod boards;
 pub mod bundles;
 mod contents;
 mod damage;

@@ -31,6 +31,11 @@ impl Handlers {
         }
     }
 
+    /// The board as the calls left it.
+    pub fn into_board(self) -> Board {
+        self.board
+    }
+
     /// `None` if the line is no call.
     fn call(&mut self, line: &[u8]) -> Option<Result<Vec<u8>, Refused>> {
         let (firm, call) = at_space(line)?;

@@ -1,6 +1,6 @@
 //! The program of two handlers: one line for each, and what a bad line leaves.
 
-use second::corpus::listed_calls;
+use second::corpus::{calls, listed_calls};
 use second::handlers::{handlers, Handlers, LONGEST_CALL};
 
 const PLAN: &str = "(FPL-A1-I-A1/H-H/A-EHAM0000-N0000F000 AB-EDDF0000-0)";
@@ -21,6 +21,22 @@ fn the_list() {
         assert_eq!(answer, *due, "{line}");
     }
     assert_eq!(answers.lines().count(), due.len());
+}
+
+/// The calls that the program is held to meet each number of the board, and every state.
+#[test]
+fn the_calls() {
+    let lines = calls();
+    assert!(lines == calls());
+    let answers = answers(&lines);
+    for head in
+        ["OK 9 ", "OK CLEARED", "OK ARRIVED ", "OK CANCELLED ", "OK DEPARTED ", "NO 18 0 0", "NO 19 0 0", "NO 20 0 0"]
+    {
+        assert!(answers.lines().any(|line| line.starts_with(head)), "{head}");
+    }
+    for head in ["NO 13 0 0 FILED", "NO 13 0 0 DEPARTED ", "NO 13 0 0 ARRIVED ", "NO 12 0 0 ", "NO 10 "] {
+        assert!(answers.lines().any(|line| line.starts_with(head)), "{head}");
+    }
 }
 
 #[test]
