@@ -5,12 +5,13 @@
 //! an accepted message spelled as it stands, and `{3*AB}` is AB three times. `#` begins a remark.
 //! The lines of `contents.txt` have no answer.
 
-use crate::generate::boards::{handlers_line, BoardRun};
+use crate::board::Board;
+use crate::generate::boards::{emptying, handlers_line, BoardRun};
 use crate::generate::neighbours;
 use crate::generate::probes::probes;
 use crate::generate::questions::{
-    board_run, bundle_run, content_alone, in_force_run, read_damaged, read_in_promised_room, read_in_short_rooms,
-    read_valid, update_run, Line,
+    bundle_run, content_alone, in_force_run, read_damaged, read_in_promised_room, read_in_short_rooms, read_valid,
+    update_run, Line,
 };
 use crate::generate::Dice;
 use crate::handlers::Handlers;
@@ -27,7 +28,7 @@ pub struct Listed {
 }
 
 /// The lists of questions. The first begins before any strip is held.
-const QUESTIONS: [&str; 14] = [
+const QUESTIONS: [&str; 13] = [
     include_str!("../data/bad-strips.txt"),
     include_str!("../data/document-01.txt"),
     include_str!("../data/document-01-further.txt"),
@@ -39,14 +40,16 @@ const QUESTIONS: [&str; 14] = [
     include_str!("../data/document-02-causes.txt"),
     include_str!("../data/document-02-rooms.txt"),
     include_str!("../data/document-02-bundles.txt"),
-    include_str!("../data/document-02-board.txt"),
     include_str!("../data/printed-messages.txt"),
     include_str!("../data/lines.txt"),
 ];
 
 const CONTENTS: &str = include_str!("../data/printed-contents.txt");
 
-/// Calls of two handlers, for their program.
+/// Runs of calls of two handlers, each on an empty board.
+const BOARDS: &str = include_str!("../data/document-02-board.txt");
+
+/// A further run: how the program of two handlers is spoken to.
 const CALLS: &str = include_str!("../data/handlers.txt");
 
 /// Lines that hold a content alone to a form, with their answers.
@@ -79,16 +82,20 @@ pub fn listed() -> Vec<Listed> {
     questions.chain(contents(CONTENTS)).chain(self::questions(ALONE)).collect()
 }
 
-/// The list of calls for the program of two handlers.
-pub fn listed_calls() -> Vec<Listed> {
-    questions(CALLS)
+/// The runs of calls for the program of two handlers, each for an empty board.
+pub fn listed_calls() -> Vec<Vec<Listed>> {
+    let boards = BOARDS.split("\n\n").skip(1);
+    boards.chain([CALLS]).map(questions).collect()
 }
 
 /// The questions and calls that the second reader answers otherwise than listed, each with both answers.
 pub fn answered_otherwise() -> Vec<(Listed, String)> {
-    let (mut vectors, mut handlers) = (Vectors::default(), Handlers::default());
+    let mut vectors = Vectors::default();
     let asked = listed().into_iter().map(|listed| (vectors.answer(listed.question.as_bytes()), listed));
-    let called = listed_calls().into_iter().map(|listed| (handlers.answer(listed.question.as_bytes()), listed));
+    let called = listed_calls().into_iter().flat_map(|run| {
+        let mut handlers = Handlers::default();
+        run.into_iter().map(move |listed| (handlers.answer(listed.question.as_bytes()), listed))
+    });
     let answered = asked.chain(called).map(|(answer, listed)| (listed, String::from_utf8_lossy(&answer).into_owned()));
     answered.filter(|(listed, answer)| listed.answer != *answer).collect()
 }
@@ -166,7 +173,6 @@ fn generated() -> Vec<Line> {
     lines.extend((0..500).flat_map(|_| update_run(&mut dice, 10)));
     lines.extend((0..200).flat_map(|_| in_force_run(&mut dice, 10)));
     lines.extend((0..100).flat_map(|_| bundle_run(&mut dice)));
-    lines.extend((0..40).flat_map(|_| board_run(&mut dice, 50)));
     lines.extend(neighbours::questions());
     lines
 }
@@ -186,15 +192,20 @@ pub fn corpus() -> Vec<u8> {
     lines.join(&b'\n')
 }
 
-/// Calls for the program of two handlers: those listed, then generated ones for the board that these leave, the same each time.
+/// Calls for the program of two handlers, which has one board: the runs listed, each with calls behind it that empty the board, then generated calls,
+/// the same each time.
 pub fn calls() -> Vec<u8> {
-    let mut lines: Vec<Line> = listed_calls().into_iter().map(|listed| listed.question.into_bytes()).collect();
     let mut handlers = Handlers::default();
-    for line in &lines {
-        handlers.answer(line);
+    let mut lines: Vec<Line> = Vec::new();
+    for run in listed_calls() {
+        let asked: Vec<Line> = run.into_iter().map(|listed| listed.question.into_bytes()).collect();
+        asked.iter().for_each(|line| drop(handlers.answer(line)));
+        let emptying = emptying(handlers.board());
+        emptying.iter().for_each(|line| drop(handlers.answer(line)));
+        lines.extend(asked.into_iter().chain(emptying));
     }
     let mut dice = Dice::new(2026);
-    let mut run = BoardRun::on(handlers.into_board(), &mut dice);
+    let mut run = BoardRun::on(Board::default(), &mut dice);
     lines.extend((0..1000).map(|_| handlers_line(&mut dice, &mut run)));
     lines.join(&b'\n')
 }

@@ -4,13 +4,13 @@
 
 use std::io::{self, BufRead, Write};
 
-use crate::alphabet::{at_space, number};
+use crate::alphabet::at_space;
 use crate::board::Board;
 use crate::cause::Refused;
 use crate::strip::Updated;
 
 /// The most bytes of a line that is answered.
-pub const LONGEST_CALL: usize = 8192;
+pub const LONGEST_CALL: usize = 4096;
 
 /// A board, empty at first.
 #[derive(Default)]
@@ -32,8 +32,8 @@ impl Handlers {
     }
 
     /// The board as the calls left it.
-    pub fn into_board(self) -> Board {
-        self.board
+    pub fn board(&self) -> &Board {
+        &self.board
     }
 
     /// `None` if the line is no call.
@@ -108,7 +108,11 @@ fn identification(strip: &[u8]) -> &[u8] {
     seven.split(|&b| b == b'/').next().unwrap_or_default()
 }
 
-/// One to four digits.
+/// The number that a digit says; of more digits one that is no firm and no slot.
 fn read_number(word: &[u8]) -> Option<usize> {
-    number(word).map(usize::from)
+    match word {
+        [] => None,
+        [digit @ b'0'..=b'9'] => Some(usize::from(digit - b'0')),
+        _ => word.iter().all(u8::is_ascii_digit).then_some(usize::MAX),
+    }
 }

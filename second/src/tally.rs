@@ -4,7 +4,6 @@ use std::collections::BTreeMap;
 use std::fmt;
 use std::io::{self, BufRead};
 
-use crate::board::SLOTS;
 use crate::kind::Kind;
 
 /// How often each answer was met.
@@ -51,8 +50,7 @@ fn head(answer: &str) -> String {
 fn groups() -> Vec<(&'static str, Vec<String>)> {
     let all = |kind: &str, names: &[&str]| names.iter().map(|name| format!("{kind} {name}")).collect::<Vec<_>>();
     let types = Kind::ALL.map(Kind::name);
-    let numbers = (1..=20).map(|number| format!("NO {number}")).collect();
-    let slots = (0..SLOTS).map(|slot| format!("OK {slot}")).collect();
+    let numbers = (1..=17).map(|number| format!("NO {number}")).collect();
     vec![
         ("read", all("OK", &types)),
         ("refused", numbers),
@@ -62,10 +60,7 @@ fn groups() -> Vec<(&'static str, Vec<String>)> {
         ("found", all("CAUSE 13", &["DEPARTED", "ARRIVED", "CANCELLED"])),
         ("no cause", vec!["NONE".to_string()]),
         ("in force", all("IN", &["STRIP", "CHG"])),
-        ("filed in slot", slots),
-        ("cleared", vec!["OK CLEARED".to_string()]),
         ("held", vec!["HELD".to_string()]),
-        ("new board", vec!["EMPTY".to_string()]),
         ("content alone", vec!["FITS".to_string(), "NO".to_string()]),
     ]
 }

@@ -3,14 +3,10 @@
 //! `R message` and `r ROOM message` read it, `H STATE strip` holds a strip unchecked, `U message` and
 //! `u ROOM message` offer it to the strip held, `W message` asks why that is refused and changes
 //! nothing, `F NUMBER message` asks for the field in force, `C FORM content` holds a content alone to a form.
-//!
-//! `B EMPTY` begins a new board; on it `N FIRM message` files, `A FIRM SLOT message` updates, `K FIRM SLOT` clears and
-//! `L FIRM SLOT` looks.
 
 use std::io::{self, BufRead, Write};
 
 use crate::alphabet::{at_space, number};
-use crate::board::Board;
 use crate::cause::Refused;
 use crate::escapes::{escaped, unescaped};
 use crate::forms::{field_fits, Form};
@@ -22,15 +18,14 @@ use crate::strip::{field_in_force, offer, update, InForce, Updated};
 /// The most bytes of a line that is answered.
 pub const LONGEST_LINE: usize = 8192;
 
-/// The strip that is held from line to line, before the first an empty one, and the board.
+/// The strip that is held from line to line, before the first an empty one.
 pub struct Vectors {
     held: Updated,
-    board: Board,
 }
 
 impl Default for Vectors {
     fn default() -> Self {
-        Vectors { held: Updated { strip: Vec::new(), state: State::Filed }, board: Board::default() }
+        Vectors { held: Updated { strip: Vec::new(), state: State::Filed } }
     }
 }
 
@@ -51,44 +46,7 @@ impl Vectors {
             b"U" => Some(self.offer(&unescaped(rest)?, LONGEST)),
             b"W" => Some(self.cause(&unescaped(rest)?)),
             b"r" | b"u" | b"F" | b"H" | b"C" => self.answer_with(kind, rest),
-            b"B" => (rest == b"EMPTY").then(|| self.empty_board()),
-            b"N" | b"A" | b"K" | b"L" => self.answer_on_board(kind, rest),
             _ => None,
-        }
-    }
-
-    /// The calls on the board, which have a firm's number first.
-    fn answer_on_board(&mut self, kind: &[u8], rest: &[u8]) -> Option<Vec<u8>> {
-        let (firm, rest) = at_space(rest)?;
-        let firm = number_to(firm, 255)?;
-        match kind {
-            b"N" => Some(self.file(firm, &unescaped(rest)?)),
-            b"K" => Some(self.clear(firm, number_to(rest, 255)?)),
-            b"L" => Some(answer_held(self.board.look(firm, number_to(rest, 255)?))),
-            _ => {
-                let (slot, text) = at_space(rest)?;
-                let updated = self.board.update(firm, number_to(slot, 255)?, &unescaped(text)?);
-                Some(answer_held(updated.map_err(|refused| refused.refusal)))
-            }
-        }
-    }
-
-    fn empty_board(&mut self) -> Vec<u8> {
-        self.board = Board::default();
-        b"EMPTY".to_vec()
-    }
-
-    fn file(&mut self, firm: usize, message: &[u8]) -> Vec<u8> {
-        match self.board.file(firm, message) {
-            Ok((slot, filed)) => with_text(format!("OK {slot} {} ", filed.state), &filed.strip),
-            Err(refusal) => answer_refused(refusal),
-        }
-    }
-
-    fn clear(&mut self, firm: usize, slot: usize) -> Vec<u8> {
-        match self.board.clear(firm, slot) {
-            Ok(()) => b"OK CLEARED".to_vec(),
-            Err(refused) => answer_refused(refused.refusal),
         }
     }
 
@@ -158,13 +116,6 @@ fn answer_read(message: &[u8], room: usize) -> Vec<u8> {
 fn answer_content(form: &str, content: &[u8]) -> Option<Vec<u8>> {
     Form::named(form)?;
     Some(if field_fits(form, content) { b"FITS".to_vec() } else { b"NO".to_vec() })
-}
-
-fn answer_held(held: Result<&Updated, Refusal>) -> Vec<u8> {
-    match held {
-        Ok(held) => with_text(format!("OK {} ", held.state), &held.strip),
-        Err(refusal) => answer_refused(refusal),
-    }
 }
 
 fn answer_refused(refusal: Refusal) -> Vec<u8> {

@@ -155,32 +155,6 @@ const ROOMS: [Case; 6] = [
     ("updated in too little", |asked| asked.is("u ", "NO 11")),
 ];
 
-/// Request 6: one board for two handlers.
-const BOARD: [Case; 20] = [
-    ("filed for 1", |asked| asked.is("N 1 ", "OK ")),
-    ("filed for 2", |asked| asked.is("N 2 ", "OK ")),
-    ("tenth of 1", |asked| asked.is("N 1 ", "OK 9")),
-    ("tenth of 2", |asked| asked.is("N 2 ", "OK 9")),
-    ("no room for 1", |asked| asked.is("N 1 ", "NO 20")),
-    ("no room for 2", |asked| asked.is("N 2 ", "NO 20")),
-    ("no room for what is no plan", |asked| {
-        asked.is("N ", "NO 20") && read(asked.message().as_bytes(), LONGEST).is_err()
-    }),
-    ("filed by no firm", |asked| asked.is("N ", "NO 18")),
-    ("no plan", |asked| asked.is("N ", "NO 14")),
-    ("no message", |asked| asked.is("N ", "NO 7")),
-    ("updated", |asked| asked.is("A ", "OK FILED")),
-    ("over", |asked| asked.is("A ", "OK ARRIVED") || asked.is("A ", "OK CANCELLED")),
-    ("for another flight", |asked| asked.is("A ", "NO 12")),
-    ("forbidden", |asked| asked.is("A ", "NO 13")),
-    ("offered to none", |asked| asked.is("A ", "NO 19")),
-    ("cleared", |asked| asked.is("K ", "OK CLEARED")),
-    ("not over", |asked| asked.is("K ", "NO 13")),
-    ("nothing to clear", |asked| asked.is("K ", "NO 19")),
-    ("looked at", |asked| asked.is("L ", "OK")),
-    ("nothing to look at", |asked| asked.is("L ", "NO 19")),
-];
-
 /// How often each case was met in ten thousand questions.
 fn met(seed: u64, cases: &[Case]) -> Vec<(&'static str, usize)> {
     let mut dice = Dice::new(seed);
@@ -228,9 +202,4 @@ fn rooms() {
         let met = met(seed, &never);
         assert!(met.iter().all(|(_, times)| *times == 0), "seed {seed}: {met:?}");
     }
-}
-
-#[test]
-fn the_board() {
-    all_met(&BOARD);
 }

@@ -133,3 +133,29 @@ pub fn handlers_line(dice: &mut Dice, run: &mut BoardRun) -> Vec<u8> {
     let message = message.into_iter().map(|byte| if byte == b'\n' { b' ' } else { byte });
     head.into_bytes().into_iter().chain(message).collect()
 }
+
+/// Lines for the program of two handlers that end each flight of a board and clear its strip.
+pub fn emptying(board: &Board) -> Vec<Vec<u8>> {
+    let mut lines = Vec::new();
+    for firm in [1, 2] {
+        for (slot, held) in board.list(firm).unwrap_or_default() {
+            if !is_over(held) {
+                lines.push([format!("{firm} UPDATE {slot} ").as_bytes(), &last_message(held)].concat());
+            }
+            lines.push(format!("{firm} CLEAR {slot}").into_bytes());
+        }
+    }
+    lines
+}
+
+/// A CNL for a filed strip, an ARR for a departed one.
+fn last_message(held: &Updated) -> Vec<u8> {
+    let strip = String::from_utf8_lossy(&held.strip);
+    let fields: Vec<&str> = strip.split('-').collect();
+    let identification = fields[1].split('/').next().unwrap_or_default();
+    let (departure, destination) = (fields[5], &fields[7][..4]);
+    match held.state {
+        State::Filed => format!("(CNL-{identification}-{departure}-{destination}-0)").into_bytes(),
+        _ => format!("(ARR-{identification}-{departure}-{destination}-EDDF0100)").into_bytes(),
+    }
+}

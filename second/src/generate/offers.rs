@@ -14,7 +14,7 @@ pub fn message_for(dice: &mut Dice, held: &Updated) -> Vec<u8> {
     let kinds = if dice.chance(3) { &Kind::ALL } else { kinds_for(held.state) };
     let is_full = held.strip.len() + 16 > LONGEST;
     match *dice.pick(kinds) {
-        _ if is_full && dice.chance(40) => offered(dice, Kind::Dla, &flight),
+        _ if is_full && dice.chance(30) => offered(dice, Kind::Dla, &flight),
         Kind::Chg if dice.chance(1) => long_change(dice, &flight),
         Kind::Chg if dice.chance(5) => edge_change(dice, &flight, &held.strip),
         kind => offered(dice, kind, &flight),

@@ -2,14 +2,12 @@
 
 use std::collections::VecDeque;
 
-use super::boards::{BoardRun, Call};
 use super::bundles::Bundle;
 use super::contents::Flight;
 use super::dice::Dice;
 use super::offers::message_for;
 use super::{contents, damage, drafts, end_with_remark, long_plan};
 use super::{damaged, damaged_deep, form_and_content, offered, valid};
-use crate::board::Board;
 use crate::escapes::escaped;
 use crate::kind::Kind;
 use crate::message::{read, LONGEST};
@@ -36,7 +34,7 @@ impl Questions {
 }
 
 fn some_questions(dice: &mut Dice) -> Vec<Line> {
-    match dice.below(133) {
+    match dice.below(132) {
         0..=7 => {
             let kind = *dice.pick(&Kind::ALL);
             vec![read_valid(dice, kind)]
@@ -48,7 +46,6 @@ fn some_questions(dice: &mut Dice) -> Vec<Line> {
         104..=113 => update_run(dice, 8),
         114..=117 => in_force_run(dice, 4),
         118..=119 => bundle_run(dice),
-        120 => board_run(dice, 40),
         _ => vec![content_alone(dice)],
     }
 }
@@ -129,19 +126,6 @@ pub fn bundle_run(dice: &mut Dice) -> Vec<Line> {
     lines
 }
 
-/// A new board, and so many calls on it.
-pub fn board_run(dice: &mut Dice, length: usize) -> Vec<Line> {
-    let mut run = BoardRun::on(Board::default(), dice);
-    let mut lines = vec![b"B EMPTY".to_vec()];
-    lines.extend((0..length).map(|_| match run.next(dice) {
-        Call::File(firm, message) => ask(&format!("N {firm}"), &message),
-        Call::Update(firm, slot, message) => ask(&format!("A {firm} {slot}"), &message),
-        Call::Clear(firm, slot) => format!("K {firm} {slot}").into_bytes(),
-        Call::Look(firm, slot) => format!("L {firm} {slot}").into_bytes(),
-    }));
-    lines
-}
-
 /// Whether the cause of an update is asked for: of a refusal by 10, which is rare, always.
 fn asks_why(dice: &mut Dice, held: &Updated, message: &[u8]) -> bool {
     let refusal = update(&held.strip, held.state, message, LONGEST).err();
@@ -175,7 +159,7 @@ fn some_strip(dice: &mut Dice) -> Updated {
     let strip = match dice.below(25) {
         0 => no_strip(dice),
         1..=4 => long_plan(dice),
-        5..=7 => full_plan(dice),
+        5 => full_plan(dice),
         _ => plan(dice),
     };
     let state = if dice.chance(85) { State::Filed } else { some_state(dice) };
