@@ -150,7 +150,8 @@ pub fn ask_in(line: &[u8]) -> Ask
     verb_as(number_in(w), line.len(), rest_of(line))
 }
 
-fn message_of<'a>(line: &'a [u8], from: usize) -> &'a [u8]
+// The message of a call: its line from a place on.
+pub fn message_of<'a>(line: &'a [u8], from: usize) -> &'a [u8]
     ensures { λ r. ⌜ now r ≡ drop from (now (line .entry)) ⌝ }
 {
     if line.len() < from {

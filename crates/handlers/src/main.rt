@@ -1,5 +1,5 @@
 // Two handlers at one board: each line of standard input is a call by a firm, and gets one line. `1 FILE (FPL-..)`, `1 UPDATE 0 (CHG-..)`, `1 CLEAR 0`,
-// `1 LOOK 0`, `1 LIST`. With an argument, the accepted calls are kept in the file that it names, and are played again at the start.
+// `1 LOOK 0`, `1 LIST`. The board is empty at the start, and gone when the program ends.
 ghost use mathlib.Core.Path.{_≡_};
 ghost use Prim.Native.Nat.{_≤_};
 ghost use lib.ListN.{length};
@@ -77,22 +77,36 @@ fn show_filed(board: Board, firm: u8, slot: usize, bytes: &[u8; 36000]) {
     }
 }
 
-// Why a call was refused, behind its number, field and place: of a clearing that comes too early the state found.
-fn show_cause(board: Board, call: Call, number: u8) {
-    if number != 13 {
-        return;
+// The state of the strip in a slot, behind a space.
+fn show_found(board: Board, firm: u8, slot: usize) {
+    if let Looked::Stands(held) = board::look(board, firm, slot) {
+        say::print(b" ");
+        let s = held.state;
+        say::state(s);
     }
-    if let Call::Clear { firm, slot } = call {
-        if let Looked::Stands(held) = board::look(board, firm, slot) {
-            say::print(b" ");
-            let s = held.state;
-            say::state(s);
+}
+
+// Why an update of the strip in a slot was refused, as the desk shows it.
+fn show_why(board: Board, firm: u8, slot: usize, msg: &[u8], bytes: &[u8; 36000]) {
+    if let Looked::Stands(held) = board::look(board, firm, slot) {
+        let strip = board::strip_of(board, firm, slot, bytes);
+        say_cause::names(causes::cause_of(strip, held, msg));
+    }
+}
+
+// The cause of a refusal, behind its number, field and place. It is asked of the board as it stands: a refused call leaves it as it was.
+fn show_cause(board: Board, call: Call, line: &[u8], bytes: &[u8; 36000]) {
+    match call {
+        Call::File { .. } => {}
+        Call::Update { firm, slot, from } => {
+            show_why(board, firm, slot, calls::message_of(line, from), bytes)
         }
+        Call::Clear { firm, slot } => show_found(board, firm, slot),
     }
 }
 
 // The answer to a call; the board is as it then stands.
-fn tell(board: Board, call: Call, v: Verdict, bytes: &[u8; 36000]) {
+fn tell(board: Board, call: Call, v: Verdict, line: &[u8], bytes: &[u8; 36000]) {
     match v {
         Verdict::Filed(slot) => show_filed(board, firm_of(call), slot, bytes),
         Verdict::Updated(held, _) => {
@@ -108,7 +122,7 @@ fn tell(board: Board, call: Call, v: Verdict, bytes: &[u8; 36000]) {
             place,
         } => {
             say::refused(number, field, place);
-            show_cause(board, call, number);
+            show_cause(board, call, line, bytes);
             say::print(b"\n");
         }
     }
@@ -214,7 +228,7 @@ fn make(board: Board, journal: Journal, call: Call, line: &[u8], bytes: &mut [u8
         }
     }
     *bytes = trial;
-    tell(b, call, v, bytes);
+    tell(b, call, v, line, bytes);
     b
 }
 
