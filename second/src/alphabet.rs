@@ -100,6 +100,15 @@ fn minutes(time: &[u8]) -> Option<u16> {
 
 /// What stands before and behind the first oblique.
 pub fn at_oblique(word: &[u8]) -> Option<(&[u8], &[u8])> {
-    let place = word.iter().position(|&b| b == b'/')?;
-    Some((&word[..place], &word[place + 1..]))
+    at_byte(word, b'/')
+}
+
+/// What stands before and behind the first space.
+pub fn at_space(line: &[u8]) -> Option<(&[u8], &[u8])> {
+    at_byte(line, b' ')
+}
+
+fn at_byte(bytes: &[u8], byte: u8) -> Option<(&[u8], &[u8])> {
+    let place = bytes.iter().position(|&b| b == byte)?;
+    Some((&bytes[..place], &bytes[place + 1..]))
 }

@@ -5,6 +5,8 @@
 //! an accepted message spelled as it stands, and `{3*AB}` is AB three times. `#` begins a remark.
 //! The lines of `contents.txt` have no answer.
 
+use crate::board::Board;
+use crate::generate::boards::{emptying, handlers_line, BoardRun};
 use crate::generate::neighbours;
 use crate::generate::probes::probes;
 use crate::generate::questions::{
@@ -12,6 +14,7 @@ use crate::generate::questions::{
     update_run, Line,
 };
 use crate::generate::Dice;
+use crate::handlers::Handlers;
 use crate::kind::Kind;
 use crate::vectors::Vectors;
 
@@ -43,6 +46,12 @@ const QUESTIONS: [&str; 13] = [
 
 const CONTENTS: &str = include_str!("../data/printed-contents.txt");
 
+/// Runs of calls of two handlers, each on an empty board.
+const BOARDS: &str = include_str!("../data/document-02-board.txt");
+
+/// A further run: how the program of two handlers is spoken to.
+const CALLS: &str = include_str!("../data/handlers.txt");
+
 /// Lines that hold a content alone to a form, with their answers.
 const ALONE: &str = include_str!("../data/content-lines.txt");
 
@@ -73,13 +82,21 @@ pub fn listed() -> Vec<Listed> {
     questions.chain(contents(CONTENTS)).chain(self::questions(ALONE)).collect()
 }
 
-/// The questions that the second reader answers otherwise than listed, each with both answers.
+/// The runs of calls for the program of two handlers, each for an empty board.
+pub fn listed_calls() -> Vec<Vec<Listed>> {
+    let boards = BOARDS.split("\n\n").skip(1);
+    boards.chain([CALLS]).map(questions).collect()
+}
+
+/// The questions and calls that the second reader answers otherwise than listed, each with both answers.
 pub fn answered_otherwise() -> Vec<(Listed, String)> {
     let mut vectors = Vectors::default();
-    let answered = listed().into_iter().map(|listed| {
-        let answer = vectors.answer(listed.question.as_bytes());
-        (listed, String::from_utf8_lossy(&answer).into_owned())
+    let asked = listed().into_iter().map(|listed| (vectors.answer(listed.question.as_bytes()), listed));
+    let called = listed_calls().into_iter().flat_map(|run| {
+        let mut handlers = Handlers::default();
+        run.into_iter().map(move |listed| (handlers.answer(listed.question.as_bytes()), listed))
     });
+    let answered = asked.chain(called).map(|(answer, listed)| (listed, String::from_utf8_lossy(&answer).into_owned()));
     answered.filter(|(listed, answer)| listed.answer != *answer).collect()
 }
 
@@ -172,6 +189,24 @@ fn contents_alone() -> Vec<Line> {
 pub fn corpus() -> Vec<u8> {
     let listed = listed().into_iter().map(|listed| listed.question.into_bytes());
     let lines: Vec<Line> = listed.chain(generated()).chain(contents_alone()).chain(probes()).collect();
+    lines.join(&b'\n')
+}
+
+/// Calls for the program of two handlers, which has one board: the runs listed, each with calls behind it that empty the board, then generated calls,
+/// the same each time.
+pub fn calls() -> Vec<u8> {
+    let mut handlers = Handlers::default();
+    let mut lines: Vec<Line> = Vec::new();
+    for run in listed_calls() {
+        let asked: Vec<Line> = run.into_iter().map(|listed| listed.question.into_bytes()).collect();
+        asked.iter().for_each(|line| drop(handlers.answer(line)));
+        let emptying = emptying(handlers.board());
+        emptying.iter().for_each(|line| drop(handlers.answer(line)));
+        lines.extend(asked.into_iter().chain(emptying));
+    }
+    let mut dice = Dice::new(2026);
+    let mut run = BoardRun::on(Board::default(), &mut dice);
+    lines.extend((0..1000).map(|_| handlers_line(&mut dice, &mut run)));
     lines.join(&b'\n')
 }
 

@@ -1,11 +1,13 @@
 //! A deterministic generator of messages and field contents, valid, nearly valid and damaged.
 
+pub mod boards;
 pub mod bundles;
 mod contents;
 mod damage;
 mod dice;
 mod drafts;
 pub mod neighbours;
+pub mod offers;
 pub mod probes;
 pub mod questions;
 

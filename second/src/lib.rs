@@ -5,6 +5,7 @@
 //! buffer of reduced white space and no cutting into fields beforehand.
 
 mod alphabet;
+mod board;
 mod cause;
 mod codes;
 pub mod corpus;
@@ -13,6 +14,7 @@ mod explained;
 mod flight;
 mod forms;
 pub mod generate;
+pub mod handlers;
 mod kind;
 mod message;
 mod other;
@@ -29,6 +31,7 @@ pub mod tally;
 pub mod vectors;
 mod words;
 
+pub use board::{Board, SLOTS};
 pub use cause::{Cause, Refused};
 pub use flight::Difference;
 pub use forms::{field_fits, spelling19, Form};

@@ -3,11 +3,9 @@
 use std::io::{self, Read, Write};
 
 use crate::cause::Refused;
-use crate::kind::Kind;
 use crate::message::{read, Accepted, LONGEST};
 use crate::pieces::{pieces, read_input};
 use crate::refusal::Refusal;
-use crate::state::State;
 use crate::strip::{self, Updated};
 
 /// One line for each piece: `OK`, type, spelling; or `NO`, number, field, place.
@@ -94,9 +92,5 @@ pub fn offer(held: &Option<Updated>, piece: &[u8]) -> Result<Updated, Refused> {
     if let Some(held) = held {
         return strip::offer(&held.strip, held.state, piece, LONGEST);
     }
-    let accepted = read(piece, LONGEST)?;
-    match accepted.kind {
-        Kind::Fpl => Ok(Updated { strip: accepted.spelling, state: State::Filed }),
-        _ => Err(Refusal::bare(14).into()),
-    }
+    Ok(strip::file(piece)?)
 }

@@ -5,7 +5,7 @@ use std::fmt;
 /// Document 01's number, field and place.
 #[derive(Clone, Copy, Debug, PartialEq, Eq)]
 pub struct Refusal {
-    /// 1 to 17.
+    /// 1 to 20.
     pub number: u8,
     /// The field's type, or 0.
     pub field: u32,

@@ -8,7 +8,7 @@ use crate::cause::{Cause, Refused};
 use crate::explained::unexplained;
 use crate::flight::differences;
 use crate::kind::Kind;
-use crate::message::{Reading, LONGEST};
+use crate::message::{read, Reading, LONGEST};
 use crate::other::{date_of, with_date};
 use crate::refusal::Refusal;
 use crate::state::State;
@@ -26,6 +26,15 @@ pub struct Updated {
 pub(crate) const PLAN_FIELDS: [u32; 8] = [7, 8, 9, 10, 13, 15, 16, 18];
 
 type Contents<'a> = [Cow<'a, [u8]>; PLAN_FIELDS.len()];
+
+/// The strip that an FPL makes; 14 for another type.
+pub fn file(msg: &[u8]) -> Result<Updated, Refusal> {
+    let accepted = read(msg, LONGEST)?;
+    match accepted.kind {
+        Kind::Fpl => Ok(Updated { strip: accepted.spelling, state: State::Filed }),
+        _ => Err(Refusal::bare(14)),
+    }
+}
 
 /// Offers a message to a strip; `room` is what the new strip may take.
 pub fn update(strip: &[u8], state: State, msg: &[u8], room: usize) -> Result<Updated, Refusal> {

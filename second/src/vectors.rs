@@ -6,7 +6,7 @@
 
 use std::io::{self, BufRead, Write};
 
-use crate::alphabet::number;
+use crate::alphabet::{at_space, number};
 use crate::cause::Refused;
 use crate::escapes::{escaped, unescaped};
 use crate::forms::{field_fits, Form};
@@ -18,7 +18,7 @@ use crate::strip::{field_in_force, offer, update, InForce, Updated};
 /// The most bytes of a line that is answered.
 pub const LONGEST_LINE: usize = 8192;
 
-/// The strip that is held from line to line; before the first, an empty one.
+/// The strip that is held from line to line, before the first an empty one.
 pub struct Vectors {
     held: Updated,
 }
@@ -124,12 +124,6 @@ fn answer_refused(refusal: Refusal) -> Vec<u8> {
 
 fn with_text(head: String, bytes: &[u8]) -> Vec<u8> {
     [head.into_bytes(), escaped(bytes)].concat()
-}
-
-/// What stands before and behind the first space.
-fn at_space(line: &[u8]) -> Option<(&[u8], &[u8])> {
-    let place = line.iter().position(|&b| b == b' ')?;
-    Some((&line[..place], &line[place + 1..]))
 }
 
 /// One to four digits that say at most `most`.

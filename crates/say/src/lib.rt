@@ -15,7 +15,7 @@ use state::State;
 use state::Strip;
 
 // Says what went wrong first, and no more: standard error is then closed.
-fn complain(what: &[u8]) {
+pub fn complain(what: &[u8]) {
     io::write_all(STDERR_FILENO, what);
     libc::close(STDERR_FILENO);
 }
@@ -140,7 +140,7 @@ fn type_of(t: MessageType) {
 }
 
 // The end of a line: a space and the spelling.
-fn spelled(spelling: &[u8]) {
+pub fn spelled(spelling: &[u8]) {
     print(b" ");
     print(spelling);
     print(b"\n");

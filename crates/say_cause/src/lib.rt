@@ -29,7 +29,7 @@ fn key(k: Key) {
 }
 
 // The names of a cause; nothing where nothing more is shown.
-fn names(c: Cause) {
+pub fn names(c: Cause) {
     match c {
         Cause::NothingMore => {}
         Cause::Another(d) => differences(d),

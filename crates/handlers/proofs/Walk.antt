@@ -1,0 +1,192 @@
+-- The walk over lines: `by-lines` is the theorem to read; the other laws are what the code's ways out come to. Assumes nothing.
+use Prim.Native.Nat.{ℕ, suc, _+_, _≤_, _<_}
+use mathlib.Core.Path.{_≡_, refl, sym, ap, subst, fun-ext, _∙_}
+use mathlib.Core.Bool.{Bool, true, false, cond, false≢true}
+use mathlib.Core.List.{List, [], _∷_, _++_}
+use native.Mathlib.Omega.{arith}
+use lib.Dec.{eqb, ltb}
+use lib.ListN.{length, take, getD, set}
+use lib.Seq.{take-all, take-suc, take-suc-set, length-take-le}
+use borrow.Author.Tests.{eq-eqb, ne-eqb, lt-ltb, le-ltb}
+use Rattle.rooms.specs.Rooms.{Board}
+use Rattle.racks.specs.declared.Place.{Place}
+use Rattle.racks.specs.Places.{boardIn, Sized}
+use Rattle.board.specs.House.{house}
+use Rattle.board.specs.declared.Turn.{Turn}
+use Rattle.board.specs.Turns.{Turned}
+use Rattle.board.proofs.Runs.{one-turn}
+use Rattle.calls.specs.declared.Call.{Call}
+use Rattle.calls.specs.declared.Ask.{Ask}
+use Rattle.calls.specs.declared.Ask.the-variants.{Calls}
+use Rattle.calls.specs.Lines.{asked, callOf}
+use Rattle.handlers.specs.declared.Journal.{Journal}
+use Rattle.handlers.specs.declared.Journal.the-variants.{Nowhere, At}
+use Rattle.handlers.specs.declared.Waiting.{Waiting}
+use Rattle.handlers.specs.Walk.{afterAsk, afterLine, Waits, fresh, pushed, waitsIn, keeps, Answers, Kept, Ended, Step, Fed}
+use Rattle.handlers.specs.Walk.{Makes, Takes, Ends, linesFrom, afterWaits, afterLines, ByLines}
+use Rattle.handlers.specs.Walk.Kept.{done, not-kept}
+use Rattle.handlers.specs.Walk.Ended.{taken, too-long}
+use Rattle.handlers.specs.Walk.Step.{within, ends}
+use Rattle.handlers.specs.Walk.Fed.{nothing, one-more}
+
+-- A CALL
+
+pub lost-journal : (j : Journal) (r : Bool) → Answers j r → r ≡ false → keeps j ≡ true
+lost-journal Nowhere r a e = absurd (false≢true (sym e ∙ a))
+lost-journal (At fd) r a e = refl
+
+pub answers-file : (j : Journal) (r : Bool) → keeps j ≡ true → Answers j r
+answers-file Nowhere r e = absurd (false≢true e)
+answers-file (At fd) r e = tt
+
+pub answers-nowhere : (j : Journal) → j ≡ Nowhere → Answers j true
+answers-nowhere j e = subst (λ (x : Journal). Answers x true) (sym e) refl
+
+module _ (j : Journal) (line : List ℕ) (ps : List Place) (lent : List ℕ) (z : Sized ps lent) where
+  pub makes : (call : Call) (t : Turn) (left : List ℕ) → Turned (callOf call line) ps lent t left → Makes j call line ps lent (t .board .places) left
+  makes call t left k =
+      let x = one-turn (callOf call line) ps lent t left z k in
+      record { board-is = done (fun-ext (λ f. x .board-is f)); sized = x .sized }
+
+  pub makes-not : (call : Call) → keeps j ≡ true → Makes j call line ps lent ps lent
+  makes-not call e = record { board-is = not-kept e refl; sized = z }
+
+  pub takes-call : (a : Ask) (call : Call) (qs : List Place) (left : List ℕ) → a ≡ asked line → a ≡ Calls call → Makes j call line ps lent qs left
+      → Takes j line ps lent qs left
+  takes-call a call qs left e q m =
+      record {
+        board-is =
+            subst (λ (x : Ask). Kept (keeps j) (boardIn ps lent) (afterAsk x line (boardIn ps lent)) (boardIn qs left)) (sym q ∙ e) (m .board-is);
+        sized = m .sized;
+      }
+
+  pub takes-other : (a b : Ask) → a ≡ asked line → a ≡ b → afterAsk b line (boardIn ps lent) ≡ boardIn ps lent → Takes j line ps lent ps lent
+  takes-other a b e q s =
+      record { board-is = done (sym (ap (λ (x : Ask). afterAsk x line (boardIn ps lent)) (sym e ∙ q) ∙ s)); sized = z }
+
+module _ (j : Journal) (w : Waiting) (line : List ℕ) (ps : List Place) (lent : List ℕ) where
+  pub ends-long : Sized ps lent → w .over ≡ true → Ends j (waitsIn w line) ps lent ps lent
+  ends-long z e = record { board-is = too-long e refl; sized = z }
+
+  pub ends-taken : (qs : List Place) (left : List ℕ) → w .over ≡ false → Takes j (take (w .n) line) ps lent qs left
+      → Ends j (waitsIn w line) ps lent qs left
+  ends-taken qs left e k = record { board-is = taken e (k .board-is); sized = k .sized }
+
+-- A BYTE
+
+module _ (w : Waiting) (line : List ℕ) (x : ℕ) (room : length line ≡ 4096) (inside : w .n ≤ 4096) where
+  pub pushed-over : w .over ≡ true → waitsIn w line ≡ pushed (waitsIn w line) x
+  pushed-over e = sym (ap (λ (b : Bool). cond b (waitsIn w line) (next b)) e)
+    where
+      next : Bool → Waits
+      next b =
+          cond (ltb (length (take (w .n) line)) 4096) (record { pending = take (w .n) line ++ (x ∷ []); over = false }) (record { pending = []; over = true })
+
+  module _ (e : w .over ≡ false) where
+    pub pushed-full : w .n ≡ 4096 → waitsIn (record { n = 0; over = true }) line ≡ pushed (waitsIn w line) x
+    pushed-full h =
+        let long : length (take (w .n) line) ≡ w .n = length-take-le (w .n) line (omega arith) in
+        let full : 4096 ≤ length (take (w .n) line) = omega (arith, long) in
+        rw (e, le-ltb (length (take (w .n) line)) 4096 full)
+
+    pub pushed-on : (w .n ≡ 4096 → ⊥) → waitsIn (record { n = w .n + 1; over = false }) (set line (w .n) x) ≡ pushed (waitsIn w line) x
+    pushed-on h =
+        let long : length (take (w .n) line) ≡ w .n = length-take-le (w .n) line (omega arith) in
+        let free : length (take (w .n) line) < 4096 = omega (arith, long, h) in
+        let plus : w .n + 1 ≡ suc (w .n) = omega arith in
+        rw (e, lt-ltb (length (take (w .n) line)) 4096 free)
+        (ap (λ (s : List ℕ). record { pending = s; over = false })
+        (ap (λ (k : ℕ). take k (set line (w .n) x)) plus ∙ take-suc-set line (w .n) x (omega arith)))
+
+-- A READ: the bytes so far, and one more
+
+module _ (j : Bool) (b : Board house) (w : Waits) (chunk : List ℕ) (i : ℕ) (less : i < length chunk) (c : Board house) (v : Waits)
+    (f : Fed j b w (take i chunk) c v) where
+  fed-next : (d : Board house) (u : Waits) → Step j c v (getD chunk i 0) d u → Fed j b w (take (i + 1) chunk) d u
+  fed-next d u s =
+      let plus : i + 1 ≡ suc i = omega arith in
+      subst (λ (xs : List ℕ). Fed j b w xs d u) (sym (ap (λ (k : ℕ). take k chunk) plus ∙ take-suc chunk i 0 less)) (one-more (getD chunk i 0) f s)
+
+  pub fed-line : (d : Board house) → getD chunk i 0 ≡ 10 → Ended j c v d → Fed j b w (take (i + 1) chunk) d fresh
+  fed-line d e k = fed-next d fresh (ends e k refl)
+
+  pub fed-byte : (u : Waits) → (getD chunk i 0 ≡ 10 → ⊥) → u ≡ pushed v (getD chunk i 0) → Fed j b w (take (i + 1) chunk) c u
+  fed-byte u n e = fed-next c u (within n refl e)
+
+pub fed-all : (j : Bool) (b : Board house) (w : Waits) (chunk : List ℕ) (i : ℕ) (c : Board house) (v : Waits) → length chunk ≤ i
+    → Fed j b w (take i chunk) c v → Fed j b w chunk c v
+fed-all j b w chunk i c v h f = subst (λ (xs : List ℕ). Fed j b w xs c v) (take-all i chunk h) f
+
+-- THE LINES, without a journal
+
+-- what is walked byte by byte
+module _ where
+  abbrev boardAfter : Board house → Waits → ℕ → Board house
+  boardAfter b w x = cond (eqb x 10) (afterWaits b w) b
+
+  abbrev waitsAfter : Waits → ℕ → Waits
+  waitsAfter w x = cond (eqb x 10) fresh (pushed w x)
+
+  abbrev waitsThen : Waits → List ℕ → Waits
+  waitsThen w [] = w
+  waitsThen w (x ∷ s) = waitsThen (waitsAfter w x) s
+
+  line-more : (w : Waits) (x : ℕ) (s : List ℕ) (b : Board house) (t : Bool) → eqb x 10 ≡ t
+      → afterLines b (cond t (w ∷ linesFrom fresh s) (linesFrom (pushed w x) s))
+      ≡ afterLines (cond t (afterWaits b w) b) (linesFrom (cond t fresh (pushed w x)) s)
+  line-more w x s b true e = refl
+  line-more w x s b false e = refl
+
+  -- a byte more at the end
+  lines-snoc : (s : List ℕ) (b : Board house) (w : Waits) (x : ℕ)
+      → afterLines b (linesFrom w (s ++ (x ∷ []))) ≡ boardAfter (afterLines b (linesFrom w s)) (waitsThen w s) x
+  lines-snoc [] b w x = line-more w x [] b (eqb x 10) refl ∙ go (eqb x 10)
+    where
+      go : (t : Bool) → afterLines (cond t (afterWaits b w) b) (linesFrom (cond t fresh (pushed w x)) []) ≡ cond t (afterWaits b w) b
+      go true = refl
+      go false = refl
+  lines-snoc (y ∷ s) b w x =
+      line-more w y (s ++ (x ∷ [])) b (eqb y 10) refl
+      ∙ lines-snoc s (boardAfter b w y) (waitsAfter w y) x
+      ∙ ap (λ (c : Board house). boardAfter c (waitsThen (waitsAfter w y) s) x) (sym (line-more w y s b (eqb y 10) refl))
+
+  waits-snoc : (s : List ℕ) (w : Waits) (x : ℕ) → waitsThen w (s ++ (x ∷ [])) ≡ waitsAfter (waitsThen w s) x
+  waits-snoc [] w x = refl
+  waits-snoc (y ∷ s) w x = waits-snoc s (waitsAfter w y) x
+
+record Walked (b : Board house) (w : Waits) (s : List ℕ) (c : Board house) (v : Waits) : Type 0 where
+  pub board-is : c ≡ afterLines b (linesFrom w s)
+  pub waits-are : v ≡ waitsThen w s
+
+kept-is : (b c d : Board house) → Kept false b c d → d ≡ c
+kept-is b c d (done e) = e
+kept-is b c d (not-kept f e) = absurd (false≢true f)
+
+ended-is : (b : Board house) (w : Waits) (c : Board house) → Ended false b w c → c ≡ afterWaits b w
+ended-is b w c (taken o k) = kept-is b (afterLine b (w .pending)) c k ∙ sym (ap (λ (t : Bool). cond t b (afterLine b (w .pending))) o)
+ended-is b w c (too-long o e) = e ∙ sym (ap (λ (t : Bool). cond t b (afterLine b (w .pending))) o)
+
+step-board : (b : Board house) (w : Waits) (x : ℕ) (c : Board house) (v : Waits) → Step false b w x c v → c ≡ boardAfter b w x
+step-board b w x c v (within n e q) = e ∙ sym (ap (λ (t : Bool). cond t (afterWaits b w) b) (ne-eqb x 10 n))
+step-board b w x c v (ends t e q) = ended-is b w c e ∙ sym (ap (λ (t : Bool). cond t (afterWaits b w) b) (eq-eqb x 10 t))
+
+step-waits : (b : Board house) (w : Waits) (x : ℕ) (c : Board house) (v : Waits) → Step false b w x c v → v ≡ waitsAfter w x
+step-waits b w x c v (within n e q) = q ∙ sym (ap (λ (t : Bool). cond t fresh (pushed w x)) (ne-eqb x 10 n))
+step-waits b w x c v (ends t e q) = q ∙ sym (ap (λ (t : Bool). cond t fresh (pushed w x)) (eq-eqb x 10 t))
+
+walked : (b : Board house) (w : Waits) {s : List ℕ} {c : Board house} {v : Waits} → Fed false b w s c v → Walked b w s c v
+walked b w nothing = record { board-is = refl; waits-are = refl }
+walked b w (one-more {s = s} {c = c} {d = d} {v = v} {u = u} x f k) =
+    let i = walked b w f in
+    record {
+      board-is =
+          step-board c v x d u k
+          ∙ ap (λ (y : Board house). boardAfter y v x) (i .board-is)
+          ∙ ap (λ (y : Waits). boardAfter (afterLines b (linesFrom w s)) y x) (i .waits-are)
+          ∙ sym (lines-snoc s b w x);
+      waits-are = step-waits c v x d u k ∙ ap (λ (y : Waits). waitsAfter y x) (i .waits-are) ∙ sym (waits-snoc s w x);
+    }
+
+-- THE THEOREM
+pub by-lines : ByLines
+by-lines b w s c v f = walked b w f .board-is

@@ -1,0 +1,27 @@
+-- `handlers::keep` meets its contract. Assumes nothing.
+use mathlib.Core.Path.{ap}
+use Rattle.handlers.specs.Walk.{keeps}
+use Rattle.handlers.proofs.Walk.{answers-nowhere, answers-file}
+use borrow.Author.Needs.{needs}
+use Rattle.handlers.proofs.keep.Statement.{statement}
+use Rattle.handlers.proofs.keep.Tie as tie
+
+enum-told : tie.Need-enum-told
+enum-told c = search needs
+
+enum-known-journal : tie.Need-enum-known-journal
+enum-known-journal c = search needs
+
+keep-at-requires : tie.Need-keep-at-requires
+keep-at-requires c κs = search needs
+
+returns : tie.Need-returns
+returns c = answers-nowhere _ (c .enum-told .given .1)
+
+returns-2 : tie.Need-returns-2
+returns-2 c =
+    let m = c .before .before in
+    answers-file (m .before .before .before .args .journal) (c .keep-at .result) (ap keeps (m .journal .given .1))
+
+pub keep-spec : {M : Type 1} → statement M
+keep-spec = tie.close (tie.spec enum-told enum-known-journal keep-at-requires returns returns-2)

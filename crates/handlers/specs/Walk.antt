@@ -1,0 +1,133 @@
+-- The walk of the program `handlers` over its input: how bytes become lines, and the board after each. Where there is a journal, an accepted call that
+-- cannot be kept leaves the board as it was. Assumes nothing.
+use Prim.Native.Nat.{ℕ, _≤_}
+use mathlib.Core.Path.{_≡_, refl}
+use mathlib.Core.Bool.{Bool, true, false, cond}
+use mathlib.Core.List.{List, [], _∷_, _++_}
+use lib.Dec.{eqb, ltb}
+use lib.ListN.{length, take}
+use Rattle.alphabet.specs.Text.{bytes}
+use Rattle.rooms.specs.Rooms.{Board, after}
+use Rattle.racks.specs.declared.Place.{Place}
+use Rattle.racks.specs.Places.{boardIn, Sized}
+use Rattle.board.specs.House.{house}
+use Rattle.board.specs.declared.Verdict.{Verdict}
+use Rattle.board.specs.declared.Verdict.the-variants.{Filed, Updated, Cleared, Refused}
+use Rattle.calls.specs.declared.Call.{Call}
+use Rattle.calls.specs.declared.Ask.{Ask}
+use Rattle.calls.specs.declared.Ask.the-variants.{Calls, Look, List as Lists, NoCall}
+use Rattle.calls.specs.Lines.{asked, callOf}
+use Rattle.handlers.specs.declared.Journal.{Journal}
+use Rattle.handlers.specs.declared.Journal.the-variants.{Nowhere, At}
+use Rattle.handlers.specs.declared.Waiting.{Waiting}
+use Rattle.handlers.specs.declared.Sitting.{Sitting}
+
+abbrev pub acceptedAs : Verdict → Bool
+acceptedAs (Filed k) = true
+acceptedAs (Updated held n) = true
+acceptedAs Cleared = true
+acceptedAs (Refused number field place) = false
+
+-- THE BOARD AFTER A LINE: what is no call on the board leaves it
+
+abbrev pub afterAsk : Ask → List ℕ → Board house → Board house
+afterAsk (Calls c) line b = after house b (callOf c line)
+afterAsk (Look firm slot) line b = b
+afterAsk (Lists firm) line b = b
+afterAsk NoCall line b = b
+
+abbrev pub afterLine : Board house → List ℕ → Board house
+afterLine b line = afterAsk (asked line) line b
+
+-- A LINE THAT HAS NOT ENDED: its bytes so far; or that it is too long, over 4,096 bytes
+
+pub record Waits : Type 0 where
+  pub pending : List ℕ
+  pub over : Bool
+
+abbrev pub fresh : Waits
+fresh = record { pending = []; over = false }
+
+abbrev pub pushed : Waits → ℕ → Waits
+pushed w x =
+    cond (w .over) w
+    (cond (ltb (length (w .pending)) 4096) (record { pending = w .pending ++ (x ∷ []); over = false }) (record { pending = []; over = true }))
+
+-- as the program keeps it: the first bytes of a buffer
+abbrev pub waitsIn : Waiting → List ℕ → Waits
+waitsIn w line = record { pending = take (w .n) line; over = w .over }
+
+-- THE WALK
+
+abbrev pub keeps : Journal → Bool
+keeps Nowhere = false
+keeps (At fd) = true
+
+-- without a journal nothing is lost
+abbrev pub Answers : Journal → Bool → Type 0
+Answers Nowhere kept = kept ≡ true
+Answers (At fd) kept = Unit
+
+-- what was asked for is done; or, where there is a journal, it could not be kept and the board is as it was
+pub data Kept (j : Bool) (b c d : Board house) : Type 0 where
+  done : d ≡ c → Kept j b c d
+  not-kept : j ≡ true → d ≡ b → Kept j b c d
+
+-- a line that has ended: one that is too long is no call
+pub data Ended (j : Bool) (b : Board house) (w : Waits) (c : Board house) : Type 0 where
+  taken : w .over ≡ false → Kept j b (afterLine b (w .pending)) c → Ended j b w c
+  too-long : w .over ≡ true → c ≡ b → Ended j b w c
+
+-- a byte: LF, 10, ends a line
+pub data Step (j : Bool) (b : Board house) (w : Waits) (x : ℕ) (c : Board house) (v : Waits) : Type 0 where
+  within : (x ≡ 10 → ⊥) → c ≡ b → v ≡ pushed w x → Step j b w x c v
+  ends : x ≡ 10 → Ended j b w c → v ≡ fresh → Step j b w x c v
+
+-- bytes, in the order of their coming
+pub data Fed (j : Bool) (b : Board house) (w : Waits) : List ℕ → Board house → Waits → Type 0 where
+  nothing : Fed j b w [] b w
+  one-more : {s : List ℕ} {c d : Board house} {v u : Waits} (x : ℕ) → Fed j b w s c v → Step j c v x d u → Fed j b w (s ++ (x ∷ [])) d u
+
+-- WHAT THE CODE MUST DO, from places and bytes to places and bytes
+
+pub record Makes (j : Journal) (call : Call) (line : List ℕ) (ps : List Place) (lent : List ℕ) (qs : List Place) (left : List ℕ) : Type 0 where
+  pub board-is : Kept (keeps j) (boardIn ps lent) (after house (boardIn ps lent) (callOf call line)) (boardIn qs left)
+  pub sized : Sized qs left
+
+pub record Takes (j : Journal) (line : List ℕ) (ps : List Place) (lent : List ℕ) (qs : List Place) (left : List ℕ) : Type 0 where
+  pub board-is : Kept (keeps j) (boardIn ps lent) (afterLine (boardIn ps lent) line) (boardIn qs left)
+  pub sized : Sized qs left
+
+pub record Ends (j : Journal) (w : Waits) (ps : List Place) (lent : List ℕ) (qs : List Place) (left : List ℕ) : Type 0 where
+  pub board-is : Ended (keeps j) (boardIn ps lent) w (boardIn qs left)
+  pub sized : Sized qs left
+
+-- the buffer for a line, and the board, as the types give them
+pub record Seated (w : Waiting) (line : List ℕ) (ps : List Place) (lent : List ℕ) : Type 0 where
+  pub room : length line ≡ 4096
+  pub inside : w .n ≤ 4096
+  pub sized : Sized ps lent
+
+pub record Feeds (j : Journal) (chunk : List ℕ) (s : Sitting) (line lent : List ℕ) (r : Sitting) (line′ left : List ℕ) : Type 0 where
+  pub fed : Fed (keeps j) (boardIn (s .board .places) lent) (waitsIn (s .waiting) line) chunk (boardIn (r .board .places) left) (waitsIn (r .waiting) line′)
+  pub seated : Seated (r .waiting) line′ (r .board .places) left
+
+-- THE LINES OF AN INPUT, each as it waited when it ended
+abbrev pub linesFrom : Waits → List ℕ → List Waits
+linesFrom w [] = []
+linesFrom w (x ∷ s) = cond (eqb x 10) (w ∷ linesFrom fresh s) (linesFrom (pushed w x) s)
+
+abbrev pub afterWaits : Board house → Waits → Board house
+afterWaits b w = cond (w .over) b (afterLine b (w .pending))
+
+abbrev pub afterLines : Board house → List Waits → Board house
+afterLines b [] = b
+afterLines b (w ∷ ws) = afterLines (afterWaits b w) ws
+
+-- without a journal the board after an input, however it was cut into reads, is that after its lines
+abbrev pub ByLines : Type 0
+ByLines = (b : Board house) (w : Waits) (s : List ℕ) (c : Board house) (v : Waits) → Fed false b w s c v → c ≡ afterLines b (linesFrom w s)
+
+-- EXAMPLES, computed: two lines, and a third that has not ended
+two-lines : linesFrom fresh (bytes "1 LIST" ++ 10 ∷ 10 ∷ bytes "2 L") ≡ record { pending = bytes "1 LIST"; over = false } ∷ fresh ∷ []
+two-lines = refl

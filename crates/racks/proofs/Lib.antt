@@ -1,0 +1,4 @@
+pub mod Written
+pub mod Racks
+pub mod Loops
+pub mod Slots
