@@ -9,6 +9,7 @@ use lib.ListN.{length, take, getD, set}
 use lib.Seq.{take-all, take-suc, take-suc-set, length-take-le}
 use borrow.Author.Tests.{eq-eqb, ne-eqb, lt-ltb, le-ltb}
 use Rattle.rooms.specs.Rooms.{Board}
+use Rattle.racks.specs.declared.Board.{Board as Rack}
 use Rattle.racks.specs.declared.Place.{Place}
 use Rattle.racks.specs.Places.{boardIn, Sized}
 use Rattle.board.specs.House.{house}
@@ -21,9 +22,10 @@ use Rattle.calls.specs.declared.Ask.the-variants.{Calls}
 use Rattle.calls.specs.Lines.{asked, callOf}
 use Rattle.handlers.specs.declared.Journal.{Journal}
 use Rattle.handlers.specs.declared.Journal.the-variants.{Nowhere, At}
+use Rattle.handlers.specs.declared.Sitting.{Sitting}
 use Rattle.handlers.specs.declared.Waiting.{Waiting}
 use Rattle.handlers.specs.Walk.{afterAsk, afterLine, Waits, fresh, pushed, waitsIn, keeps, Answers, Kept, Ended, Step, Fed}
-use Rattle.handlers.specs.Walk.{Makes, Takes, Ends, linesFrom, afterWaits, afterLines, ByLines}
+use Rattle.handlers.specs.Walk.{Makes, Takes, Ends, Seated, Replays, linesFrom, afterWaits, afterLines, ByLines}
 use Rattle.handlers.specs.Walk.Kept.{done, not-kept}
 use Rattle.handlers.specs.Walk.Ended.{taken, too-long}
 use Rattle.handlers.specs.Walk.Step.{within, ends}
@@ -71,6 +73,27 @@ module _ (j : Journal) (w : Waiting) (line : List ℕ) (ps : List Place) (lent :
   pub ends-taken : (qs : List Place) (left : List ℕ) → w .over ≡ false → Takes j (take (w .n) line) ps lent qs left
       → Ends j (waitsIn w line) ps lent qs left
   ends-taken qs left e k = record { board-is = taken e (k .board-is); sized = k .sized }
+
+-- A LINE OF THE JOURNAL THAT CANNOT BE PLAYED AGAIN
+
+abbrev stopped : Rack → Sitting
+stopped b = record { board = b; waiting = record { n = 0; over = true }; going = false }
+
+module _ (b : Rack) (r : Sitting) (e : r ≡ stopped b) where
+  pub places-stopped : r .board .places ≡ b .places
+  places-stopped = ap (λ (x : Sitting). x .board .places) e
+
+  pub seated-stopped : (line left : List ℕ) → length line ≡ 4096 → Sized (b .places) left → Seated (r .waiting) line (r .board .places) left
+  seated-stopped line left room z =
+      subst (λ (x : Sitting). Seated (x .waiting) line (x .board .places) left) (sym e) (record { room = room; inside = omega arith; sized = z })
+
+  pub replays-stopped : (chunk : List ℕ) (s : Sitting) (line lent line′ left : List ℕ) → length line′ ≡ 4096 → Sized (b .places) left
+      → Replays chunk s line lent r line′ left
+  replays-stopped chunk s line lent line′ left room z =
+      record {
+        fed = λ g. absurd (false≢true (sym (ap (λ (x : Sitting). x .going) e) ∙ g));
+        seated = seated-stopped line′ left room z;
+      }
 
 -- A BYTE
 

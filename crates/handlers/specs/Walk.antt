@@ -112,6 +112,12 @@ pub record Feeds (j : Journal) (chunk : List ℕ) (s : Sitting) (line lent : Lis
   pub fed : Fed (keeps j) (boardIn (s .board .places) lent) (waitsIn (s .waiting) line) chunk (boardIn (r .board .places) left) (waitsIn (r .waiting) line′)
   pub seated : Seated (r .waiting) line′ (r .board .places) left
 
+-- the journal, played again: while it goes on, each line is taken
+pub record Replays (chunk : List ℕ) (s : Sitting) (line lent : List ℕ) (r : Sitting) (line′ left : List ℕ) : Type 0 where
+  pub fed : r .going ≡ true
+      → Fed false (boardIn (s .board .places) lent) (waitsIn (s .waiting) line) chunk (boardIn (r .board .places) left) (waitsIn (r .waiting) line′)
+  pub seated : Seated (r .waiting) line′ (r .board .places) left
+
 -- THE LINES OF AN INPUT, each as it waited when it ended
 abbrev pub linesFrom : Waits → List ℕ → List Waits
 linesFrom w [] = []

@@ -1,10 +1,11 @@
 // Two handlers at one board: each line of standard input is a call by a firm, and gets one line. `1 FILE (FPL-..)`, `1 UPDATE 0 (CHG-..)`, `1 CLEAR 0`,
 // `1 LOOK 0`, `1 LIST`. The board is empty at the start, and gone when the program ends.
 ghost use mathlib.Core.Path.{_≡_};
+ghost use mathlib.Core.Bool.{true, false};
 ghost use Prim.Native.Nat.{_≤_};
 ghost use lib.ListN.{length};
 ghost use Rattle.racks.specs.Places.{Sized};
-ghost use Rattle.handlers.specs.Walk.{Answers, acceptedAs, pushed, waitsIn, Makes, Takes, Ends, Seated, Feeds};
+ghost use Rattle.handlers.specs.Walk.{Answers, acceptedAs, pushed, waitsIn, Makes, Takes, Ends, Seated, Feeds, Replays};
 use board::Looked;
 use board::Verdict;
 use calls::Ask;
@@ -369,8 +370,207 @@ fn serve(board: Board, journal: Journal, line: &mut [u8], bytes: &mut [u8; 36000
     }
 }
 
+// THE JOURNAL, PLAYED AGAIN
+
+// A line of the journal: the board after it, and whether it is a call that is accepted.
+fn replay_line(board: Board, line: &[u8], bytes: &mut [u8; 36000]) -> Sitting
+    requires { ⌜ Sized (board .places) (now bytes) ⌝ }
+    ensures { λ r. ⌜ Takes Journal.Nowhere (now (line .entry)) (board .places) (now (bytes .entry)) (r .board .places) (now (bytes .exit)) ⌝ }
+{
+    match calls::ask_in(line) {
+        Ask::Calls(call) => {
+            let t = calls::play(board, call, line, bytes);
+            let b = t.board;
+            let v = t.verdict;
+            Sitting {
+                board: b,
+                waiting: Waiting { n: 0, over: false },
+                going: is_accepted(v),
+            }
+        }
+        Ask::Look { .. } => stuck(board),
+        Ask::List(_) => stuck(board),
+        Ask::NoCall => stuck(board),
+    }
+}
+
+// The board as it was, and not to go on.
+fn stuck(board: Board) -> Sitting
+    ensures { λ r. ⌜ r ≡ record { board = board; waiting = record { n = 0; over = true }; going = false } ⌝ }
+{
+    Sitting {
+        board,
+        waiting: Waiting { n: 0, over: true },
+        going: false,
+    }
+}
+
+// A line of the journal has ended.
+fn replay_end(board: Board, w: Waiting, line: &[u8], bytes: &mut [u8; 36000]) -> Sitting
+    requires { ⌜ (w .n ≤ length (now line)) × Sized (board .places) (now bytes) ⌝ }
+    ensures { λ r. ⌜ Ends Journal.Nowhere (waitsIn w (now (line .entry))) (board .places) (now (bytes .entry)) (r .board .places) (now (bytes .exit)) ⌝ }
+{
+    if w.over {
+        return stuck(board);
+    }
+    replay_line(board, &line[..w.n], bytes)
+}
+
+// The bytes that one read of the journal gave. It stops at a line that is no call that is accepted, and does not read on in one that is too long.
+fn replay(s: Sitting, chunk: &[u8], line: &mut [u8], bytes: &mut [u8; 36000]) -> Sitting
+    requires { ⌜ Seated (s .waiting) (now line) (s .board .places) (now bytes) ⌝ }
+    ensures { λ r. ⌜ Replays (now (chunk .entry)) s (now (line .entry)) (now (bytes .entry)) r (now (line .exit)) (now (bytes .exit)) ⌝ }
+{
+    let mut board = s.board;
+    let mut w = s.waiting;
+    let mut i = 0;
+    while i < chunk.len() {
+        let b = chunk[i];
+        i += 1;
+        if b == b'\n' {
+            let r = replay_end(board, w, line, bytes);
+            board = r.board;
+            if !r.going {
+                return stuck(board);
+            }
+            w = Waiting { n: 0, over: false };
+        } else {
+            w = push(w, b, line);
+        }
+    }
+    Sitting {
+        board,
+        waiting: w,
+        going: !w.over,
+    }
+}
+
+// Reads the journal once and plays what came. A line that is too long stands for whatever cannot be played again.
+fn replay_some(fd: i32, s: Sitting, line: &mut [u8], bytes: &mut [u8; 36000]) -> Sitting
+    requires { ⌜ Seated (s .waiting) (now line) (s .board .places) (now bytes) ⌝ }
+    ensures { λ r. ⌜ Seated (r .waiting) (now (line .exit)) (r .board .places) (now (bytes .exit)) ⌝ }
+{
+    let mut chunk = [0u8; 4096];
+    let got = libc::read(fd, &mut chunk);
+    let board = s.board;
+    let waiting = s.waiting;
+    if got < 0 {
+        say::complain(b"beechdoublet: the journal cannot be read\n");
+        return stuck(board);
+    }
+    let n = io::count(got, &chunk);
+    if n == 0 {
+        return Sitting {
+            board,
+            waiting,
+            going: false,
+        };
+    }
+    replay(s, &chunk[..n], line, bytes)
+}
+
+// Plays the journal from the empty board to its end.
+fn replay_all(fd: i32, line: &mut [u8], bytes: &mut [u8; 36000]) -> Sitting
+    requires { ⌜ (length (now line) ≡ 4096) × (length (now bytes) ≡ 36000) ⌝ }
+    ensures { λ r. ⌜ Seated (r .waiting) (now (line .exit)) (r .board .places) (now (bytes .exit)) ⌝ }
+{
+    let board = racks::empty();
+    let mut s = Sitting {
+        board,
+        waiting: Waiting { n: 0, over: false },
+        going: true,
+    };
+    let mut turns = u64::MAX;
+    while turns > 0 && s.going {
+        s = replay_some(fd, s, line, bytes);
+        turns -= 1;
+    }
+    s
+}
+
+// Opens the journal, and makes it where it is missing.
+fn open_journal(path: &[u8]) -> i32 {
+    let fd = os::open_update(path);
+    if 0 <= fd {
+        return fd;
+    }
+    let made = os::create(path);
+    if made < 0 {
+        return made;
+    }
+    libc::close(made);
+    os::open_update(path)
+}
+
+// Goes back n bytes in a file.
+fn go_back(fd: i32, n: usize) -> bool {
+    let mut left = n;
+    while left > 0 {
+        if libc::lseek(fd, -1, libc::SEEK_CUR) < 0 {
+            return false;
+        }
+        left -= 1;
+    }
+    true
+}
+
+// Drops the last n bytes of the journal, which was read to its end: a line without its end.
+fn drop_last(fd: i32, n: usize) -> bool {
+    if !go_back(fd, n) {
+        return false;
+    }
+    let end = libc::lseek(fd, 0, libc::SEEK_CUR);
+    if libc::ftruncate(fd, end) != 0 {
+        return false;
+    }
+    libc::fsync(fd) == 0
+}
+
+// Plays the journal, then takes standard input.
+fn start(path: &[u8], line: &mut [u8], bytes: &mut [u8; 36000])
+    requires { ⌜ (length (now line) ≡ 4096) × (length (now bytes) ≡ 36000) ⌝ }
+{
+    let fd = open_journal(path);
+    if fd < 0 {
+        say::complain(b"beechdoublet: the journal cannot be opened\n");
+        return;
+    }
+    let s = replay_all(fd, line, bytes);
+    let board = s.board;
+    let w = s.waiting;
+    if w.over {
+        say::complain(
+            b"beechdoublet: a line of the journal is no call that is accepted; the journal is left as it is\n",
+        );
+        return;
+    }
+    if w.n != 0 {
+        if !drop_last(fd, w.n) {
+            say::complain(
+                b"beechdoublet: the last line of the journal has no end, and cannot be dropped\n",
+            );
+            return;
+        }
+        io::write_all(
+            STDERR_FILENO,
+            b"handlers: the last line of the journal has no end, and was dropped\n",
+        );
+    }
+    serve(board, Journal::At(fd), line, bytes);
+}
+
 fn main() {
     let mut bytes = [0u8; 36000];
     let mut line = [0u8; 4096];
-    serve(racks::empty(), Journal::Nowhere, &mut line, &mut bytes);
+    if os::arg_count() < 2 {
+        serve(racks::empty(), Journal::Nowhere, &mut line, &mut bytes);
+        return;
+    }
+    let mut path = io::buffer();
+    let n = os::arg(1, &mut path);
+    if os::errno() != 0 {
+        say::complain(b"beechdoublet: the name of the journal cannot be read\n");
+        return;
+    }
+    start(&path[..n], &mut line, &mut bytes);
 }

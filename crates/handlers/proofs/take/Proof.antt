@@ -40,28 +40,32 @@ returns c =
     let k = c .before .before .before in
     let a = k .before .before in
     let s = a .before .before in
-    takes-call (s .args .journal) (s .args .line .now) (s .args .board .places) (s .args .bytes .now) (s .pre) _ _ _ _ (a .ask-in .ensures) (k .call .given .1) (c .make .ensures)
+    takes-call (s .args .journal) (s .args .line .now) (s .args .board .places) (s .args .bytes .now) (s .pre)
+    _ _ _ _ (a .ask-in .ensures) (k .call .given .1) (c .make .ensures)
 
 returns-2 : tie.Need-returns-2
 returns-2 c =
     let k = c .before .before .before in
     let a = k .before .before in
     let s = a .before .before in
-    takes-other (s .args .journal) (s .args .line .now) (s .args .board .places) (s .args .bytes .now) (s .pre) _ _ (a .ask-in .ensures) (k .firm .given .1) refl
+    takes-other (s .args .journal) (s .args .line .now) (s .args .board .places) (s .args .bytes .now) (s .pre)
+    _ _ (a .ask-in .ensures) (k .firm .given .1) refl
 
 returns-3 : tie.Need-returns-3
 returns-3 c =
     let k = c .before .before .before in
     let a = k .before .before in
     let s = a .before .before in
-    takes-other (s .args .journal) (s .args .line .now) (s .args .board .places) (s .args .bytes .now) (s .pre) _ _ (a .ask-in .ensures) (k .firm2 .given .1) refl
+    takes-other (s .args .journal) (s .args .line .now) (s .args .board .places) (s .args .bytes .now) (s .pre)
+    _ _ (a .ask-in .ensures) (k .firm2 .given .1) refl
 
 returns-4 : tie.Need-returns-4
 returns-4 c =
     let k = c .before .before in
     let a = k .before .before in
     let s = a .before .before in
-    takes-other (s .args .journal) (s .args .line .now) (s .args .board .places) (s .args .bytes .now) (s .pre) _ _ (a .ask-in .ensures) (k .enum-told .given .1) refl
+    takes-other (s .args .journal) (s .args .line .now) (s .args .board .places) (s .args .bytes .now) (s .pre)
+    _ _ (a .ask-in .ensures) (k .enum-told .given .1) refl
 
 pub take-spec : {M : Type 1} → statement M
 take-spec =
