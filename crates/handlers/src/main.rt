@@ -1,5 +1,6 @@
 // Two handlers at one board: each line of standard input is a call by a firm, and gets one line. `1 FILE (FPL-..)`, `1 UPDATE 0 (CHG-..)`, `1 CLEAR 0`,
-// `1 LOOK 0`, `1 LIST`. The board is empty at the start, and gone when the program ends.
+// `1 LOOK 0`, `1 LIST`. With an argument, the accepted calls are kept in the file that it names, and are played again at the start; without one the board
+// is empty at the start, and gone when the program ends.
 ghost use mathlib.Core.Path.{_≡_};
 ghost use mathlib.Core.Bool.{true, false};
 ghost use Prim.Native.Nat.{_≤_};
