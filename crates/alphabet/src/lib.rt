@@ -1,305 +1,22 @@
-// The alphabet of a message: a table of 256 classes, one to each byte value, and the sets of bytes that the forms name.
+// The alphabet of a message and the sets of bytes that the forms name, each worked out by comparisons.
 ghost use mathlib.Core.Path.{_≡_};
 ghost use Prim.Native.Nat.{_≤_};
 ghost use lib.ListN.{length};
-ghost use Rattle.alphabet.specs.Alphabet.{letter, digit, octal, sign, text, white, oneOf, marks, known, innerBytes};
+ghost use Rattle.alphabet.specs.Alphabet.{
+  letter,
+  digit,
+  octal,
+  sign,
+  text,
+  white,
+  oneOf,
+  marks,
+  innerByte,
+  inAlphabet,
+  known,
+  innerBytes,
+};
 
-const CLASSES: [u8; 256] = [
-    0,
-    0,
-    0,
-    0,
-    0,
-    0,
-    0,
-    0,
-    0,
-    0,
-    13,
-    0,
-    0,
-    13,
-    0,
-    0,
-    0,
-    0,
-    0,
-    0,
-    0,
-    0,
-    0,
-    0,
-    0,
-    0,
-    0,
-    0,
-    0,
-    0,
-    0,
-    0,
-    13,
-    0,
-    0,
-    0,
-    0,
-    0,
-    0,
-    8,
-    14,
-    15,
-    0,
-    10,
-    7,
-    12,
-    6,
-    11,
-    2,
-    2,
-    2,
-    2,
-    2,
-    2,
-    2,
-    2,
-    3,
-    3,
-    5,
-    0,
-    0,
-    9,
-    0,
-    4,
-    0,
-    1,
-    1,
-    1,
-    1,
-    1,
-    1,
-    1,
-    1,
-    1,
-    1,
-    1,
-    1,
-    1,
-    1,
-    1,
-    1,
-    1,
-    1,
-    1,
-    1,
-    1,
-    1,
-    1,
-    1,
-    1,
-    1,
-    0,
-    0,
-    0,
-    0,
-    0,
-    0,
-    0,
-    0,
-    0,
-    0,
-    0,
-    0,
-    0,
-    0,
-    0,
-    0,
-    0,
-    0,
-    0,
-    0,
-    0,
-    0,
-    0,
-    0,
-    0,
-    0,
-    0,
-    0,
-    0,
-    0,
-    0,
-    0,
-    0,
-    0,
-    0,
-    0,
-    0,
-    0,
-    0,
-    0,
-    0,
-    0,
-    0,
-    0,
-    0,
-    0,
-    0,
-    0,
-    0,
-    0,
-    0,
-    0,
-    0,
-    0,
-    0,
-    0,
-    0,
-    0,
-    0,
-    0,
-    0,
-    0,
-    0,
-    0,
-    0,
-    0,
-    0,
-    0,
-    0,
-    0,
-    0,
-    0,
-    0,
-    0,
-    0,
-    0,
-    0,
-    0,
-    0,
-    0,
-    0,
-    0,
-    0,
-    0,
-    0,
-    0,
-    0,
-    0,
-    0,
-    0,
-    0,
-    0,
-    0,
-    0,
-    0,
-    0,
-    0,
-    0,
-    0,
-    0,
-    0,
-    0,
-    0,
-    0,
-    0,
-    0,
-    0,
-    0,
-    0,
-    0,
-    0,
-    0,
-    0,
-    0,
-    0,
-    0,
-    0,
-    0,
-    0,
-    0,
-    0,
-    0,
-    0,
-    0,
-    0,
-    0,
-    0,
-    0,
-    0,
-    0,
-    0,
-    0,
-    0,
-    0,
-    0,
-    0,
-    0,
-    0,
-    0,
-    0,
-    0,
-    0,
-    0,
-    0,
-    0,
-    0,
-    0,
-    0,
-    0,
-    0,
-    0,
-    0,
-    0,
-    0,
-    0,
-    0,
-    0,
-    0,
-    0,
-    0,
-    0,
-    0,
-    0,
-    0,
-    0,
-];
-
-// How many bytes stand before the first that is not in the alphabet. The table is laid down once for all of them.
-pub fn known_bytes(s: &[u8]) -> usize
-    ensures { λ r. ⌜ (r ≡ known (now (s .entry))) × (r ≤ length (now (s .entry))) ⌝ }
-{
-    let classes = CLASSES;
-    let mut i = 0;
-    while i < s.len() {
-        let b = s[i] as usize;
-        if classes[b] == 0 {
-            return i;
-        }
-        i += 1;
-    }
-    i
-}
-
-// How many bytes stand before the first that is a parenthesis or not in the alphabet: the classes of the others are 1 to 13.
-pub fn inner_bytes(s: &[u8]) -> usize
-    ensures { λ r. ⌜ (r ≡ innerBytes (now (s .entry))) × (r ≤ length (now (s .entry))) ⌝ }
-{
-    let classes = CLASSES;
-    let mut i = 0;
-    while i < s.len() {
-        let b = s[i] as usize;
-        let class = classes[b];
-        if class == 0 {
-            return i;
-        }
-        if class > 13 {
-            return i;
-        }
-        i += 1;
-    }
-    i
-}
-
-// The sets that the forms name are tested by comparisons: a constant table is laid down anew at each use, which costs more than a look into it.
 pub fn is_letter(b: u8) -> bool
     ensures { λ r. ⌜ r ≡ letter b ⌝ }
 {
@@ -383,4 +100,61 @@ pub fn is_white(b: u8) -> bool
         return true;
     }
     b == b'\n'
+}
+
+// A byte that may stand between the parentheses: of the alphabet, and no parenthesis.
+fn is_inner(b: u8) -> bool
+    ensures { λ r. ⌜ r ≡ innerByte b ⌝ }
+{
+    if is_text(b) {
+        return true;
+    }
+    if b == b'/' {
+        return true;
+    }
+    if b == b'-' {
+        return true;
+    }
+    is_white(b)
+}
+
+// A byte of the alphabet.
+fn is_known(b: u8) -> bool
+    ensures { λ r. ⌜ r ≡ inAlphabet b ⌝ }
+{
+    if is_inner(b) {
+        return true;
+    }
+    if b == b'(' {
+        return true;
+    }
+    b == b')'
+}
+
+// How many bytes stand before the first that is not in the alphabet.
+pub fn known_bytes(s: &[u8]) -> usize
+    ensures { λ r. ⌜ (r ≡ known (now (s .entry))) × (r ≤ length (now (s .entry))) ⌝ }
+{
+    let mut i = 0;
+    while i < s.len() {
+        if !is_known(s[i]) {
+            return i;
+        }
+        i += 1;
+    }
+    i
+}
+
+// How many bytes stand before the first that is a parenthesis or not in the alphabet.
+pub fn inner_bytes(s: &[u8]) -> usize
+    ensures { λ r. ⌜ (r ≡ innerBytes (now (s .entry))) × (r ≤ length (now (s .entry))) ⌝ }
+{
+    let mut i = 0;
+    while i < s.len() {
+        if !is_inner(s[i]) {
+            return i;
+        }
+        i += 1;
+    }
+    i
 }

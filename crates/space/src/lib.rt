@@ -1,7 +1,7 @@
 // White space reduced into a scratch, and the places of the hyphens in a message as sent.
 ghost use mathlib.Core.Path.{_≡_};
-ghost use Prim.Native.Nat.{ℕ, _+_, _≤_, _<_};
-ghost use lib.ListN.{length, drop};
+ghost use Prim.Native.Nat.{ℕ, _+_, _-_, _≤_, _<_};
+ghost use lib.ListN.{length, drop, getD};
 ghost use Rattle.text.specs.Lent.{front};
 ghost use Rattle.space.specs.Reduced.{opens, closes, standsForRun, reduced};
 ghost use Rattle.space.specs.Places.{countsAt, sentFrom, sentPlace};
@@ -26,44 +26,50 @@ fn is_closing(b: u8) -> bool
     b == b')'
 }
 
-// Whether the byte of white space before `at` is the one that stands for its run.
-fn stands_for_run(msg: &[u8], at: usize, after: bool) -> bool
-    requires { ⌜ at ≤ length (now msg) ⌝ }
-    ensures { λ r. ⌜ r ≡ standsForRun after (drop at (now (msg .entry))) ⌝ }
+// The last byte, or 0 where there is none.
+fn last_of(s: &[u8]) -> u8
+    ensures { λ r. ⌜ r ≡ getD (now (s .entry)) (length (now (s .entry)) - 1) 0 ⌝ }
 {
-    if at < msg.len() {
-        let c = msg[at];
-        if alphabet::is_white(c) {
-            return false;
-        }
-        if after {
-            return true;
-        }
-        !is_closing(c)
-    } else {
-        true
+    if s.len() == 0 {
+        return 0;
     }
+    s[s.len() - 1]
 }
 
-// Writes `msg` reduced at the front of `buf`, and returns how many bytes that is; the bytes behind it stay. `last` is the last byte that is no
-// white space.
+// Whether a byte of white space is the one that stands for its run, by what is behind it and by the last byte before the run.
+fn stands_for_run(behind: &[u8], last: u8) -> bool
+    ensures { λ r. ⌜ r ≡ standsForRun (opens last) (now (behind .entry)) ⌝ }
+{
+    if behind.len() == 0 {
+        return true;
+    }
+    let c = behind[0];
+    if alphabet::is_white(c) {
+        return false;
+    }
+    if is_closing(c) {
+        return is_opening(last);
+    }
+    true
+}
+
+// Writes `msg` reduced at the front of `buf`, and returns how many bytes that is; the bytes behind it stay. Of a run of white space nothing is
+// written before its end, so until then the byte written last is the last one before the run.
 pub fn reduce(msg: &[u8], buf: &mut [u8]) -> usize
     requires { ⌜ length (now msg) ≤ length (now buf) ⌝ }
     ensures { λ r. ⌜ (r ≡ length (reduced (now (msg .entry)))) × (now (buf .exit) ≡ front (reduced (now (msg .entry))) (now (buf .entry))) ⌝ }
 {
     let mut n = 0;
     let mut i = 0;
-    let mut last = 0;
     while i < msg.len() {
         let b = msg[i];
         i += 1;
         if alphabet::is_white(b) {
-            if stands_for_run(msg, i, is_opening(last)) {
+            if stands_for_run(&msg[i..], last_of(&buf[..n])) {
                 buf[n] = b' ';
                 n += 1;
             }
         } else {
-            last = b;
             buf[n] = b;
             n += 1;
         }

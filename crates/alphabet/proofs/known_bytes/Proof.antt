@@ -1,38 +1,37 @@
 -- `alphabet::known_bytes` meets its contract. Assumes nothing.
 use Prim.Native.Nat.{_+_, _-_, _≤_}
-use mathlib.Core.Path.{_≡_, refl}
+use mathlib.Core.Path.{_≡_, refl, sym, _∙_}
 use native.Mathlib.Omega.{arith}
-use lib.ListN.{length, drop, getD}
+use lib.ListN.{length, drop}
+use borrow.Author.Tests.{not-true, not-false}
 use borrow.Author.Needs.{needs}
 use Rattle.alphabet.specs.Alphabet.{inAlphabet, known}
-use Rattle.alphabet.proofs.Known.{foreign-byte, known-byte, count-stop, count-next, count-end}
+use Rattle.alphabet.proofs.Known.{count-stop, count-next, count-end}
 use Rattle.alphabet.proofs.known_bytes.Statement.{statement}
 use Rattle.alphabet.proofs.known_bytes.Tie as tie
 
 abbrev Inv-loop : tie.InvT-loop
-Inv-loop s classes i₀ i = (i ≤ length s) × (i + known (drop i s) ≡ known s)
+Inv-loop s i₀ i = (i ≤ length s) × (i + known (drop i s) ≡ known s)
 
 abbrev μ-loop : tie.MeasureT-loop
-μ-loop s classes i₀ i = length s - i
+μ-loop s i₀ i = length s - i
 
 loop-holds : tie.Need-loop-holds Inv-loop μ-loop
 loop-holds c = (search needs, omega arith)
 
-shared-slice-read-b : tie.Need-shared-slice-read-b Inv-loop μ-loop
-shared-slice-read-b c = search needs
+shared-slice-read-is-known : tie.Need-shared-slice-read-is-known Inv-loop μ-loop
+shared-slice-read-is-known c = search needs
 
-cast-b : tie.Need-cast-b Inv-loop μ-loop
-cast-b c = omega (arith, c .shared-slice-known .given (c .before .before .loop .i))
-
-array-read-if1 : tie.Need-array-read-if1 Inv-loop μ-loop
-array-read-if1 c = omega (arith, c .shared-slice-known .given (c .before .before .loop .i))
+is-known-requires : tie.Need-is-known-requires Inv-loop μ-loop
+is-known-requires c κs = search needs
 
 returns : tie.Need-returns Inv-loop μ-loop
 returns c =
-    let s = c .before .before .before .before .args .s .now in
-    let l = c .before .before .before .loop in
-    let h = foreign-byte (getD s (l .i) 0) (omega (arith, c .before .shared-slice-known .given (l .i))) (c .if1 .taken) in
-    (omega (arith, l .inv .1, count-stop inAlphabet known (λ b t. refl) s (l .i) (c .before .before .loop-test .taken) h), l .inv .0)
+    let t = c .before .before .before in
+    let l = t .before .loop in
+    let s = t .before .before .before .args .s .now in
+    let h = sym (c .before .is-known .ensures) ∙ not-true _ (c .if1 .taken) in
+    (omega (arith, l .inv .1, count-stop inAlphabet known (λ b t. refl) s (l .i) (t .loop-test .taken) h), l .inv .0)
 
 add-i : tie.Need-add-i Inv-loop μ-loop
 add-i c = search needs
@@ -42,14 +41,15 @@ loop-less c = search needs
 
 loop-again : tie.Need-loop-again Inv-loop μ-loop
 loop-again c =
-    let s = c .before .before .before .before .args .s .now in
-    let l = c .before .before .before .loop in
-    let h = known-byte (getD s (l .i) 0) (omega (arith, c .before .shared-slice-known .given (l .i))) (c .if1 .left) in
-    (omega arith, omega (arith, l .inv .1, count-next inAlphabet known (λ b t. refl) s (l .i) (c .before .before .loop-test .taken) h))
+    let t = c .before .before .before in
+    let l = t .before .loop in
+    let s = t .before .before .before .args .s .now in
+    let h = sym (c .before .is-known .ensures) ∙ not-false _ (c .if1 .left) in
+    (omega arith, omega (arith, l .inv .1, count-next inAlphabet known (λ b t. refl) s (l .i) (t .loop-test .taken) h))
 
 returns-2 : tie.Need-returns-2 Inv-loop μ-loop
 returns-2 c =
-    let s = c .before .before .args .s .now in
+    let s = c .before .before .before .args .s .now in
     let l = c .before .loop in
     (omega (arith, l .inv .1, count-end inAlphabet known (λ b t. refl) s (l .i) refl (c .loop-test .left)), l .inv .0)
 
@@ -60,9 +60,8 @@ known-bytes-spec =
     Inv-loop
     μ-loop
     loop-holds
-    shared-slice-read-b
-    cast-b
-    array-read-if1
+    shared-slice-read-is-known
+    is-known-requires
     returns
     add-i
     loop-less

@@ -1,20 +1,21 @@
 -- `space::reduce` meets its contract. Assumes nothing.
-use Prim.Native.Nat.{ℕ, _-_}
-use mathlib.Core.Path.{refl}
+use Prim.Native.Nat.{ℕ, _+_, _-_}
+use mathlib.Core.Path.{_≡_, sym, _∙_}
 use mathlib.Core.List.{List}
-use lib.ListN.{length, getD}
-use Rattle.space.specs.Reduced.{opens}
-use Rattle.space.proofs.Index.{Reducing, turn-byte, turn-space, turn-out, reducing-starts, reducing-ends}
+use lib.ListN.{length, drop, take}
+use lib.Seq.{length-take-le}
+use Rattle.space.specs.Reduced.{opens, standsForRun}
+use Rattle.space.proofs.Index.{stands-behind, lastOf, Turn, turn-byte, turn-space, turn-out, turn-starts, turn-ends}
 use borrow.Author.Needs.{needs}
 use native.Mathlib.Omega.{arith}
 use Rattle.space.proofs.reduce.Statement.{statement}
 use Rattle.space.proofs.reduce.Tie as tie
 
 abbrev Inv-loop : tie.InvT-loop
-Inv-loop msg buf₀ n₀ i₀ last₀ buf n i last = Reducing msg buf₀ buf n i (opens last)
+Inv-loop msg buf₀ n₀ i₀ buf n i = Turn msg buf₀ buf n i
 
 abbrev μ-loop : tie.MeasureT-loop
-μ-loop msg buf₀ n₀ i₀ last₀ buf n i last = length msg - i
+μ-loop msg buf₀ n₀ i₀ buf n i = length msg - i
 
 -- where a byte was tried
 module _ (c : tie.After-is-white Inv-loop μ-loop) where
@@ -24,9 +25,25 @@ module _ (c : tie.After-is-white Inv-loop μ-loop) where
   abbrev message : List ℕ
   message = looped .before .before .before .args .msg .now
 
+-- where it is white space
+module _ (c : tie.After-last-of-arg Inv-loop μ-loop) where
+  abbrev tried : tie.After-is-white Inv-loop μ-loop
+  tried = c .before .before .before
+
+-- and it is known whether it stands for its run
+module _ (c : tie.After-stands-for-run Inv-loop μ-loop) where
+  abbrev white-byte : tie.After-is-white Inv-loop μ-loop
+  white-byte = tried (c .before .before)
+
+  abbrev written : List ℕ
+  written = take (looped white-byte .loop .n) (looped white-byte .loop .buf)
+
+  stands : standsForRun (opens (lastOf written)) (drop (looped white-byte .loop .i + 1) (message white-byte)) ≡ c .stands-for-run .result
+  stands =
+      stands-behind (message white-byte) (looped white-byte .loop .i + 1) _ (lastOf written) _ (c .before .last-of .ensures) (c .stands-for-run .ensures)
+
 loop-holds : tie.Need-loop-holds Inv-loop μ-loop
-unfolding opens
-loop-holds c = reducing-starts _ _
+loop-holds c = turn-starts _ _
 
 shared-slice-read-b : tie.Need-shared-slice-read-b Inv-loop μ-loop
 shared-slice-read-b c = search needs
@@ -37,8 +54,25 @@ add-i c = search needs
 is-white-requires : tie.Need-is-white-requires Inv-loop μ-loop
 is-white-requires c κs = search needs
 
-is-opening-requires : tie.Need-is-opening-requires Inv-loop μ-loop
-is-opening-requires c κs = search needs
+sub-stands-for-run : tie.Need-sub-stands-for-run Inv-loop μ-loop
+sub-stands-for-run c = search needs
+
+part-stands-for-run-start : tie.Need-part-stands-for-run-start Inv-loop μ-loop
+part-stands-for-run-start c = search needs
+
+part-stands-for-run-end : tie.Need-part-stands-for-run-end Inv-loop μ-loop
+part-stands-for-run-end c = search needs
+
+slice-reshare-prefix-last-of : tie.Need-slice-reshare-prefix-last-of Inv-loop μ-loop
+slice-reshare-prefix-last-of c = search needs
+
+slice-aggregate-last-of : tie.Need-slice-aggregate-last-of Inv-loop μ-loop
+slice-aggregate-last-of c =
+    let l = looped (tried c) .loop in
+    sym (length-take-le (l .n) (l .buf) (omega arith))
+
+last-of-requires : tie.Need-last-of-requires Inv-loop μ-loop
+last-of-requires c κs = search needs
 
 stands-for-run-requires : tie.Need-stands-for-run-requires Inv-loop μ-loop
 stands-for-run-requires c κs = search needs
@@ -54,18 +88,18 @@ loop-less c = search needs
 
 loop-again : tie.Need-loop-again Inv-loop μ-loop
 loop-again c =
-    let r = c .before .before .before .before in
+    let r = white-byte (c .before) in
     let l = looped r .loop in
-    turn-space (message r) _ (l .buf) (l .n) (l .i) (opens (l .last)) (l .inv) (omega arith) (omega arith) (cc) (cc)
+    turn-space (message r) _ (l .buf) (l .n) (l .i) (l .inv) (omega arith) (omega arith) (cc) (stands (c .before) ∙ c .if2 .taken)
 
 loop-less-2 : tie.Need-loop-less-2 Inv-loop μ-loop
 loop-less-2 c = search needs
 
 loop-again-2 : tie.Need-loop-again-2 Inv-loop μ-loop
 loop-again-2 c =
-    let r = c .before .before .before .before in
+    let r = white-byte (c .before) in
     let l = looped r .loop in
-    turn-out (message r) _ (l .buf) (l .n) (l .i) (opens (l .last)) (l .inv) (omega arith) (cc) (cc)
+    turn-out (message r) _ (l .buf) (l .n) (l .i) (l .inv) (omega arith) (cc) (stands (c .before) ∙ c .if2 .left)
 
 slice-write-buf-2 : tie.Need-slice-write-buf-2 Inv-loop μ-loop
 slice-write-buf-2 c = search needs
@@ -78,16 +112,14 @@ loop-less-3 c = search needs
 
 loop-again-3 : tie.Need-loop-again-3 Inv-loop μ-loop
 loop-again-3 c =
-    let r = c .before in
-    let l = looped r .loop in
-    let b = getD (message r) (l .i) 0 in
-    turn-byte (message r) _ (l .buf) (l .n) (l .i) (opens (l .last)) (l .inv) (omega arith) (omega arith) (cc) (opens b) refl
+    let l = looped (c .before) .loop in
+    turn-byte (message (c .before)) _ (l .buf) (l .n) (l .i) (l .inv) (omega arith) (omega arith) (cc)
 
 same-length : tie.Need-same-length Inv-loop μ-loop
 same-length c = search needs
 
 returns : tie.Need-returns Inv-loop μ-loop
-returns c = reducing-ends _ _ _ _ _ _ (c .before .loop .inv) (c .loop-test .left)
+returns c = turn-ends _ _ _ _ _ (c .before .loop .inv) (c .loop-test .left)
 
 pub reduce-spec : {M : Type 1} → statement M
 reduce-spec =
@@ -99,7 +131,12 @@ reduce-spec =
     shared-slice-read-b
     add-i
     is-white-requires
-    is-opening-requires
+    sub-stands-for-run
+    part-stands-for-run-start
+    part-stands-for-run-end
+    slice-reshare-prefix-last-of
+    slice-aggregate-last-of
+    last-of-requires
     stands-for-run-requires
     slice-write-buf
     add-n
