@@ -1,4 +1,4 @@
--- The walk over lines: `by-lines` is the theorem to read; the other laws are what the code's ways out come to. Assumes nothing.
+-- The walk over lines: `by-lines` and `again-by-lines` are the theorems to read; the other laws are what the code's ways out come to. Assumes nothing.
 use Prim.Native.Nat.{ℕ, suc, _+_, _≤_, _<_}
 use mathlib.Core.Path.{_≡_, refl, sym, ap, subst, fun-ext, _∙_}
 use mathlib.Core.Bool.{Bool, true, false, cond, false≢true}
@@ -24,12 +24,14 @@ use Rattle.handlers.specs.declared.Journal.{Journal}
 use Rattle.handlers.specs.declared.Journal.the-variants.{Nowhere, At}
 use Rattle.handlers.specs.declared.Sitting.{Sitting}
 use Rattle.handlers.specs.declared.Waiting.{Waiting}
-use Rattle.handlers.specs.Walk.{afterAsk, afterLine, Waits, fresh, pushed, waitsIn, keeps, Answers, Kept, Ended, Step, Fed}
-use Rattle.handlers.specs.Walk.{Makes, Takes, Ends, Seated, Replays, linesFrom, afterWaits, afterLines, ByLines}
+use Rattle.handlers.specs.Walk.{acceptedAs, afterAsk, afterLine, acceptsAsk, acceptsLine, Waits, fresh, pushed, waitsIn, keeps, Answers, Kept, Ended}
+use Rattle.handlers.specs.Walk.{Step, Fed, accepts, Replayed}
+use Rattle.handlers.specs.Walk.{Makes, Takes, Ends, Seated, TakesAgain, EndsAgain, Replays, linesFrom, afterWaits, afterLines, ByLines, AgainByLines}
 use Rattle.handlers.specs.Walk.Kept.{done, not-kept}
 use Rattle.handlers.specs.Walk.Ended.{taken, too-long}
 use Rattle.handlers.specs.Walk.Step.{within, ends}
 use Rattle.handlers.specs.Walk.Fed.{nothing, one-more}
+use Rattle.handlers.specs.Walk.Replayed.{none-yet, played}
 
 -- A CALL
 
@@ -74,14 +76,52 @@ module _ (j : Journal) (w : Waiting) (line : List ℕ) (ps : List Place) (lent :
       → Ends j (waitsIn w line) ps lent qs left
   ends-taken qs left e k = record { board-is = taken e (k .board-is); sized = k .sized }
 
--- A LINE OF THE JOURNAL THAT CANNOT BE PLAYED AGAIN
+-- A LINE OF THE JOURNAL
+
+pub goes-on : (line : List ℕ) (ps : List Place) (lent : List ℕ) (a : Ask) (call : Call) (t : Turn) (left : List ℕ) (g : Bool) → a ≡ asked line
+    → a ≡ Calls call → Turned (callOf call line) ps lent t left → g ≡ acceptedAs (t .verdict) → g ≡ acceptsLine (boardIn ps lent) line
+goes-on line ps lent a call t left g e q k h =
+    h ∙ ap acceptedAs (k .verdict-is) ∙ ap (λ (x : Ask). acceptsAsk x line (boardIn ps lent)) (sym q ∙ e)
+
+pub ends-again : (w : Waiting) (line : List ℕ) (ps : List Place) (lent : List ℕ) (r : Sitting) (left : List ℕ) → w .over ≡ false
+    → TakesAgain (take (w .n) line) ps lent r left → EndsAgain (waitsIn w line) ps lent r left
+ends-again w line ps lent r left o k =
+    record {
+      ends = ends-taken Nowhere w line ps lent (r .board .places) left o (k .takes);
+      going-is = k .going-is ∙ sym (ap (λ (t : Bool). cond t false (acceptsLine (boardIn ps lent) (take (w .n) line))) o);
+    }
+
+-- one that cannot be played again
 
 abbrev stopped : Rack → Sitting
 stopped b = record { board = b; waiting = record { n = 0; over = true }; going = false }
 
 module _ (b : Rack) (r : Sitting) (e : r ≡ stopped b) where
-  pub places-stopped : r .board .places ≡ b .places
+  places-stopped : r .board .places ≡ b .places
   places-stopped = ap (λ (x : Sitting). x .board .places) e
+
+  going-stopped : r .going ≡ false
+  going-stopped = ap (λ (x : Sitting). x .going) e
+
+  pub takes-stopped : (line lent : List ℕ) → Sized (b .places) lent → (a k : Ask) → a ≡ asked line → a ≡ k
+      → afterAsk k line (boardIn (b .places) lent) ≡ boardIn (b .places) lent → acceptsAsk k line (boardIn (b .places) lent) ≡ false
+      → TakesAgain line (b .places) lent r lent
+  takes-stopped line lent z a k i q s n =
+      record {
+        takes =
+            subst (λ (qs : List Place). Takes Nowhere line (b .places) lent qs lent) (sym places-stopped)
+            (takes-other Nowhere line (b .places) lent z a k i q s);
+        going-is = going-stopped ∙ sym (ap (λ (x : Ask). acceptsAsk x line (boardIn (b .places) lent)) (sym i ∙ q) ∙ n);
+      }
+
+  pub ends-stopped : (w : Waiting) (line lent : List ℕ) → Sized (b .places) lent → w .over ≡ true → EndsAgain (waitsIn w line) (b .places) lent r lent
+  ends-stopped w line lent z o =
+      record {
+        ends =
+            subst (λ (qs : List Place). Ends Nowhere (waitsIn w line) (b .places) lent qs lent) (sym places-stopped)
+            (ends-long Nowhere w line (b .places) lent z o);
+        going-is = going-stopped ∙ sym (ap (λ (t : Bool). cond t false (acceptsLine (boardIn (b .places) lent) (take (w .n) line))) o);
+      }
 
   pub seated-stopped : (line left : List ℕ) → length line ≡ 4096 → Sized (b .places) left → Seated (r .waiting) line (r .board .places) left
   seated-stopped line left room z =
@@ -91,7 +131,7 @@ module _ (b : Rack) (r : Sitting) (e : r ≡ stopped b) where
       → Replays chunk s line lent r line′ left
   replays-stopped chunk s line lent line′ left room z =
       record {
-        fed = λ g. absurd (false≢true (sym (ap (λ (x : Sitting). x .going) e) ∙ g));
+        replayed = λ g. absurd (false≢true (sym going-stopped ∙ g));
         seated = seated-stopped line′ left room z;
       }
 
@@ -139,6 +179,26 @@ module _ (j : Bool) (b : Board house) (w : Waits) (chunk : List ℕ) (i : ℕ) (
 pub fed-all : (j : Bool) (b : Board house) (w : Waits) (chunk : List ℕ) (i : ℕ) (c : Board house) (v : Waits) → length chunk ≤ i
     → Fed j b w (take i chunk) c v → Fed j b w chunk c v
 fed-all j b w chunk i c v h f = subst (λ (xs : List ℕ). Fed j b w xs c v) (take-all i chunk h) f
+
+-- A READ OF THE JOURNAL
+
+module _ (b : Board house) (w : Waits) (chunk : List ℕ) (i : ℕ) (less : i < length chunk) (c : Board house) (v : Waits)
+    (f : Replayed b w (take i chunk) c v) where
+  played-next : (d : Board house) (u : Waits) → Step false c v (getD chunk i 0) d u → (getD chunk i 0 ≡ 10 → accepts c v ≡ true)
+      → Replayed b w (take (i + 1) chunk) d u
+  played-next d u s g =
+      let plus : i + 1 ≡ suc i = omega arith in
+      subst (λ (xs : List ℕ). Replayed b w xs d u) (sym (ap (λ (k : ℕ). take k chunk) plus ∙ take-suc chunk i 0 less)) (played (getD chunk i 0) f s g)
+
+  pub played-line : (d : Board house) → getD chunk i 0 ≡ 10 → Ended false c v d → accepts c v ≡ true → Replayed b w (take (i + 1) chunk) d fresh
+  played-line d e k g = played-next d fresh (ends e k refl) (λ t. g)
+
+  pub played-byte : (u : Waits) → (getD chunk i 0 ≡ 10 → ⊥) → u ≡ pushed v (getD chunk i 0) → Replayed b w (take (i + 1) chunk) c u
+  played-byte u n e = played-next c u (within n refl e) (λ t. absurd (n t))
+
+pub played-all : (b : Board house) (w : Waits) (chunk : List ℕ) (i : ℕ) (c : Board house) (v : Waits) → length chunk ≤ i
+    → Replayed b w (take i chunk) c v → Replayed b w chunk c v
+played-all b w chunk i c v h f = subst (λ (xs : List ℕ). Replayed b w xs c v) (take-all i chunk h) f
 
 -- THE LINES, without a journal
 
@@ -213,3 +273,10 @@ walked b w (one-more {s = s} {c = c} {d = d} {v = v} {u = u} x f k) =
 -- THE THEOREM
 pub by-lines : ByLines
 by-lines b w s c v f = walked b w f .board-is
+
+fed-again : (b : Board house) (w : Waits) {s : List ℕ} {c : Board house} {v : Waits} → Replayed b w s c v → Fed false b w s c v
+fed-again b w none-yet = nothing
+fed-again b w (played x f k g) = one-more x (fed-again b w f) k
+
+pub again-by-lines : AgainByLines
+again-by-lines b w s c v f = by-lines b w s c v (fed-again b w f)

@@ -7,12 +7,13 @@ use mathlib.Core.List.{List, [], _∷_, _++_}
 use lib.Dec.{eqb, ltb}
 use lib.ListN.{length, take}
 use Rattle.alphabet.specs.Text.{bytes}
-use Rattle.rooms.specs.Rooms.{Board, after}
+use Rattle.rooms.specs.Rooms.{Board, said, after}
 use Rattle.racks.specs.declared.Place.{Place}
 use Rattle.racks.specs.Places.{boardIn, Sized}
 use Rattle.board.specs.House.{house}
 use Rattle.board.specs.declared.Verdict.{Verdict}
 use Rattle.board.specs.declared.Verdict.the-variants.{Filed, Updated, Cleared, Refused}
+use Rattle.board.specs.Turns.{told}
 use Rattle.calls.specs.declared.Call.{Call}
 use Rattle.calls.specs.declared.Ask.{Ask}
 use Rattle.calls.specs.declared.Ask.the-variants.{Calls, Look, List as Lists, NoCall}
@@ -38,6 +39,17 @@ afterAsk NoCall line b = b
 
 abbrev pub afterLine : Board house → List ℕ → Board house
 afterLine b line = afterAsk (asked line) line b
+
+-- A LINE THAT CAN STAND IN A JOURNAL: a call that is accepted
+
+abbrev pub acceptsAsk : Ask → List ℕ → Board house → Bool
+acceptsAsk (Calls c) line b = acceptedAs (told (said house b (callOf c line)))
+acceptsAsk (Look firm slot) line b = false
+acceptsAsk (Lists firm) line b = false
+acceptsAsk NoCall line b = false
+
+abbrev pub acceptsLine : Board house → List ℕ → Bool
+acceptsLine b line = acceptsAsk (asked line) line b
 
 -- A LINE THAT HAS NOT ENDED: its bytes so far; or that it is too long, over 4,096 bytes
 
@@ -88,6 +100,16 @@ pub data Fed (j : Bool) (b : Board house) (w : Waits) : List ℕ → Board house
   nothing : Fed j b w [] b w
   one-more : {s : List ℕ} {c d : Board house} {v u : Waits} (x : ℕ) → Fed j b w s c v → Step j c v x d u → Fed j b w (s ++ (x ∷ [])) d u
 
+-- the bytes of a journal: each line that ended is a call that is accepted, on the board as it then stood
+
+abbrev pub accepts : Board house → Waits → Bool
+accepts b w = cond (w .over) false (acceptsLine b (w .pending))
+
+pub data Replayed (b : Board house) (w : Waits) : List ℕ → Board house → Waits → Type 0 where
+  none-yet : Replayed b w [] b w
+  played : {s : List ℕ} {c d : Board house} {v u : Waits} (x : ℕ) → Replayed b w s c v → Step false c v x d u → (x ≡ 10 → accepts c v ≡ true)
+      → Replayed b w (s ++ (x ∷ [])) d u
+
 -- WHAT THE CODE MUST DO, from places and bytes to places and bytes
 
 pub record Makes (j : Journal) (call : Call) (line : List ℕ) (ps : List Place) (lent : List ℕ) (qs : List Place) (left : List ℕ) : Type 0 where
@@ -112,10 +134,19 @@ pub record Feeds (j : Journal) (chunk : List ℕ) (s : Sitting) (line lent : Lis
   pub fed : Fed (keeps j) (boardIn (s .board .places) lent) (waitsIn (s .waiting) line) chunk (boardIn (r .board .places) left) (waitsIn (r .waiting) line′)
   pub seated : Seated (r .waiting) line′ (r .board .places) left
 
--- the journal, played again: while it goes on, each line is taken
+-- a line of the journal, played again, and whether to go on
+pub record TakesAgain (line : List ℕ) (ps : List Place) (lent : List ℕ) (r : Sitting) (left : List ℕ) : Type 0 where
+  pub takes : Takes Nowhere line ps lent (r .board .places) left
+  pub going-is : r .going ≡ acceptsLine (boardIn ps lent) line
+
+pub record EndsAgain (w : Waits) (ps : List Place) (lent : List ℕ) (r : Sitting) (left : List ℕ) : Type 0 where
+  pub ends : Ends Nowhere w ps lent (r .board .places) left
+  pub going-is : r .going ≡ accepts (boardIn ps lent) w
+
+-- the journal, played again: where it goes on, all that was read is played
 pub record Replays (chunk : List ℕ) (s : Sitting) (line lent : List ℕ) (r : Sitting) (line′ left : List ℕ) : Type 0 where
-  pub fed : r .going ≡ true
-      → Fed false (boardIn (s .board .places) lent) (waitsIn (s .waiting) line) chunk (boardIn (r .board .places) left) (waitsIn (r .waiting) line′)
+  pub replayed : r .going ≡ true
+      → Replayed (boardIn (s .board .places) lent) (waitsIn (s .waiting) line) chunk (boardIn (r .board .places) left) (waitsIn (r .waiting) line′)
   pub seated : Seated (r .waiting) line′ (r .board .places) left
 
 -- THE LINES OF AN INPUT, each as it waited when it ended
@@ -133,6 +164,10 @@ afterLines b (w ∷ ws) = afterLines (afterWaits b w) ws
 -- without a journal the board after an input, however it was cut into reads, is that after its lines
 abbrev pub ByLines : Type 0
 ByLines = (b : Board house) (w : Waits) (s : List ℕ) (c : Board house) (v : Waits) → Fed false b w s c v → c ≡ afterLines b (linesFrom w s)
+
+-- and so is the board after a journal
+abbrev pub AgainByLines : Type 0
+AgainByLines = (b : Board house) (w : Waits) (s : List ℕ) (c : Board house) (v : Waits) → Replayed b w s c v → c ≡ afterLines b (linesFrom w s)
 
 -- EXAMPLES, computed: two lines, and a third that has not ended
 two-lines : linesFrom fresh (bytes "1 LIST" ++ 10 ∷ 10 ∷ bytes "2 L") ≡ record { pending = bytes "1 LIST"; over = false } ∷ fresh ∷ []

@@ -6,7 +6,7 @@ ghost use mathlib.Core.Bool.{true, false};
 ghost use Prim.Native.Nat.{_≤_};
 ghost use lib.ListN.{length};
 ghost use Rattle.racks.specs.Places.{Sized};
-ghost use Rattle.handlers.specs.Walk.{Answers, acceptedAs, pushed, waitsIn, Makes, Takes, Ends, Seated, Feeds, Replays};
+ghost use Rattle.handlers.specs.Walk.{Answers, acceptedAs, pushed, waitsIn, Makes, Takes, Ends, Seated, Feeds, TakesAgain, EndsAgain, Replays};
 use board::Looked;
 use board::Verdict;
 use calls::Ask;
@@ -376,7 +376,7 @@ fn serve(board: Board, journal: Journal, line: &mut [u8], bytes: &mut [u8; 36000
 // A line of the journal: the board after it, and whether it is a call that is accepted.
 fn replay_line(board: Board, line: &[u8], bytes: &mut [u8; 36000]) -> Sitting
     requires { ⌜ Sized (board .places) (now bytes) ⌝ }
-    ensures { λ r. ⌜ Takes Journal.Nowhere (now (line .entry)) (board .places) (now (bytes .entry)) (r .board .places) (now (bytes .exit)) ⌝ }
+    ensures { λ r. ⌜ TakesAgain (now (line .entry)) (board .places) (now (bytes .entry)) r (now (bytes .exit)) ⌝ }
 {
     match calls::ask_in(line) {
         Ask::Calls(call) => {
@@ -409,7 +409,7 @@ fn stuck(board: Board) -> Sitting
 // A line of the journal has ended.
 fn replay_end(board: Board, w: Waiting, line: &[u8], bytes: &mut [u8; 36000]) -> Sitting
     requires { ⌜ (w .n ≤ length (now line)) × Sized (board .places) (now bytes) ⌝ }
-    ensures { λ r. ⌜ Ends Journal.Nowhere (waitsIn w (now (line .entry))) (board .places) (now (bytes .entry)) (r .board .places) (now (bytes .exit)) ⌝ }
+    ensures { λ r. ⌜ EndsAgain (waitsIn w (now (line .entry))) (board .places) (now (bytes .entry)) r (now (bytes .exit)) ⌝ }
 {
     if w.over {
         return stuck(board);

@@ -1,11 +1,7 @@
 -- `handlers::replay_end` meets its contract. Assumes nothing.
-use mathlib.Core.Path.{sym, subst}
-use mathlib.Core.List.{List}
+use mathlib.Core.Path.{sym}
 use lib.Seq.{length-take-le}
-use Rattle.racks.specs.declared.Place.{Place}
-use Rattle.handlers.specs.declared.Journal.the-variants.{Nowhere}
-use Rattle.handlers.specs.Walk.{waitsIn, Ends}
-use Rattle.handlers.proofs.Walk.{ends-long, ends-taken, places-stopped}
+use Rattle.handlers.proofs.Walk.{ends-again, ends-stopped}
 use borrow.Author.Needs.{needs}
 use Rattle.handlers.proofs.replay_end.Statement.{statement}
 use Rattle.handlers.proofs.replay_end.Tie as tie
@@ -17,10 +13,7 @@ returns : tie.Need-returns
 returns c =
     let i = c .before in
     let s = i .before .before in
-    subst
-    (λ (qs : List Place). Ends Nowhere (waitsIn (s .args .w) (s .args .line .now)) (s .args .board .places) (s .args .bytes .now) qs (s .args .bytes .now))
-    (sym (places-stopped _ _ (c .stuck .ensures)))
-    (ends-long Nowhere (s .args .w) (s .args .line .now) (s .args .board .places) (s .args .bytes .now) (s .pre .1) (i .if1 .taken))
+    ends-stopped _ _ (c .stuck .ensures) (s .args .w) (s .args .line .now) (s .args .bytes .now) (s .pre .1) (i .if1 .taken)
 
 slice-aggregate-replay-line : tie.Need-slice-aggregate-replay-line
 slice-aggregate-replay-line c = sym (length-take-le _ _ (c .before .before .before .pre .0))
@@ -32,7 +25,7 @@ returns-2 : tie.Need-returns-2
 returns-2 c =
     let i = c .before .before .before in
     let s = i .before .before in
-    ends-taken Nowhere (s .args .w) (s .args .line .now) (s .args .board .places) (s .args .bytes .now) _ _ (i .if1 .left) (c .replay-line .ensures)
+    ends-again (s .args .w) (s .args .line .now) (s .args .board .places) (s .args .bytes .now) _ _ (i .if1 .left) (c .replay-line .ensures)
 
 pub replay-end-spec : {M : Type 1} → statement M
 replay-end-spec =

@@ -1,10 +1,7 @@
 -- `handlers::replay_line` meets its contract. Assumes nothing.
-use mathlib.Core.Path.{refl, sym, subst}
-use mathlib.Core.List.{List}
-use Rattle.racks.specs.declared.Place.{Place}
+use mathlib.Core.Path.{refl}
 use Rattle.handlers.specs.declared.Journal.the-variants.{Nowhere}
-use Rattle.handlers.specs.Walk.{Takes}
-use Rattle.handlers.proofs.Walk.{makes, takes-call, takes-other, places-stopped}
+use Rattle.handlers.proofs.Walk.{makes, takes-call, goes-on, takes-stopped}
 use borrow.Author.Needs.{needs}
 use Rattle.handlers.proofs.replay_line.Statement.{statement}
 use Rattle.handlers.proofs.replay_line.Tie as tie
@@ -45,42 +42,36 @@ returns c =
     let k = p .before .before .before in
     let a = k .before .before in
     let s = a .before .before in
-    takes-call Nowhere (s .args .line .now) (s .args .board .places) (s .args .bytes .now) (s .pre)
-    _ _ _ _ (a .ask-in .ensures) (k .call .given .1)
-    (makes Nowhere (s .args .line .now) (s .args .board .places) (s .args .bytes .now) (s .pre) _ _ _ (p .play .ensures))
+    record {
+      takes =
+          takes-call Nowhere (s .args .line .now) (s .args .board .places) (s .args .bytes .now) (s .pre)
+          _ _ _ _ (a .ask-in .ensures) (k .call .given .1)
+          (makes Nowhere (s .args .line .now) (s .args .board .places) (s .args .bytes .now) (s .pre) _ _ _ (p .play .ensures));
+      going-is =
+          goes-on (s .args .line .now) (s .args .board .places) (s .args .bytes .now)
+          _ _ _ _ _ (a .ask-in .ensures) (k .call .given .1) (p .play .ensures) (c .is-accepted .ensures);
+    }
 
 returns-2 : tie.Need-returns-2
 returns-2 c =
     let k = c .before in
     let a = k .before .before in
     let s = a .before .before in
-    subst
-    (λ (qs : List Place). Takes Nowhere (s .args .line .now) (s .args .board .places) (s .args .bytes .now) qs (s .args .bytes .now))
-    (sym (places-stopped _ _ (c .stuck .ensures)))
-    (takes-other Nowhere (s .args .line .now) (s .args .board .places) (s .args .bytes .now) (s .pre)
-    _ _ (a .ask-in .ensures) (k .enum-told .given .1) refl)
+    takes-stopped _ _ (c .stuck .ensures) (s .args .line .now) (s .args .bytes .now) (s .pre) _ _ (a .ask-in .ensures) (k .enum-told .given .1) refl refl
 
 returns-3 : tie.Need-returns-3
 returns-3 c =
     let k = c .before in
     let a = k .before .before in
     let s = a .before .before in
-    subst
-    (λ (qs : List Place). Takes Nowhere (s .args .line .now) (s .args .board .places) (s .args .bytes .now) qs (s .args .bytes .now))
-    (sym (places-stopped _ _ (c .stuck2 .ensures)))
-    (takes-other Nowhere (s .args .line .now) (s .args .board .places) (s .args .bytes .now) (s .pre)
-    _ _ (a .ask-in .ensures) (k .enum-told2 .given .1) refl)
+    takes-stopped _ _ (c .stuck2 .ensures) (s .args .line .now) (s .args .bytes .now) (s .pre) _ _ (a .ask-in .ensures) (k .enum-told2 .given .1) refl refl
 
 returns-4 : tie.Need-returns-4
 returns-4 c =
     let k = c .before in
     let a = k .before .before in
     let s = a .before .before in
-    subst
-    (λ (qs : List Place). Takes Nowhere (s .args .line .now) (s .args .board .places) (s .args .bytes .now) qs (s .args .bytes .now))
-    (sym (places-stopped _ _ (c .stuck3 .ensures)))
-    (takes-other Nowhere (s .args .line .now) (s .args .board .places) (s .args .bytes .now) (s .pre)
-    _ _ (a .ask-in .ensures) (k .enum-told3 .given .1) refl)
+    takes-stopped _ _ (c .stuck3 .ensures) (s .args .line .now) (s .args .bytes .now) (s .pre) _ _ (a .ask-in .ensures) (k .enum-told3 .given .1) refl refl
 
 pub replay-line-spec : {M : Type 1} → statement M
 replay-line-spec =
