@@ -9,7 +9,6 @@ pub enum Outer {
 }
 
 // The most bytes that a message may have.
-// The most bytes that a message may have.
 pub const MOST_BYTES: usize = 1800;
 
 // Number 2.
