@@ -2,7 +2,7 @@
 -- equation are under `equation`, and the others are named each. Assumes nothing.
 use Prim.Native.Nat.{ℕ, _+_, _-_, _≤_, _<_}
 use mathlib.Core.Path.{_≡_, refl, sym, ap, ap₂, _∙_}
-use mathlib.Core.List.{List}
+use mathlib.Core.List.{List, []}
 use mathlib.Core.Option.{Option·some-injective, Option·some-ne-none}
 use native.Mathlib.Omega.{arith}
 use lib.ListN.{length, take, drop, length-drop}
@@ -40,6 +40,14 @@ use Rattle.parts.specs.declared.Planned.{Planned}
 use Rattle.parts.specs.Parts.{fieldOf, contentAsked as contentNumbered, plannedOf}
 use Rattle.parts.specs.Shown.{Shows as ShowsField, ShowsPlan}
 use Rattle.history.specs.Demand3.{Standing, Offer}
+use Rattle.rooms.specs.Rooms.{Call}
+use Rattle.rooms.specs.declared.Firm.{Firm}
+use Rattle.racks.specs.declared.Place.{Place}
+use Rattle.racks.specs.declared.Board.{Board}
+use Rattle.racks.specs.Places.{Puts as PutsIn}
+use Rattle.board.specs.declared.Turn.{Turn}
+use Rattle.board.specs.Turns.{Turned, clearing, Clearing}
+use Rattle.board.proofs.Turns.{turned-one}
 use Rattle.demands.specs.Demands.{Reads}
 use Rattle.demands.specs.Determined.{Determines}
 use Rattle.demands.specs.Turns.{Updates}
@@ -200,3 +208,21 @@ line-one m out r q after left t u = (
   ap₂ (λ (a : Answer) (n : ℕ). record { answer = a; length = n }) (t .answer-is ∙ sym (u .answer-is)) (t .length-is ∙ sym (u .length-is)),
   t .written ∙ sym (u .written),
 )
+
+-- AT THE BOARD: the verdict, every place and every byte lent
+
+-- a strip put into a slot
+pub puts-one : (f : Firm) (slot : ℕ) (s : Standing) (ps : List Place) (bytes : List ℕ)
+    → Determines (Board × List ℕ) (λ r. PutsIn f slot s ps bytes (r .0 .places) (r .1))
+puts-one f slot s ps bytes x y p q =
+    ap₂ (λ (places : List Place) (after : List ℕ). (record { places = places }, after)) (p .places-are ∙ sym (q .places-are)) (p .bytes-are ∙ sym (q .bytes-are))
+
+-- `board::file` and `board::update`
+pub turn-one : (c : Call (List ℕ)) (ps : List Place) (bytes : List ℕ) → Determines (Turn × List ℕ) (λ r. Turned c ps bytes (r .0) (r .1))
+turn-one c ps bytes x y k l =
+    let e = turned-one c ps bytes (x .0) (y .0) (x .1) (y .1) k l in
+    ap₂ (λ (t : Turn) (after : List ℕ). (t, after)) (e .0) (e .1)
+
+-- `board::clear`, which goes by no byte and changes none
+pub clear-one : (firm slot : ℕ) (ps : List Place) → Determines Turn (Clearing firm slot ps)
+clear-one firm slot ps x y k l = turned-one (clearing firm slot) ps [] x y [] [] (k []) (l []) .0

@@ -7,4 +7,5 @@ pub mod Determined
 pub mod Rooms
 pub mod Whys
 pub mod Bundles
+pub mod Boards
 pub mod BundleExamples

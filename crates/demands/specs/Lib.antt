@@ -5,3 +5,4 @@ pub mod Determined
 pub mod Rooms
 pub mod Whys
 pub mod Bundles
+pub mod Boards
