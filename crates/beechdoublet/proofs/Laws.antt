@@ -1,16 +1,14 @@
 -- Numbers lose nothing: two answers or two states with the same numbers are the same, and a state comes back from its numbers. The number 0 is
 -- an acceptance's alone. Assumes nothing.
-use Prim.Native.Nat.{ℕ, zero, suc, _-_, _≤_, _<_}
-use mathlib.Core.Path.{_≡_, refl, sym, ap, ap₂, subst, subst⁻¹, _∙_}
+use Prim.Native.Nat.{ℕ, _-_, _≤_}
+use mathlib.Core.Path.{_≡_, refl, sym, ap, ap₂, subst, _∙_}
 use mathlib.Core.Bool.{Bool, true, false, _&&_, cond}
 use mathlib.Core.List.{List}
 use mathlib.Core.Option.{Option, none, some}
 use native.Mathlib.Omega.{arith}
 use lib.Dec.{eqb, ltb, leb}
 use lib.ListN.{length, drop, getD}
-use lib.Seq.{ext-getD}
-use borrow.Author.Tests.{eq-eqb, ne-eqb, eqb-true, eqb-false, lt-ltb, le-ltb, ltb-true, ltb-false, leb-true}
-use Rattle.shape.specs.declared.Clock.{Clock}
+use borrow.Author.Tests.{ne-eqb, lt-ltb, le-ltb, ltb-true, ltb-false, leb-true}
 use Rattle.kinds.specs.declared.MessageType.{MessageType}
 use Rattle.kinds.specs.declared.MessageType.the-variants.{Fpl}
 use Rattle.kinds.specs.declared.Role.the-variants.{Changes}
@@ -20,16 +18,12 @@ use Rattle.message.specs.declared.Answer.{Answer}
 use Rattle.message.specs.declared.Answer.the-variants.{Accepted as ReadAs, Refused as NotRead}
 use Rattle.message.specs.Reading.{isPlan, spellingOf, answerOf, outAfter}
 use Rattle.message.proofs.Answers.{refused-number}
-use Rattle.state.specs.declared.Departure.the-variants.{Known, Unknown}
 use Rattle.state.specs.declared.State.{State}
-use Rattle.state.specs.declared.State.the-variants.{Filed, Departed, Arrived, Cancelled}
-use Rattle.text.specs.Words.{all, holds, split, same}
+use Rattle.text.specs.Words.{holds, split, same}
 use Rattle.space.specs.Fields.{inner}
 use Rattle.outer.specs.Outer.{most}
-use Rattle.text.proofs.Tests.{both, same-eq}
-use Rattle.alphabet.specs.Alphabet.{letter}
-use Rattle.aerodromes.specs.Asked.{fourBytes}
-use Rattle.state.specs.State.{soundState, sound}
+use Rattle.text.proofs.Tests.{same-eq}
+use Rattle.state.specs.State.{sound}
 use Rattle.state.specs.declared.Strip.{Strip}
 use Rattle.strip.specs.declared.Updated.{Updated}
 use Rattle.strip.specs.declared.Updated.the-variants.{Accepted, Refused}
@@ -37,8 +31,7 @@ use Rattle.opening.specs.declared.Opening.the-variants.{Refused as NotOpened}
 use Rattle.opening.specs.Opening.{canonicalPlan, readAs, openingOf}
 use Rattle.strip.specs.Updating.{differences, differs, updateOf}
 use Rattle.force.specs.InForce.{namedBy, namedAt}
-use Rattle.history.specs.Demand3.{Cause, not-proper, not-read, not-fit, no-type, another-flight, not-allowed, unexplained, too-long, no-room}
-use Rattle.history.proofs.Causes.{Took, Verdict, verdict, refused-cause}
+use Rattle.history.proofs.Causes.{Took, Verdict, verdict}
 use Rattle.history.proofs.Demand3.{took-proper}
 use Rattle.asked.specs.declared.Asked.{Asked}
 use Rattle.asked.specs.declared.Asked.the-variants.{InStrip, InChange, Refused as NotShown}
@@ -57,6 +50,7 @@ use Rattle.beechdoublet.specs.Numbers.{typeNumber, readNumber, readNumbe
 use Rattle.beechdoublet.specs.Numbers.{partNumber, partNumbers, partWhole, dateNumbers, partsNumbers, planNumber, planNumbers}
 use Rattle.handed.specs.States.{byteOf, handedAs}
 use Rattle.handed.proofs.Laws.{state-one, handed-back}
+use Rattle.board_numbers.proofs.Zero.{refused-numbered}
 use Rattle.beechdoublet.specs.Handed.{updateAs, stateAs, askedAs}
 use Rattle.beechdoublet.specs.Laws.{wasRead, wasTaken, wasShown, Numbered, Told, wasGiven, Given, wasPlanned, NumberedPlan}
 
@@ -97,17 +91,6 @@ read-zero m room = go (answerOf m room) refl
 
 -- AN UPDATE
 
-caused : (strip : List ℕ) (s : Strip) (m : List ℕ) (room number field place : ℕ) → Cause strip s m room number field place → 1 ≤ number
-caused strip s m room number field place (not-proper h) = omega arith
-caused strip s m room number field place (not-read p q l) = refused-number m 1800 number field place q .0
-caused strip s m room number field place (not-fit p q) = omega arith
-caused strip s m room number field place (no-type p q e) = omega arith
-caused strip s m room number field place (another-flight p q e h) = omega arith
-caused strip s m room number field place (not-allowed p q e h a) = omega arith
-caused strip s m room number field place (unexplained k u) = omega arith
-caused strip s m room number field place (too-long k u l) = omega arith
-caused strip s m room number field place (no-room k u l h) = omega arith
-
 -- a refusal has a number
 pub update-numbered : (h : Handed) (strip m : List ℕ) (room : ℕ) → Numbered (updateAs h strip m room)
 update-numbered NoState strip m room = omega arith
@@ -115,8 +98,7 @@ update-numbered (Held held) strip m room = go (updateOf strip held m room) refl
   where
     go : (u : Updated) → updateOf strip held m room ≡ u → Numbered u
     go (Accepted next n) e = tt
-    go (Refused number field place) e =
-        caused strip held m room number field place (refused-cause strip held m room number field place e)
+    go (Refused number field place) e = refused-numbered strip held m room number field place e
 
 -- 0 is given back exactly where the message is accepted
 pub update-zero : (h : Handed) (strip m : List ℕ) (room : ℕ) → eqb (updateNumber (updateAs h strip m room)) 0 ≡ wasTaken (updateAs h strip m room)

@@ -54,7 +54,7 @@ nothing = replicate 200 0
 abbrev with : List ℕ → List ℕ
 with row = replicate 110 0 ++ (row ++ replicate 80 0)
 
-empty-board : (isBoard nothing ≡ true) × (boardOf nothing ≡ replicate 20 vacant)
+pub empty-board : (isBoard nothing ≡ true) × (boardOf nothing ≡ replicate 20 vacant)
 unfolding isBoard boardOf heldOf boardNumbers
 empty-board = (refl, refl)
 

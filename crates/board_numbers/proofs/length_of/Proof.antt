@@ -1,16 +1,11 @@
+-- `board_numbers::length_of` meets its contract. Assumes nothing.
 use borrow.Author.Tests.{lt-ltb, le-ltb}
-use borrow.Author.Needs.{needs}
-use native.Mathlib.Omega.{arith}
 use Rattle.board_numbers.proofs.length_of.Statement.{statement}
 use Rattle.board_numbers.proofs.length_of.Tie as tie
-use Rattle.board_numbers.proofs.length_of.Reads as reads
-use Rattle.board_numbers.proofs.length_of.Lts as lts
 
--- src/lib.rt:80:1
 returns : tie.Need-returns
 returns c = rw (lt-ltb (c .before .args .n) 1801 (c .if1 .taken))
 
--- src/lib.rt:80:1
 returns-2 : tie.Need-returns-2
 returns-2 c = rw (le-ltb (c .before .args .n) 1801 (c .if1 .left))
 

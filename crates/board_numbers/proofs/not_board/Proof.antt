@@ -1,37 +1,33 @@
+-- `board_numbers::not_board` meets its contract. Assumes nothing.
 use Rattle.rooms.specs.Rooms.{firmOf}
-use Rattle.rooms.proofs.Firms.{names-firm}
 use mathlib.Core.Path.{sym, ap, _∙_}
-use Rattle.rooms.proofs.Firms.{names-nobody}
+use Rattle.rooms.proofs.Firms.{names-firm, names-nobody}
 use Rattle.board_numbers.specs.Calls.{notBoard}
-use native.Mathlib.Omega.{arith}
 use borrow.Author.Needs.{needs}
 use Rattle.board_numbers.proofs.not_board.Statement.{statement}
 use Rattle.board_numbers.proofs.not_board.Tie as tie
-use Rattle.board_numbers.proofs.not_board.Reads as reads
-use Rattle.board_numbers.proofs.not_board.Lts as lts
-use Rattle.rooms.proofs.firm_named.Reads as firm-named-reads
 
--- src/lib.rt:135:11
 firm-named-requires : tie.Need-firm-named-requires
 firm-named-requires c κs = search needs
 
--- src/lib.rt:136:26
 enum-told : tie.Need-enum-told
 enum-told c = search needs
 
--- src/lib.rt:141:25
 enum-told-2 : tie.Need-enum-told-2
 enum-told-2 c = search needs
 
--- src/lib.rt:132:1
 returns : tie.Need-returns
-returns c = sym (ap notBoard (names-nobody (firmOf (c .before .before .before .args .firm)) (sym (c .before .before .firm-named .ensures) ∙ c .enum-told .given .1)))
+returns c =
+    let n = c .before .before in
+    let firm = firmOf (n .before .args .firm) in
+    sym (ap notBoard (names-nobody firm (sym (n .firm-named .ensures) ∙ c .enum-told .given .1)))
 
--- src/lib.rt:132:1
 returns-2 : tie.Need-returns-2
 returns-2 c =
+    let n = c .before .before in
+    let firm = firmOf (n .before .args .firm) in
     let f = c .enum-told2 .given in
-    sym (ap notBoard (names-firm (firmOf (c .before .before .before .args .firm)) (f .0 .0) (sym (c .before .before .firm-named .ensures) ∙ f .1)))
+    sym (ap notBoard (names-firm firm (f .0 .0) (sym (n .firm-named .ensures) ∙ f .1)))
 
 pub not-board-spec : {M : Type 1} → statement M
 not-board-spec = tie.close (tie.spec firm-named-requires enum-told enum-told-2 returns returns-2)

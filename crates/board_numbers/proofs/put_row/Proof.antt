@@ -1,3 +1,4 @@
+-- `board_numbers::put_row` meets its contract. Assumes nothing.
 use Prim.Native.Nat.{_+_, _-_, _≤_, _<_}
 use mathlib.Core.Path.{_≡_, refl, _∙_}
 use mathlib.Core.List.{[], _∷_, _++_}
@@ -8,8 +9,6 @@ use borrow.Author.Needs.{needs}
 use native.Mathlib.Omega.{arith}
 use Rattle.board_numbers.proofs.put_row.Statement.{statement}
 use Rattle.board_numbers.proofs.put_row.Tie as tie
-use Rattle.board_numbers.proofs.put_row.Reads as reads
-use Rattle.board_numbers.proofs.put_row.Lts as lts
 
 abbrev Inv-loop : tie.InvT-loop
 Inv-loop row out₀ i₀ out i = (i ≤ length row) × (length out ≡ length out₀) × (out ≡ take i row ++ drop i out₀)
@@ -17,35 +16,27 @@ Inv-loop row out₀ i₀ out i = (i ≤ length row) × (length out ≡ length ou
 abbrev μ-loop : tie.MeasureT-loop
 μ-loop row out₀ i₀ out i = length row - i
 
--- src/lib.rt:49:5
 loop-holds : tie.Need-loop-holds Inv-loop μ-loop
 loop-holds c = (omega arith, refl, refl)
 
--- src/lib.rt:50:18
 mul-out : tie.Need-mul-out Inv-loop μ-loop
 mul-out c = search needs
 
--- src/lib.rt:50:18
 shared-slice-read-out : tie.Need-shared-slice-read-out Inv-loop μ-loop
 shared-slice-read-out c = search needs
 
--- src/lib.rt:50:9
 mul-out-2 : tie.Need-mul-out-2 Inv-loop μ-loop
 mul-out-2 c = search needs
 
--- src/lib.rt:50:9
 slice-write-out : tie.Need-slice-write-out Inv-loop μ-loop
 slice-write-out c = search needs
 
--- src/lib.rt:51:9
 add-i : tie.Need-add-i Inv-loop μ-loop
 add-i c = search needs
 
--- src/lib.rt:49:5
 loop-less : tie.Need-loop-less Inv-loop μ-loop
 loop-less c = search needs
 
--- src/lib.rt:49:5
 loop-again : tie.Need-loop-again Inv-loop μ-loop
 loop-again c =
     let l = c .before .before .loop in
@@ -58,11 +49,9 @@ loop-again c =
           ∙ next-out row (a .out .now) (l .out) (l .i) (l .inv .2) (l .inv .0) (getD row (l .i) 0 ∷ []) (drop (l .i + 1) row) (drop-here row (l .i) h),
     )
 
--- src/lib.rt:44:1
 same-length : tie.Need-same-length Inv-loop μ-loop
 same-length c = search needs
 
--- src/lib.rt:44:1
 returns : tie.Need-returns Inv-loop μ-loop
 returns c =
     let l = c .before .loop in

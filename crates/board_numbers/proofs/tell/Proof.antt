@@ -1,47 +1,35 @@
-use native.Mathlib.Omega.{arith}
+-- `board_numbers::tell` meets its contract. Assumes nothing.
 use borrow.Author.Needs.{needs}
 use Rattle.board_numbers.proofs.tell.Statement.{statement}
 use Rattle.board_numbers.proofs.tell.Tie as tie
-use Rattle.board_numbers.proofs.tell.Reads as reads
-use Rattle.board_numbers.proofs.tell.Lts as lts
 
--- src/lib.rt:154:24
 enum-known-v : tie.Need-enum-known-v
 enum-known-v c = search needs
 
--- src/lib.rt:159:13
 enum-told : tie.Need-enum-told
 enum-told c = search needs
 
--- src/lib.rt:163:13
 enum-told-2 : tie.Need-enum-told-2
 enum-told-2 c = search needs
 
--- src/lib.rt:167:13
 enum-known-v-2 : tie.Need-enum-known-v-2
 enum-known-v-2 c = search needs
 
--- src/lib.rt:171:24
 cast-t9 : tie.Need-cast-t9
 cast-t9 c = search needs
 
--- src/lib.rt:171:39
 cast-t10 : tie.Need-cast-t10
 cast-t10 c = search needs
 
--- src/lib.rt:150:1
 returns : tie.Need-returns
 returns c = let e = c .before .before .v .given .1 in (rw e, rw e)
 
--- src/lib.rt:150:1
 returns-2 : tie.Need-returns-2
 returns-2 c = search needs
 
--- src/lib.rt:150:1
 returns-3 : tie.Need-returns-3
 returns-3 c = search needs
 
--- src/lib.rt:150:1
 returns-4 : tie.Need-returns-4
 returns-4 c = let e = c .before .before .v2 .given .1 in (rw e, rw e)
 

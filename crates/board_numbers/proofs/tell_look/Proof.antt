@@ -1,76 +1,60 @@
+-- `board_numbers::tell_look` meets its contract. Assumes nothing.
 use Prim.Native.Nat.{ℕ}
 use mathlib.Core.Path.{ap}
 use mathlib.Core.List.{List, [], _∷_, _++_}
 use Rattle.handed.proofs.Steps.{state-laid}
-use native.Mathlib.Omega.{arith}
 use borrow.Author.Needs.{needs}
 use Rattle.board_numbers.proofs.tell_look.Statement.{statement}
 use Rattle.board_numbers.proofs.tell_look.Tie as tie
-use Rattle.board_numbers.proofs.tell_look.Reads as reads
-use Rattle.board_numbers.proofs.tell_look.Lts as lts
-use Rattle.handed.proofs.state_numbers.Reads as state-numbers-reads
 
--- src/lib.rt:284:24
 enum-known-l : tie.Need-enum-known-l
 enum-known-l c = search needs
 
--- src/lib.rt:286:21
 state-numbers-requires : tie.Need-state-numbers-requires
 state-numbers-requires c κs = search needs
 
--- src/lib.rt:288:26
 array-read-t15 : tie.Need-array-read-t15
 array-read-t15 c = search needs
 
--- src/lib.rt:288:32
 array-read-t18 : tie.Need-array-read-t18
 array-read-t18 c = search needs
 
--- src/lib.rt:288:38
 array-read-t21 : tie.Need-array-read-t21
 array-read-t21 c = search needs
 
--- src/lib.rt:288:44
 array-read-t24 : tie.Need-array-read-t24
 array-read-t24 c = search needs
 
--- src/lib.rt:288:50
 array-read-t27 : tie.Need-array-read-t27
 array-read-t27 c = search needs
 
--- src/lib.rt:288:56
 array-read-t30 : tie.Need-array-read-t30
 array-read-t30 c = search needs
 
--- src/lib.rt:288:62
 array-read-t33 : tie.Need-array-read-t33
 array-read-t33 c = search needs
 
--- src/lib.rt:288:68
 array-read-t36 : tie.Need-array-read-t36
 array-read-t36 c = search needs
 
--- src/lib.rt:293:13
 enum-known-l-2 : tie.Need-enum-known-l-2
 enum-known-l-2 c = search needs
 
--- src/lib.rt:298:17
 cast-t39 : tie.Need-cast-t39
 cast-t39 c = search needs
 
--- src/lib.rt:299:17
 cast-t40 : tie.Need-cast-t40
 cast-t40 c = search needs
 
--- src/lib.rt:280:1
 returns : tie.Need-returns
 returns c =
-    let g = c .before .before .before .l .given in
-    let a = c .before .before .before .before .before .args in
-    let n = c .before .state-numbers in
-    (rw (g .1), rw (g .1) (ap (λ (ns : List ℕ). 0 ∷ (0 ∷ (0 ∷ (ns ++ (a .from ∷ a .long ∷ []))))) (state-laid (g .0 .0 .state) (n .result) (n .ensures))))
+    let n = c .before in
+    let k = n .before .before in
+    let g = k .l .given in
+    let a = k .before .before .args in
+    let laid = state-laid (g .0 .0 .state) (n .state-numbers .result) (n .state-numbers .ensures) in
+    (rw (g .1), rw (g .1) (ap (λ (ns : List ℕ). 0 ∷ (0 ∷ (0 ∷ (ns ++ (a .from ∷ a .long ∷ []))))) laid))
 
--- src/lib.rt:280:1
 returns-2 : tie.Need-returns-2
 returns-2 c = let e = c .before .before .l2 .given .1 in (rw e, rw e)
 
