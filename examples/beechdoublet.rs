@@ -11,6 +11,12 @@ pub const MOST: usize = 1800;
 /// A state as numbers: kind, departure known, departure, the aerodrome's four bytes, arrival.
 pub type Numbers = [u64; 8];
 
+/// A board's numbers: for each of 20 places whether a strip stands there, its state, and its length.
+pub type Places = [u64; 200];
+
+/// A board's strips: 1,800 bytes for each place.
+pub type Strips = [u8; 36000];
+
 extern "C" {
     fn beechdoublet_read(message: *const u8, length: usize, out: *mut u8, room: usize, answer: &mut [u64; 5]) -> u8;
     fn beechdoublet_update(
@@ -43,6 +49,26 @@ extern "C" {
     fn beechdoublet_sound(state: &Numbers) -> bool;
     fn beechdoublet_field(message: *const u8, length: usize, field: u64, answer: &mut [u64; 6]) -> u8;
     fn beechdoublet_plan(strip: *const u8, length: usize, answer: &mut [u64; 19]) -> u8;
+    fn beechdoublet_board_empty(places: &mut Places) -> u8;
+    fn beechdoublet_board_file(
+        places: &mut Places,
+        strips: &mut Strips,
+        firm: u64,
+        message: *const u8,
+        length: usize,
+        answer: &mut [u64; 4],
+    ) -> u8;
+    fn beechdoublet_board_update(
+        places: &mut Places,
+        strips: &mut Strips,
+        firm: u64,
+        slot: u64,
+        message: *const u8,
+        length: usize,
+        answer: &mut [u64; 4],
+    ) -> u8;
+    fn beechdoublet_board_clear(places: &mut Places, firm: u64, slot: u64, answer: &mut [u64; 4]) -> u8;
+    fn beechdoublet_board_look(places: &Places, strips: &Strips, firm: u64, slot: u64, answer: &mut [u64; 13]) -> u8;
 }
 
 /// Why a message was not taken: document 01's number, field and place.
@@ -214,6 +240,73 @@ pub fn plan(strip: &[u8]) -> Result<Plan<'_>, Refusal> {
         alternates: n[13..13 + n[12] as usize].iter().map(|&from| four(from)).collect(),
         date: (n[15] == 1).then_some((n[16], n[17], n[18])),
     })
+}
+
+/// A board of strips for two handlers. Slots 0 to 9 of firm 1 are places 0 to 9, those of firm 2 places 10 to 19. Whoever changes the numbers may leave
+/// some that are no board's: then every call is refused with 15.
+pub struct Board {
+    pub places: Places,
+    strips: Box<Strips>,
+}
+
+impl Board {
+    /// A board on which nothing stands.
+    pub fn empty() -> Board {
+        let mut places = [0; 200];
+        unsafe { beechdoublet_board_empty(&mut places) };
+        Board { places, strips: Box::new([0; 36000]) }
+    }
+
+    /// Files a message for a firm: the slot that it got.
+    pub fn file(&mut self, firm: u64, message: &[u8]) -> Result<u64, Refusal> {
+        let mut answer = [0; 4];
+        let number = unsafe {
+            beechdoublet_board_file(
+                &mut self.places,
+                &mut self.strips,
+                firm,
+                message.as_ptr(),
+                message.len(),
+                &mut answer,
+            )
+        };
+        let [_, field, place, slot] = answer;
+        refused(number, field, place)?;
+        Ok(slot)
+    }
+
+    /// Offers a message to the strip in a firm's slot.
+    pub fn update(&mut self, firm: u64, slot: u64, message: &[u8]) -> Result<(), Refusal> {
+        let mut answer = [0; 4];
+        let number = unsafe {
+            beechdoublet_board_update(
+                &mut self.places,
+                &mut self.strips,
+                firm,
+                slot,
+                message.as_ptr(),
+                message.len(),
+                &mut answer,
+            )
+        };
+        refused(number, answer[1], answer[2])
+    }
+
+    /// Clears a firm's slot, whose strip has arrived or was cancelled.
+    pub fn clear(&mut self, firm: u64, slot: u64) -> Result<(), Refusal> {
+        let mut answer = [0; 4];
+        let number = unsafe { beechdoublet_board_clear(&mut self.places, firm, slot, &mut answer) };
+        refused(number, answer[1], answer[2])
+    }
+
+    /// The state and the strip in a firm's slot.
+    pub fn look(&self, firm: u64, slot: u64) -> Result<(Numbers, &[u8]), Refusal> {
+        let mut answer = [0; 13];
+        let number = unsafe { beechdoublet_board_look(&self.places, &self.strips, firm, slot, &mut answer) };
+        let [_, field, place, a, b, c, d, e, f, g, h, from, length] = answer;
+        refused(number, field, place)?;
+        Ok(([a, b, c, d, e, f, g, h], &self.strips[from as usize..][..length as usize]))
+    }
 }
 
 /// Whether a strip may be handed in with these numbers.

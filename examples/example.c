@@ -1,6 +1,6 @@
 /*
  * Beechdoublet from C: reads messages, files a strip, keeps it up to date, says why it is not, asks for a field in force, shows fields and the parts of
- * plans, and what is not a call. Every line that it writes stands in examples/expected.txt, and of the last in examples/expected-c.txt.
+ * plans, keeps a board for two firms, and shows what is not a call. Every line that it writes stands in examples/expected.txt, and of the last in examples/expected-c.txt.
  */
 #include <inttypes.h>
 #include <stdio.h>
@@ -290,6 +290,137 @@ static void show_another_day(void)
     offer(&held, "(DEP-ABC12-EHAM0941-EDDF-DOF/240301)");
 }
 
+/* The strip in a firm's slot, copied out of the board; of no strip an empty one. */
+static strip looked_at(const beechdoublet_board *board, uint64_t firm, uint64_t slot)
+{
+    strip held = {{0}, 0, {0, 0, 0, {0, 0, 0, 0}, 0}};
+    beechdoublet_look look;
+    if (beechdoublet_board_look(board, firm, slot, &look) == 0) {
+        held.length = (size_t)look.length;
+        held.state = look.state;
+        memcpy(held.bytes, board->strips + look.from, held.length);
+    }
+    return held;
+}
+
+static void print_slot(const beechdoublet_board *board, uint64_t firm, uint64_t slot)
+{
+    const strip held = looked_at(board, firm, slot);
+    print_state(&held.state);
+    printf(" %.*s\n", (int)held.length, (const char *)held.bytes);
+}
+
+static void file_at(beechdoublet_board *board, uint64_t firm, const char *message)
+{
+    beechdoublet_turn turn;
+    if (beechdoublet_board_file(board, firm, bytes_of(message), strlen(message), &turn) != 0) {
+        tell_refusal(turn.number, turn.field, turn.place);
+        return;
+    }
+    printf("OK %" PRIu64 " ", turn.slot);
+    print_slot(board, firm, turn.slot);
+}
+
+static void update_at(beechdoublet_board *board, uint64_t firm, uint64_t slot, const char *message)
+{
+    const strip held = looked_at(board, firm, slot);
+    beechdoublet_turn turn;
+    if (beechdoublet_board_update(board, firm, slot, bytes_of(message), strlen(message), &turn) != 0) {
+        printf("NO %" PRIu64 " %" PRIu64 " %" PRIu64, turn.number, turn.field, turn.place);
+        print_cause(&held, message);
+        printf("\n");
+        return;
+    }
+    printf("OK ");
+    print_slot(board, firm, slot);
+}
+
+static void clear_at(beechdoublet_board *board, uint64_t firm, uint64_t slot)
+{
+    beechdoublet_turn turn;
+    if (beechdoublet_board_clear(board, firm, slot, &turn) != 0) {
+        tell_refusal(turn.number, turn.field, turn.place);
+        return;
+    }
+    printf("OK CLEARED\n");
+}
+
+static void look_at(const beechdoublet_board *board, uint64_t firm, uint64_t slot)
+{
+    beechdoublet_look look;
+    if (beechdoublet_board_look(board, firm, slot, &look) != 0) {
+        tell_refusal(look.number, look.field, look.place);
+        return;
+    }
+    printf("OK ");
+    print_slot(board, firm, slot);
+}
+
+/* Files a plan as often as there is room, and tells how often that was. */
+static void fill_up(beechdoublet_board *board, uint64_t firm)
+{
+    beechdoublet_turn turn;
+    int filed_now = 0;
+    while (beechdoublet_board_file(board, firm, bytes_of(PLAN), strlen(PLAN), &turn) == 0) {
+        filed_now++;
+    }
+    printf("FILED %d\n", filed_now);
+    tell_refusal(turn.number, turn.field, turn.place);
+}
+
+/* Two firms: what each may do with its own strips, and whom a number or a slot does not name. */
+static void show_two_firms(beechdoublet_board *board)
+{
+    file_at(board, 1, PLAN);
+    file_at(board, 2, "(FPL-KLM7-IS-B738/M-SDFG/S-EHAM0940-N0440F310 DCT PAM DCT-EDDF0100 EDDK-0)");
+    update_at(board, 1, 0, "(DLA-ABC12-EHAM1015-EDDF-0)");
+    update_at(board, 1, 0, CHANGE);
+    clear_at(board, 1, 0);
+    update_at(board, 1, 0, "(CNL-ABC12-EHAM1015-EDDF-0)");
+    clear_at(board, 1, 0);
+    look_at(board, 1, 0);
+    look_at(board, 2, 0);
+    update_at(board, 1, 10, CHANGE);
+    file_at(board, 3, PLAN);
+    file_at(board, 257, PLAN);
+    file_at(board, 1, CHANGE);
+}
+
+/* All sixteen rooms: the first firm takes its 6 and the 4; of the 4 one is free once it has cleared a strip. */
+static void show_full(beechdoublet_board *board)
+{
+    fill_up(board, 1);
+    fill_up(board, 2);
+    update_at(board, 1, 3, "(CNL-ABC12-EHAM0930-EDDF-0)");
+    clear_at(board, 1, 3);
+    file_at(board, 2, PLAN);
+    file_at(board, 1, PLAN);
+}
+
+/* Numbers that are no board's: a strip too long, a length where no strip stands. Of a firm that is none 18 comes first. */
+static void show_no_board(beechdoublet_board *board)
+{
+    const uint64_t length = board->places[5].length;
+    board->places[5].length = BEECHDOUBLET_MOST + 1;
+    file_at(board, 2, PLAN);
+    clear_at(board, 3, 0);
+    look_at(board, 2, 0);
+    board->places[5].length = length;
+    board->places[19].length = 1;
+    update_at(board, 2, 0, CHANGE);
+    board->places[19].length = 0;
+    look_at(board, 2, 0);
+}
+
+static void show_board(void)
+{
+    static beechdoublet_board board;
+    beechdoublet_board_empty(&board);
+    show_two_firms(&board);
+    show_full(&board);
+    show_no_board(&board);
+}
+
 /* Offers a message to a strip and lends the strip's own bytes as the output. That is not a call, and the strip stays as it was. */
 static void offer_in_place(strip *held, const char *message)
 {
@@ -337,6 +468,7 @@ int main(void)
     show_states(&held);
     show_flight(&held);
     show_another_day();
+    show_board();
     show_no_calls();
     return 0;
 }

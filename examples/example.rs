@@ -1,11 +1,11 @@
-//! Beechdoublet from Rust: reads messages, files a strip, keeps it up to date, says why it is not, asks for a field in force, and shows fields and the
-//! parts of plans.
+//! Beechdoublet from Rust: reads messages, files a strip, keeps it up to date, says why it is not, asks for a field in force, shows fields and the
+//! parts of plans, and keeps a board for two firms.
 //! Every line that it writes stands in examples/expected.txt.
 #![cfg_attr(emulated, no_main)]
 
 mod beechdoublet;
 
-use beechdoublet::{cause, field, in_force, is_sound, plan, read, update, Cause, Numbers, Part, Refusal, State, MOST};
+use beechdoublet::{cause, field, in_force, is_sound, plan, read, update, Board, Cause, Numbers, Part, Refusal, State, MOST};
 
 const TYPES: [&str; 10] = ["", "FPL", "CHG", "CNL", "DLA", "DEP", "ARR", "RQP", "RQS", "SPL"];
 const PLAN: &[u8] = b"(FPL-ABC12-IS-B738/M-SDFG/S-EHAM0930-N0440F310 DCT PAM DCT-EDDF0100 EDDK-0)";
@@ -213,6 +213,101 @@ fn show_another_day() {
     offer(&mut held, b"(DEP-ABC12-EHAM0941-EDDF-DOF/240301)");
 }
 
+/// The state and the strip in a firm's slot, or the refusal.
+fn slot_shown(board: &Board, firm: u64, slot: u64) -> String {
+    match board.look(firm, slot) {
+        Ok((state, strip)) => format!("OK {} {}", shown(&state), text(strip)),
+        Err(why) => refusal(why),
+    }
+}
+
+fn file_at(board: &mut Board, firm: u64, message: &[u8]) {
+    match board.file(firm, message) {
+        Ok(slot) => println!("{}", slot_shown(board, firm, slot).replacen("OK", &format!("OK {slot}"), 1)),
+        Err(why) => println!("{}", refusal(why)),
+    }
+}
+
+fn update_at(board: &mut Board, firm: u64, slot: u64, message: &[u8]) {
+    let found = board.look(firm, slot).map(|(state, strip)| why(cause(strip, &state, message)));
+    match board.update(firm, slot, message) {
+        Ok(()) => println!("{}", slot_shown(board, firm, slot)),
+        Err(refused) => println!("{}{}", refusal(refused), found.unwrap_or_default()),
+    }
+}
+
+fn clear_at(board: &mut Board, firm: u64, slot: u64) {
+    match board.clear(firm, slot) {
+        Ok(()) => println!("OK CLEARED"),
+        Err(why) => println!("{}", refusal(why)),
+    }
+}
+
+fn look_at(board: &Board, firm: u64, slot: u64) {
+    println!("{}", slot_shown(board, firm, slot));
+}
+
+/// Files a plan as often as there is room, and tells how often that was.
+fn fill_up(board: &mut Board, firm: u64) {
+    let mut filed_now = 0;
+    let full = loop {
+        match board.file(firm, PLAN) {
+            Ok(_) => filed_now += 1,
+            Err(why) => break why,
+        }
+    };
+    println!("FILED {filed_now}");
+    println!("{}", refusal(full));
+}
+
+/// Two firms: what each may do with its own strips, and whom a number or a slot does not name.
+fn show_two_firms(board: &mut Board) {
+    file_at(board, 1, PLAN);
+    file_at(board, 2, b"(FPL-KLM7-IS-B738/M-SDFG/S-EHAM0940-N0440F310 DCT PAM DCT-EDDF0100 EDDK-0)");
+    update_at(board, 1, 0, b"(DLA-ABC12-EHAM1015-EDDF-0)");
+    update_at(board, 1, 0, CHANGE);
+    clear_at(board, 1, 0);
+    update_at(board, 1, 0, b"(CNL-ABC12-EHAM1015-EDDF-0)");
+    clear_at(board, 1, 0);
+    look_at(board, 1, 0);
+    look_at(board, 2, 0);
+    update_at(board, 1, 10, CHANGE);
+    file_at(board, 3, PLAN);
+    file_at(board, 257, PLAN);
+    file_at(board, 1, CHANGE);
+}
+
+/// All sixteen rooms: the first firm takes its 6 and the 4; of the 4 one is free once it has cleared a strip.
+fn show_full(board: &mut Board) {
+    fill_up(board, 1);
+    fill_up(board, 2);
+    update_at(board, 1, 3, b"(CNL-ABC12-EHAM0930-EDDF-0)");
+    clear_at(board, 1, 3);
+    file_at(board, 2, PLAN);
+    file_at(board, 1, PLAN);
+}
+
+/// Numbers that are no board's: a strip too long, a length where no strip stands. Of a firm that is none 18 comes first.
+fn show_no_board(board: &mut Board) {
+    let length = board.places[59];
+    board.places[59] = MOST as u64 + 1;
+    file_at(board, 2, PLAN);
+    clear_at(board, 3, 0);
+    look_at(board, 2, 0);
+    board.places[59] = length;
+    board.places[199] = 1;
+    update_at(board, 2, 0, CHANGE);
+    board.places[199] = 0;
+    look_at(board, 2, 0);
+}
+
+fn show_board() {
+    let mut board = Board::empty();
+    show_two_firms(&mut board);
+    show_full(&mut board);
+    show_no_board(&mut board);
+}
+
 /// A filed strip: the spelling of an FPL.
 fn filed(plan: &[u8]) -> Option<Strip> {
     let mut out = [0; MOST];
@@ -229,6 +324,7 @@ fn run() {
     show_states(&held);
     show_flight(&mut held);
     show_another_day();
+    show_board();
 }
 
 #[cfg(not(emulated))]

@@ -9,7 +9,7 @@
 #include "beechdoublet.h"
 
 /* All that is lent is a part of this memory, named by its first byte; before each call every byte is BEFORE. */
-enum { SIZE = 1024, BEFORE = 165, NONE = SIZE };
+enum { SIZE = 40960, BEFORE = 165, NONE = SIZE };
 
 static union {
     uint8_t bytes[SIZE];
@@ -20,8 +20,8 @@ static union {
 enum expected { CALL, ANSWERED, SILENT };
 
 typedef struct {
-    size_t first, first_length; /* the strip; in reading, and for a field, the message */
-    size_t state;
+    size_t first, first_length; /* the strip; in reading, for a field and at a board, the message */
+    size_t state;               /* at a board, the board */
     size_t second, second_length; /* the message or the CHG */
     size_t out, out_length;
     size_t answer;
@@ -64,6 +64,28 @@ static uint8_t field_row(const row *r)
 static uint8_t plan_row(const row *r)
 {
     return beechdoublet_plan(at(r->first), r->first_length, (beechdoublet_plan_parts *)(void *)at(r->answer));
+}
+
+static uint8_t file_row(const row *r)
+{
+    return beechdoublet_board_file((beechdoublet_board *)(void *)at(r->state), 1, at(r->first), r->first_length,
+                                   (beechdoublet_turn *)(void *)at(r->answer));
+}
+
+static uint8_t board_update_row(const row *r)
+{
+    return beechdoublet_board_update((beechdoublet_board *)(void *)at(r->state), 1, 0, at(r->first), r->first_length,
+                                     (beechdoublet_turn *)(void *)at(r->answer));
+}
+
+static uint8_t clear_row(const row *r)
+{
+    return beechdoublet_board_clear((beechdoublet_board *)(void *)at(r->state), 1, 0, (beechdoublet_turn *)(void *)at(r->answer));
+}
+
+static uint8_t look_row(const row *r)
+{
+    return beechdoublet_board_look((const beechdoublet_board *)(void *)at(r->state), 1, 0, (beechdoublet_look *)(void *)at(r->answer));
 }
 
 /* Whether memory is as it was but for an answer of so many numbers, which is 255 and zeros; with 0 numbers, whether it is all as it was. */
@@ -205,6 +227,46 @@ static const row PLAN[] = {
     {551, 100, 0, 0, 0, 0, 0, 400, SILENT},
 };
 
+/* A board has 37,600 bytes, and the answer 32; filing and updating lend the same. */
+static const row ON_BOARD[] = {
+    {0, 100, 1024, 0, 0, 0, 0, 800, CALL},
+    {0, 1024, 1024, 0, 0, 0, 0, 38624, CALL}, /* the message just before the board, just behind it; the answer just behind it, just before it */
+    {38624, 100, 1024, 0, 0, 0, 0, 992, CALL},
+    {1100, 0, 1024, 0, 0, 0, 0, 800, CALL}, /* no byte of the message */
+    {NONE, 0, 1024, 0, 0, 0, 0, 800, ANSWERED},
+    {0, 100, NONE, 0, 0, 0, 0, 800, ANSWERED},
+    {0, 1025, 1024, 0, 0, 0, 0, 38624, ANSWERED}, /* the message ends in the board, lies in it, begins in it */
+    {20000, 100, 1024, 0, 0, 0, 0, 800, ANSWERED},
+    {38623, 100, 1024, 0, 0, 0, 0, 800, ANSWERED},
+    {0, 100, 1024, 0, 0, 0, 0, NONE, SILENT},
+    {0, 105, 1024, 0, 0, 0, 0, 104, SILENT}, /* the answer begins in the message, ends in the board, lies in it, begins in it */
+    {0, 100, 1024, 0, 0, 0, 0, 1000, SILENT},
+    {0, 100, 1024, 0, 0, 0, 0, 20000, SILENT},
+    {0, 100, 1024, 0, 0, 0, 0, 38616, SILENT},
+};
+
+/* The answer has 32 bytes. */
+static const row CLEAR[] = {
+    {0, 0, 1024, 0, 0, 0, 0, 800, CALL},
+    {0, 0, 1024, 0, 0, 0, 0, 992, CALL}, /* the answer just before the board, just behind it */
+    {0, 0, 1024, 0, 0, 0, 0, 38624, CALL},
+    {0, 0, NONE, 0, 0, 0, 0, 800, ANSWERED},
+    {0, 0, 1024, 0, 0, 0, 0, NONE, SILENT},
+    {0, 0, 1024, 0, 0, 0, 0, 1000, SILENT}, /* the answer ends in the board, begins in it */
+    {0, 0, 1024, 0, 0, 0, 0, 38616, SILENT},
+};
+
+/* The answer has 104 bytes. */
+static const row LOOK[] = {
+    {0, 0, 1024, 0, 0, 0, 0, 800, CALL},
+    {0, 0, 1024, 0, 0, 0, 0, 920, CALL}, /* the answer just before the board, just behind it */
+    {0, 0, 1024, 0, 0, 0, 0, 38624, CALL},
+    {0, 0, NONE, 0, 0, 0, 0, 800, ANSWERED},
+    {0, 0, 1024, 0, 0, 0, 0, NONE, SILENT},
+    {0, 0, 1024, 0, 0, 0, 0, 928, SILENT}, /* the answer ends in the board, begins in it */
+    {0, 0, 1024, 0, 0, 0, 0, 38616, SILENT},
+};
+
 #define COUNT(rows) (sizeof(rows) / sizeof(rows)[0])
 
 int main(void)
@@ -215,6 +277,14 @@ int main(void)
     wrong |= told("in force", in_force_row, IN_FORCE, COUNT(IN_FORCE), 6);
     wrong |= told("field", field_row, FIELD, COUNT(FIELD), 6);
     wrong |= told("plan", plan_row, PLAN, COUNT(PLAN), 19);
+    wrong |= told("board file", file_row, ON_BOARD, COUNT(ON_BOARD), 4);
+    wrong |= told("board update", board_update_row, ON_BOARD, COUNT(ON_BOARD), 4);
+    wrong |= told("board clear", clear_row, CLEAR, COUNT(CLEAR), 4);
+    wrong |= told("board look", look_row, LOOK, COUNT(LOOK), 13);
+    if (beechdoublet_board_empty(NULL) != BEECHDOUBLET_NOT_A_CALL) {
+        printf("board empty: a null pointer is a board\n");
+        wrong = 1;
+    }
     if (beechdoublet_sound(NULL)) {
         printf("sound: a null pointer is a state\n");
         wrong = 1;

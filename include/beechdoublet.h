@@ -1,6 +1,6 @@
 /*
- * Beechdoublet: reads air traffic messages, keeps a strip up to date and says why it is not, says where a field in force stands, and tells the parts of
- * a message.
+ * Beechdoublet: reads air traffic messages, keeps a strip up to date and says why it is not, says where a field in force stands, tells the parts of a
+ * message, and keeps one board of strips for two handlers.
  *
  * Link with target/staticlib/libbeechdoublet.a (x86-64 Linux; gcc or clang, C99 or C++11 and later). Each function of the library is proved to
  * give the answer that its contract names; docs/GUIDE.md says what is proved and what the caller has to see to. In short:
@@ -29,6 +29,10 @@ extern "C" {
 
 /* The most bytes of a message and of a strip: an output of this size always has room. Each call says below how much is enough otherwise. */
 #define BEECHDOUBLET_MOST 1800
+
+/* The places of a board, and a firm's slots: slot s of firm 1 is place s, of firm 2 place 10 + s. */
+#define BEECHDOUBLET_PLACES 20
+#define BEECHDOUBLET_SLOTS 10
 
 /* The types of messages. */
 #define BEECHDOUBLET_FPL 1
@@ -73,7 +77,7 @@ extern "C" {
 
 /*
  * Every answer begins with number, field and place. The number is 0 where the message was accepted (or the field was found), and then field and
- * place are 0 too; otherwise it says why not (1 to 17, document 01's numbers, or 255), and what follows the place is 0. The place of a 7 is that of
+ * place are 0 too; otherwise it says why not (1 to 17, document 01's numbers, 18 to 20 of a board, or 255), and what follows the place is 0. The place of a 7 is that of
  * the first byte, counted from 0, at which no field that fits could go on, or of the one just behind a field that stops too soon.
  */
 
@@ -154,6 +158,41 @@ typedef struct {
 } beechdoublet_shown;
 
 /*
+ * A board of strips for two handlers, which is the caller's: it is kept nowhere else, and a call that is accepted changes it. Begin with
+ * beechdoublet_board_empty. What stands on it is told by the places; the bytes of a strip stand in strips, from 1,800 times its place on, and what else
+ * lies there means nothing. Numbers that are no board's (1,801 for a length, anything but 0 where no strip stands, a state's that are no state's) are
+ * refused with 15.
+ */
+typedef struct {
+    uint64_t stands; /* 1 where a strip stands; 0 where none does, and then state and length are all 0 */
+    beechdoublet_state state;
+    uint64_t length; /* the bytes of the strip, at most BEECHDOUBLET_MOST */
+} beechdoublet_place;
+
+typedef struct {
+    beechdoublet_place places[BEECHDOUBLET_PLACES];
+    uint8_t strips[BEECHDOUBLET_PLACES * BEECHDOUBLET_MOST];
+} beechdoublet_board;
+
+/* The answer to a call on a board. */
+typedef struct {
+    uint64_t number;
+    uint64_t field;
+    uint64_t place;
+    uint64_t slot; /* the slot that a filing got; of other calls 0 */
+} beechdoublet_turn;
+
+/* What a look at a slot shows. */
+typedef struct {
+    uint64_t number;
+    uint64_t field;
+    uint64_t place;
+    beechdoublet_state state;
+    uint64_t from;   /* the strip's first byte in strips */
+    uint64_t length; /* the bytes of the strip */
+} beechdoublet_look;
+
+/*
  * Reads a message. As many bytes of out as the message has are always enough. Accepted: its spelling stands at the front of out, and the bytes behind
  * it are as they were. Refused (1 to 11): every byte of out is as it was. Gives the number back; 255, not a call, where a pointer is null or out or answer overlaps something else.
  */
@@ -211,6 +250,42 @@ static inline uint8_t beechdoublet_field(const uint8_t *message, size_t message_
 static inline uint8_t beechdoublet_plan(const uint8_t *strip, size_t strip_length,
                                         beechdoublet_plan_parts *answer) __asm__("beechdoublet_seen_plan");
 
+/* Makes a board on which nothing stands; the strips are left as they are. Gives 0 back; 255, not a call, with none, a null pointer. */
+static inline uint8_t beechdoublet_board_empty(beechdoublet_board *board) __asm__("beechdoublet_seen_board_empty");
+
+/*
+ * A firm, 1 or 2, files a message on a board. Accepted: its spelling stands in the firm's lowest empty slot, which the answer tells, as a filed strip.
+ * Refused: 18 where the firm is not 1 or 2, 15 where the numbers are no board's, 20 where the firm holds 6 strips or more and none of the 4 is free, 1 to
+ * 9, 14 where it is no FPL, 10; the board is as it was. Gives the number back; 255, not a call, where a pointer is null or board or answer overlaps
+ * something else.
+ */
+static inline uint8_t beechdoublet_board_file(beechdoublet_board *board, uint64_t firm, const uint8_t *message, size_t message_length,
+                                              beechdoublet_turn *answer) __asm__("beechdoublet_seen_board_file");
+
+/*
+ * A firm offers a message to the strip in one of its slots, 0 to 9. Accepted: strip and state are the new ones. Refused: 18, 15 where the numbers are no
+ * board's, 19 where nothing stands in the slot or it is none, and then as beechdoublet_update, 11 excepted; the board is as it was. Why: ask
+ * beechdoublet_cause with the strip and the state that a look shows. Gives the number back; 255, not a call, where a pointer is null or board or answer
+ * overlaps something else.
+ */
+static inline uint8_t beechdoublet_board_update(beechdoublet_board *board, uint64_t firm, uint64_t slot, const uint8_t *message,
+                                                size_t message_length, beechdoublet_turn *answer) __asm__("beechdoublet_seen_board_update");
+
+/*
+ * A firm clears one of its slots, whose strip has arrived or was cancelled. Accepted: nothing stands there any more; no byte of strips is changed.
+ * Refused: 18, 15 where the numbers are no board's, 19, 13 where the strip is filed or departed; the board is as it was. Gives the number back; 255, not
+ * a call, where a pointer is null or answer overlaps the board.
+ */
+static inline uint8_t beechdoublet_board_clear(beechdoublet_board *board, uint64_t firm, uint64_t slot,
+                                               beechdoublet_turn *answer) __asm__("beechdoublet_seen_board_clear");
+
+/*
+ * A firm looks at one of its slots: the state of the strip there, and where its bytes stand in strips. Refused: 18, 15 where the numbers are no board's,
+ * 19. Nothing but the answer is written. Gives the number back; 255, not a call, where a pointer is null or answer overlaps the board.
+ */
+static inline uint8_t beechdoublet_board_look(const beechdoublet_board *board, uint64_t firm, uint64_t slot,
+                                              beechdoublet_look *answer) __asm__("beechdoublet_seen_board_look");
+
 /*
  * The library's functions, which are what is proved. They look at no pointer: call those above. Since those have the library's names here, these
  * have others, and the linker knows those above by others too.
@@ -228,6 +303,15 @@ bool beechdoublet_proved_sound(const beechdoublet_state *state) __asm__("beechdo
 uint8_t beechdoublet_proved_field(const uint8_t *message, size_t message_length, uint64_t field,
                                   beechdoublet_part *answer) __asm__("beechdoublet_field");
 uint8_t beechdoublet_proved_plan(const uint8_t *strip, size_t strip_length, beechdoublet_plan_parts *answer) __asm__("beechdoublet_plan");
+uint8_t beechdoublet_proved_board_empty(beechdoublet_place *places) __asm__("beechdoublet_board_empty");
+uint8_t beechdoublet_proved_board_file(beechdoublet_place *places, uint8_t *strips, uint64_t firm, const uint8_t *message, size_t message_length,
+                                       beechdoublet_turn *answer) __asm__("beechdoublet_board_file");
+uint8_t beechdoublet_proved_board_update(beechdoublet_place *places, uint8_t *strips, uint64_t firm, uint64_t slot, const uint8_t *message,
+                                         size_t message_length, beechdoublet_turn *answer) __asm__("beechdoublet_board_update");
+uint8_t beechdoublet_proved_board_clear(beechdoublet_place *places, uint64_t firm, uint64_t slot,
+                                        beechdoublet_turn *answer) __asm__("beechdoublet_board_clear");
+uint8_t beechdoublet_proved_board_look(const beechdoublet_place *places, const uint8_t *strips, uint64_t firm, uint64_t slot,
+                                       beechdoublet_look *answer) __asm__("beechdoublet_board_look");
 
 /* Whether two parts of memory have a byte in common. */
 static inline bool beechdoublet_meet(const void *a, size_t a_length, const void *b, size_t b_length)
@@ -334,6 +418,70 @@ static inline uint8_t beechdoublet_plan(const uint8_t *strip, size_t strip_lengt
     return beechdoublet_proved_plan(strip, strip_length, answer);
 }
 
+static inline uint8_t beechdoublet_board_empty(beechdoublet_board *board)
+{
+    if (board == NULL) {
+        return BEECHDOUBLET_NOT_A_CALL;
+    }
+    return beechdoublet_proved_board_empty(board->places);
+}
+
+static inline uint8_t beechdoublet_board_file(beechdoublet_board *board, uint64_t firm, const uint8_t *message, size_t message_length,
+                                              beechdoublet_turn *answer)
+{
+    const beechdoublet_turn not_a_call = {BEECHDOUBLET_NOT_A_CALL, 0, 0, 0};
+    if (answer == NULL || beechdoublet_meet(answer, sizeof *answer, board, sizeof *board) ||
+        beechdoublet_meet(answer, sizeof *answer, message, message_length)) {
+        return BEECHDOUBLET_NOT_A_CALL;
+    }
+    if (board == NULL || message == NULL || beechdoublet_meet(board, sizeof *board, message, message_length)) {
+        *answer = not_a_call;
+        return BEECHDOUBLET_NOT_A_CALL;
+    }
+    return beechdoublet_proved_board_file(board->places, board->strips, firm, message, message_length, answer);
+}
+
+static inline uint8_t beechdoublet_board_update(beechdoublet_board *board, uint64_t firm, uint64_t slot, const uint8_t *message,
+                                                size_t message_length, beechdoublet_turn *answer)
+{
+    const beechdoublet_turn not_a_call = {BEECHDOUBLET_NOT_A_CALL, 0, 0, 0};
+    if (answer == NULL || beechdoublet_meet(answer, sizeof *answer, board, sizeof *board) ||
+        beechdoublet_meet(answer, sizeof *answer, message, message_length)) {
+        return BEECHDOUBLET_NOT_A_CALL;
+    }
+    if (board == NULL || message == NULL || beechdoublet_meet(board, sizeof *board, message, message_length)) {
+        *answer = not_a_call;
+        return BEECHDOUBLET_NOT_A_CALL;
+    }
+    return beechdoublet_proved_board_update(board->places, board->strips, firm, slot, message, message_length, answer);
+}
+
+static inline uint8_t beechdoublet_board_clear(beechdoublet_board *board, uint64_t firm, uint64_t slot, beechdoublet_turn *answer)
+{
+    const beechdoublet_turn not_a_call = {BEECHDOUBLET_NOT_A_CALL, 0, 0, 0};
+    if (answer == NULL || beechdoublet_meet(answer, sizeof *answer, board, sizeof *board)) {
+        return BEECHDOUBLET_NOT_A_CALL;
+    }
+    if (board == NULL) {
+        *answer = not_a_call;
+        return BEECHDOUBLET_NOT_A_CALL;
+    }
+    return beechdoublet_proved_board_clear(board->places, firm, slot, answer);
+}
+
+static inline uint8_t beechdoublet_board_look(const beechdoublet_board *board, uint64_t firm, uint64_t slot, beechdoublet_look *answer)
+{
+    const beechdoublet_look not_a_call = {BEECHDOUBLET_NOT_A_CALL, 0, 0, {0, 0, 0, {0, 0, 0, 0}, 0}, 0, 0};
+    if (answer == NULL || beechdoublet_meet(answer, sizeof *answer, board, sizeof *board)) {
+        return BEECHDOUBLET_NOT_A_CALL;
+    }
+    if (board == NULL) {
+        *answer = not_a_call;
+        return BEECHDOUBLET_NOT_A_CALL;
+    }
+    return beechdoublet_proved_board_look(board->places, board->strips, firm, slot, answer);
+}
+
 #ifdef __cplusplus
 }
 #endif
@@ -346,5 +494,8 @@ BEECHDOUBLET_IN_A_ROW(beechdoublet_part, 6);
 BEECHDOUBLET_IN_A_ROW(beechdoublet_state, 8);
 BEECHDOUBLET_IN_A_ROW(beechdoublet_shown, 9);
 BEECHDOUBLET_IN_A_ROW(beechdoublet_plan_parts, 19);
+BEECHDOUBLET_IN_A_ROW(beechdoublet_place, 10);
+BEECHDOUBLET_IN_A_ROW(beechdoublet_turn, 4);
+BEECHDOUBLET_IN_A_ROW(beechdoublet_look, 13);
 
 #endif

@@ -17,12 +17,12 @@ use Rattle.causes.specs.declared.Cause.{Cause}
 use Rattle.causes.specs.declared.Cause.the-variants.{NothingMore, Another, Missing, Forbidden}
 use Rattle.causes.specs.Causes.{causeOf, Agree}
 use Rattle.causes.proofs.Agreed.{agrees}
-use Rattle.beechdoublet.specs.declared.Handed.{Handed}
-use Rattle.beechdoublet.specs.declared.Handed.the-variants.{Held, NoState}
+use Rattle.handed.specs.declared.Handed.{Handed}
+use Rattle.handed.specs.declared.Handed.the-variants.{Held, NoState}
 use Rattle.beechdoublet.specs.Numbers.{updateNumber}
 use Rattle.beechdoublet.specs.Handed.{updateAs}
 use Rattle.beechdoublet.specs.Causes.{flag, setNumbers, keyNumber, causeNumber, causeNumbers, causeAs}
-use Rattle.beechdoublet.proofs.Laws.{state-one}
+use Rattle.handed.proofs.Laws.{state-one}
 
 -- NUMBERS LOSE NOTHING
 

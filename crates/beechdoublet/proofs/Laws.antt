@@ -1,16 +1,14 @@
 -- Numbers lose nothing: two answers or two states with the same numbers are the same, and a state comes back from its numbers. The number 0 is
 -- an acceptance's alone. Assumes nothing.
-use Prim.Native.Nat.{ℕ, zero, suc, _-_, _≤_, _<_}
-use mathlib.Core.Path.{_≡_, refl, sym, ap, ap₂, subst, subst⁻¹, _∙_}
+use Prim.Native.Nat.{ℕ, _-_, _≤_}
+use mathlib.Core.Path.{_≡_, refl, sym, ap, ap₂, subst, _∙_}
 use mathlib.Core.Bool.{Bool, true, false, _&&_, cond}
 use mathlib.Core.List.{List}
 use mathlib.Core.Option.{Option, none, some}
 use native.Mathlib.Omega.{arith}
 use lib.Dec.{eqb, ltb, leb}
 use lib.ListN.{length, drop, getD}
-use lib.Seq.{ext-getD}
-use borrow.Author.Tests.{eq-eqb, ne-eqb, eqb-true, eqb-false, lt-ltb, le-ltb, ltb-true, ltb-false, leb-true}
-use Rattle.shape.specs.declared.Clock.{Clock}
+use borrow.Author.Tests.{ne-eqb, lt-ltb, le-ltb, ltb-true, ltb-false, leb-true}
 use Rattle.kinds.specs.declared.MessageType.{MessageType}
 use Rattle.kinds.specs.declared.MessageType.the-variants.{Fpl}
 use Rattle.kinds.specs.declared.Role.the-variants.{Changes}
@@ -20,16 +18,12 @@ use Rattle.message.specs.declared.Answer.{Answer}
 use Rattle.message.specs.declared.Answer.the-variants.{Accepted as ReadAs, Refused as NotRead}
 use Rattle.message.specs.Reading.{isPlan, spellingOf, answerOf, outAfter}
 use Rattle.message.proofs.Answers.{refused-number}
-use Rattle.state.specs.declared.Departure.the-variants.{Known, Unknown}
 use Rattle.state.specs.declared.State.{State}
-use Rattle.state.specs.declared.State.the-variants.{Filed, Departed, Arrived, Cancelled}
-use Rattle.text.specs.Words.{all, holds, split, same}
+use Rattle.text.specs.Words.{holds, split, same}
 use Rattle.space.specs.Fields.{inner}
 use Rattle.outer.specs.Outer.{most}
-use Rattle.text.proofs.Tests.{both, same-eq}
-use Rattle.alphabet.specs.Alphabet.{letter}
-use Rattle.aerodromes.specs.Asked.{fourBytes}
-use Rattle.state.specs.State.{soundState, sound}
+use Rattle.text.proofs.Tests.{same-eq}
+use Rattle.state.specs.State.{sound}
 use Rattle.state.specs.declared.Strip.{Strip}
 use Rattle.strip.specs.declared.Updated.{Updated}
 use Rattle.strip.specs.declared.Updated.the-variants.{Accepted, Refused}
@@ -37,8 +31,7 @@ use Rattle.opening.specs.declared.Opening.the-variants.{Refused as NotOpened}
 use Rattle.opening.specs.Opening.{canonicalPlan, readAs, openingOf}
 use Rattle.strip.specs.Updating.{differences, differs, updateOf}
 use Rattle.force.specs.InForce.{namedBy, namedAt}
-use Rattle.history.specs.Demand3.{Cause, not-proper, not-read, not-fit, no-type, another-flight, not-allowed, unexplained, too-long, no-room}
-use Rattle.history.proofs.Causes.{Took, Verdict, verdict, refused-cause}
+use Rattle.history.proofs.Causes.{Took, Verdict, verdict}
 use Rattle.history.proofs.Demand3.{took-proper}
 use Rattle.asked.specs.declared.Asked.{Asked}
 use Rattle.asked.specs.declared.Asked.the-variants.{InStrip, InChange, Refused as NotShown}
@@ -51,11 +44,14 @@ use Rattle.parts.specs.declared.PlanParts.{PlanParts}
 use Rattle.parts.specs.declared.Planned.{Planned}
 use Rattle.parts.specs.declared.Planned.the-variants.{Parts, Refused as NoPlan}
 use Rattle.parts.specs.Parts.{takenAs, takenOf, spanAt, numbersIn, rankIn, fieldIn, fieldAs as numberedAs, fieldOf, planOf, plannedAs, plannedOf}
-use Rattle.beechdoublet.specs.declared.Handed.{Handed}
-use Rattle.beechdoublet.specs.declared.Handed.the-variants.{Held, NoState}
+use Rattle.handed.specs.declared.Handed.{Handed}
+use Rattle.handed.specs.declared.Handed.the-variants.{Held, NoState}
 use Rattle.beechdoublet.specs.Numbers.{typeNumber, readNumber, readNumbers, updateNumber, updateNumbers, askedNumber, askedNumbers, fieldTold, askedWhole}
 use Rattle.beechdoublet.specs.Numbers.{partNumber, partNumbers, partWhole, dateNumbers, partsNumbers, planNumber, planNumbers}
-use Rattle.beechdoublet.specs.Handed.{stateNumbers, minuteOf, byteOf, stateOf, agree, handedAs, updateAs, stateAs, askedAs}
+use Rattle.handed.specs.States.{byteOf, handedAs}
+use Rattle.handed.proofs.Laws.{state-one, handed-back}
+use Rattle.board_numbers.proofs.Zero.{refused-numbered}
+use Rattle.beechdoublet.specs.Handed.{updateAs, stateAs, askedAs}
 use Rattle.beechdoublet.specs.Laws.{wasRead, wasTaken, wasShown, Numbered, Told, wasGiven, Given, wasPlanned, NumberedPlan}
 
 -- THE TYPES
@@ -93,106 +89,7 @@ read-zero m room = go (answerOf m room) refl
     go (ReadAs t n) e = refl
     go (NotRead number field place) e = ne-eqb number 0 (λ z. absurd (omega (arith, refused-number m room number field place e .0)))
 
--- THE STATE
-
-abbrev stateBack : List ℕ → State
-stateBack ns =
-    cond (eqb (getD ns 0 0) 1) (Departed (record { 0 = getD ns 2 0 }))
-    (cond (eqb (getD ns 0 0) 2)
-    (Arrived (cond (eqb (getD ns 1 0) 0) Unknown (Known (record { 0 = getD ns 2 0 })))
-    (record { 0 = getD ns 3 0; 1 = getD ns 4 0; 2 = getD ns 5 0; 3 = getD ns 6 0 }) (record { 0 = getD ns 7 0 }))
-    (cond (eqb (getD ns 0 0) 3) Cancelled Filed))
-
-state-back : (s : State) → stateBack (stateNumbers s) ≡ s
-state-back Filed = refl
-state-back (Departed t) = refl
-state-back (Arrived (Known d) a t) = refl
-state-back (Arrived Unknown a t) = refl
-state-back Cancelled = refl
-
-pub state-one : (s t : State) → stateNumbers s ≡ stateNumbers t → s ≡ t
-state-one s t e = sym (state-back s) ∙ ap stateBack e ∙ state-back t
-
-state-long : (s : State) → length (stateNumbers s) ≡ 8
-state-long Filed = refl
-state-long (Departed t) = refl
-state-long (Arrived (Known d) a t) = refl
-state-long (Arrived Unknown a t) = refl
-state-long Cancelled = refl
-
--- A STATE COMES BACK from its numbers, if it is sound
-
-minute-kept : (t : Clock) → leb (t .0) 1439 ≡ true → minuteOf (t .0) ≡ t
-minute-kept t e = rw (lt-ltb (t .0) 65536 (omega (arith, leb-true (t .0) 1439 e)))
-
-letter-kept : (b : ℕ) → letter b ≡ true → byteOf b ≡ b
-letter-kept b e = rw (lt-ltb b 256 (omega (arith, leb-true b 90 (both (leb 65 b) (leb b 90) e .1))))
-
-same-agree : (k : ℕ) (xs : List ℕ) → agree k xs xs ≡ true
-same-agree zero xs = refl
-same-agree (suc k) xs = rw (same-agree k xs, eq-eqb (getD xs k 0) (getD xs k 0) refl)
-
-agree-at : (k : ℕ) (xs ys : List ℕ) → agree k xs ys ≡ true → (i : ℕ) → i < k → getD xs i 0 ≡ getD ys i 0
-agree-at zero xs ys h i l = absurd (omega arith)
-agree-at (suc k) xs ys h i l = go (λ p. agree-at k xs ys (b .0) i p) (eqb i k) refl
-  where
-    b : (agree k xs ys ≡ true) × (eqb (getD xs k 0) (getD ys k 0) ≡ true)
-    b = both (agree k xs ys) (eqb (getD xs k 0) (getD ys k 0)) h
-
-    go : (i < k → getD xs i 0 ≡ getD ys i 0) → (c : Bool) → eqb i k ≡ c → getD xs i 0 ≡ getD ys i 0
-    go ih true e = subst⁻¹ (λ j. getD xs j 0 ≡ getD ys j 0) (eqb-true i k e) (eqb-true (getD xs k 0) (getD ys k 0) (b .1))
-    go ih false e = ih (omega (arith, eqb-false i k e))
-
-state-meant : (s : State) → soundState s ≡ true → stateOf (stateNumbers s) ≡ s
-state-meant Filed h = refl
-state-meant (Departed t) h = ap Departed (minute-kept t h)
-state-meant (Arrived (Known d) a t) h =
-    let p = both (leb (d .0) 1439) _ h in
-    let q = both (all letter (fourBytes a)) _ (p .1) in
-    let r = both (letter (a .0)) _ (q .0) in
-    let u = both (letter (a .1)) _ (r .1) in
-    let v = both (letter (a .2)) _ (u .1) in
-    let w = both (letter (a .3)) _ (v .1) in
-    rw (minute-kept d (p .0), minute-kept t (q .1), letter-kept (a .0) (r .0), letter-kept (a .1) (u .0), letter-kept (a .2) (v .0), letter-kept (a .3) (w .0))
-state-meant (Arrived Unknown a t) h =
-    let q = both (all letter (fourBytes a)) _ h in
-    let r = both (letter (a .0)) _ (q .0) in
-    let u = both (letter (a .1)) _ (r .1) in
-    let v = both (letter (a .2)) _ (u .1) in
-    let w = both (letter (a .3)) _ (v .1) in
-    rw (minute-kept t (q .1), letter-kept (a .0) (r .0), letter-kept (a .1) (u .0), letter-kept (a .2) (v .0), letter-kept (a .3) (w .0))
-state-meant Cancelled h = refl
-
-pub handed-back : (held : Strip) → sound held ≡ true → handedAs (stateNumbers (held .state)) ≡ Held held
-unfolding handedAs
-handed-back held h = rw (state-meant (held .state) h, same-agree 8 (stateNumbers (held .state)))
-
--- and only from its numbers: eight numbers that are taken for a state are that state's own
-pub handed-only : (ns : List ℕ) → length ns ≡ 8 → (held : Strip) → handedAs ns ≡ Held held → stateNumbers (held .state) ≡ ns
-unfolding handedAs
-handed-only ns long held e = go (agree 8 (stateNumbers (stateOf ns)) ns) refl e
-  where
-    go : (b : Bool) → agree 8 (stateNumbers (stateOf ns)) ns ≡ b → cond b (Held (record { state = stateOf ns })) NoState ≡ Held held
-        → stateNumbers (held .state) ≡ ns
-    go true a q =
-        let h : record { state = stateOf ns } ≡ held = cc in
-        ap (λ (x : Strip). stateNumbers (x .state)) (sym h)
-        ∙ ext-getD 0 (stateNumbers (stateOf ns)) ns (state-long (stateOf ns) ∙ sym long)
-        (λ i l. agree-at 8 (stateNumbers (stateOf ns)) ns a i (omega (arith, state-long (stateOf ns))))
-    go false a q = let z : _≡_ {A = ℕ} 0 1 = cc in absurd (omega arith)
-
 -- AN UPDATE
-
-caused : (strip : List ℕ) (s : Strip) (m : List ℕ) (room number field place : ℕ) → Cause strip s m room number field place → 1 ≤ number
-caused strip s m room number field place (not-proper h) = omega arith
-caused strip s m room number field place (not-read p q l) = refused-number m 1800 number field place q .0
-caused strip s m room number field place (not-fit p q) = omega arith
-caused strip s m room number field place (no-type p q e) = omega arith
-caused strip s m room number field place (another-flight p q e h) = omega arith
-caused strip s m room number field place (not-allowed p q e h a) = omega arith
-caused strip s m room number field place (unexplained k u) = omega arith
-caused strip s m room number field place (too-long k u l) = omega arith
-caused strip s m room number field place (no-room k u l h) = omega arith
 
 -- a refusal has a number
 pub update-numbered : (h : Handed) (strip m : List ℕ) (room : ℕ) → Numbered (updateAs h strip m room)
@@ -201,8 +98,7 @@ update-numbered (Held held) strip m room = go (updateOf strip held m room) refl
   where
     go : (u : Updated) → updateOf strip held m room ≡ u → Numbered u
     go (Accepted next n) e = tt
-    go (Refused number field place) e =
-        caused strip held m room number field place (refused-cause strip held m room number field place e)
+    go (Refused number field place) e = refused-numbered strip held m room number field place e
 
 -- 0 is given back exactly where the message is accepted
 pub update-zero : (h : Handed) (strip m : List ℕ) (room : ℕ) → eqb (updateNumber (updateAs h strip m room)) 0 ≡ wasTaken (updateAs h strip m room)

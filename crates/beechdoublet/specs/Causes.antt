@@ -15,9 +15,9 @@ use Rattle.causes.specs.declared.Key.the-variants.{Typ, Dep, Dest, Altn}
 use Rattle.causes.specs.declared.Cause.{Cause}
 use Rattle.causes.specs.declared.Cause.the-variants.{NothingMore, Another, Missing, Forbidden}
 use Rattle.causes.specs.Causes.{causeOf}
-use Rattle.beechdoublet.specs.declared.Handed.{Handed}
-use Rattle.beechdoublet.specs.declared.Handed.the-variants.{Held, NoState}
-use Rattle.beechdoublet.specs.Handed.{stateNumbers}
+use Rattle.handed.specs.declared.Handed.{Handed}
+use Rattle.handed.specs.declared.Handed.the-variants.{Held, NoState}
+use Rattle.handed.specs.States.{stateNumbers}
 
 abbrev pub flag : Bool → ℕ
 flag b = cond b 1 0

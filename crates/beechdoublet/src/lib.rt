@@ -9,31 +9,25 @@ ghost use Rattle.parts.specs.Shown.{Shows as ShowsField, ShowsPlan};
 ghost use Rattle.beechdoublet.specs.Numbers.{typeNumber, readNumber, readNumbers, updateNumber, updateNumbers};
 ghost use Rattle.beechdoublet.specs.Numbers.{askedNumber, askedNumbers, fieldTold, askedWhole};
 ghost use Rattle.beechdoublet.specs.Numbers.{partNumber, partNumbers, partWhole, dateNumbers, planNumber, planNumbers, partsNumbers};
-ghost use Rattle.beechdoublet.specs.Handed.{arrivedNumbers, stateNumbers, kept, departureOf, stateOf, agree};
-ghost use Rattle.beechdoublet.specs.Handed.{byteOf, handedAs, soundAs, updateAs, outAs, stateAs, askedAs, contentAsked};
+ghost use Rattle.handed.specs.States.{stateNumbers, byteOf, handedAs, soundAs};
+ghost use Rattle.board.specs.Turns.{filing, updating};
+ghost use Rattle.board_numbers.specs.Numbers.{nothing};
+ghost use Rattle.board_numbers.specs.Calls.{Called, Clears, Looks};
+ghost use Rattle.beechdoublet.specs.Handed.{updateAs, outAs, stateAs, askedAs, contentAsked};
 ghost use Rattle.beechdoublet.specs.Causes.{flag, setNumbers, keyNumber, causeNumber, causeNumbers, causeAs};
-use aerodromes::Aerodrome;
 use asked::Asked;
 use causes::Cause;
 use causes::Key;
 use dates::FlightDate;
+use handed::Handed;
 use kinds::MessageType;
 use message::Answer;
 use parts::Part;
 use parts::PlanParts;
 use parts::Planned;
-use shape::Clock;
-use state::Departure;
 use state::State;
-use state::Strip;
 use strip::Differences;
 use strip::Updated;
-
-// What a caller's numbers are: a strip's state, or none.
-pub enum Handed {
-    Held(Strip),
-    NoState,
-}
 
 fn type_number(t: MessageType) -> u64
     ensures { λ r. ⌜ r ≡ typeNumber t ⌝ }
@@ -71,115 +65,6 @@ fn tell_read(a: Answer, answer: &mut [u64; 5]) -> u8
     }
 }
 
-// The numbers of an arrived flight.
-fn arrived_numbers(d: Departure, a: Aerodrome, t: Clock) -> [u64; 8]
-    ensures { λ r. ⌜ r ≡ arrivedNumbers d a t ⌝ }
-{
-    match d {
-        Departure::Known(off) => [
-            2,
-            1,
-            off.0 as u64,
-            a.0 as u64,
-            a.1 as u64,
-            a.2 as u64,
-            a.3 as u64,
-            t.0 as u64,
-        ],
-        Departure::Unknown => [
-            2,
-            0,
-            0,
-            a.0 as u64,
-            a.1 as u64,
-            a.2 as u64,
-            a.3 as u64,
-            t.0 as u64,
-        ],
-    }
-}
-
-// The numbers of a state.
-fn state_numbers(s: State) -> [u64; 8]
-    ensures { λ r. ⌜ r ≡ stateNumbers s ⌝ }
-{
-    match s {
-        State::Filed => [0, 0, 0, 0, 0, 0, 0, 0],
-        State::Departed(t) => [1, 1, t.0 as u64, 0, 0, 0, 0, 0],
-        State::Arrived(d, a, t) => arrived_numbers(d, a, t),
-        State::Cancelled => [3, 0, 0, 0, 0, 0, 0, 0],
-    }
-}
-
-// A number of at most 65,535; any other becomes 0.
-fn minute_of(n: u64) -> u16
-    ensures { λ r. ⌜ r ≡ kept 65536 n ⌝ }
-{
-    if n < 65536 { n as u16 } else { 0 }
-}
-
-// A number of at most 255; any other becomes 0.
-fn byte_of(n: u64) -> u8
-    ensures { λ r. ⌜ r ≡ kept 256 n ⌝ }
-{
-    if n < 256 { n as u8 } else { 0 }
-}
-
-fn departure_of(known: u64, minute: u64) -> Departure
-    ensures { λ r. ⌜ r ≡ departureOf known minute ⌝ }
-{
-    if known == 0 {
-        return Departure::Unknown;
-    }
-    Departure::Known(Clock(minute_of(minute)))
-}
-
-// The state that numbers mean, if they are those of a state.
-fn state_of(n: &[u64; 8]) -> State
-    ensures { λ r. ⌜ r ≡ stateOf (now (n .entry)) ⌝ }
-{
-    let kind = n[0];
-    if kind == 1 {
-        return State::Departed(Clock(minute_of(n[2])));
-    }
-    if kind == 2 {
-        return State::Arrived(
-            departure_of(n[1], n[2]),
-            Aerodrome(byte_of(n[3]), byte_of(n[4]), byte_of(n[5]), byte_of(n[6])),
-            Clock(minute_of(n[7])),
-        );
-    }
-    if kind == 3 {
-        return State::Cancelled;
-    }
-    State::Filed
-}
-
-fn same_numbers(a: &[u64; 8], b: &[u64; 8]) -> bool
-    ensures { λ r. ⌜ r ≡ agree 8 (now (a .entry)) (now (b .entry)) ⌝ }
-{
-    let mut i = 0;
-    while i < 8 {
-        if a[i] != b[i] {
-            return false;
-        }
-        i += 1;
-    }
-    true
-}
-
-// The state that a caller hands in; numbers that are not those of a state are none.
-fn hand_in(n: &[u64; 8]) -> Handed
-    ensures { λ r. ⌜ r ≡ handedAs (now (n .entry)) ⌝ }
-{
-    let state = state_of(n);
-    let again = state_numbers(state);
-    if !same_numbers(&again, n) {
-        return Handed::NoState;
-    }
-    Handed::Held(Strip { state })
-}
-
 // Offers a message to a strip that is handed in; 15 where the numbers are no state.
 fn updated(strip: &[u8], h: Handed, msg: &[u8], out: &mut [u8]) -> Updated
     ensures { λ r. ⌜ (r ≡ updateAs h (now (strip .entry)) (now (msg .entry)) (length (now (out .entry))))
@@ -202,7 +87,7 @@ fn tell_update(u: Updated, state: &mut [u64; 8], answer: &mut [u64; 4]) -> u8
     match u {
         Updated::Accepted(next, n) => {
             let s = next.state;
-            *state = state_numbers(s);
+            *state = handed::state_numbers(s);
             *answer = [0, 0, 0, n as u64];
             0
         }
@@ -223,7 +108,7 @@ fn asked_of(strip: &[u8], h: Handed, chg: &[u8], number: u64) -> Asked
         × Shows r (now (strip .entry)) (now (chg .entry)) (contentAsked (now (strip .entry)) (now (chg .entry)) number) ⌝ }
 {
     match h {
-        Handed::Held(held) => asked::ask(strip, held, chg, byte_of(number)),
+        Handed::Held(held) => asked::ask(strip, held, chg, handed::byte_of(number)),
         Handed::NoState => Asked::Refused {
             number: 15,
             field: 0,
@@ -382,7 +267,7 @@ pub extern "C" fn beechdoublet_update(
         ≡ stateAs (updateAs (handedAs (now (state .entry))) (now (strip .entry)) (now (msg .entry)) (length (now (out .entry)))) (now (state .entry)))
         × (now (out .exit) ≡ outAs (handedAs (now (state .entry))) (now (strip .entry)) (now (msg .entry)) (now (out .entry))) ⌝ }
 {
-    let h = hand_in(state);
+    let h = handed::hand_in(state);
     tell_update(updated(strip, h, msg, out), state, answer)
 }
 
@@ -391,7 +276,7 @@ pub extern "C" fn beechdoublet_update(
 pub extern "C" fn beechdoublet_sound(state: &[u64; 8]) -> bool
     ensures { λ r. ⌜ r ≡ soundAs (handedAs (now (state .entry))) ⌝ }
 {
-    match hand_in(state) {
+    match handed::hand_in(state) {
         Handed::Held(held) => held.is_sound(),
         Handed::NoState => false,
     }
@@ -411,7 +296,11 @@ pub extern "C" fn beechdoublet_in_force(
         × Shows (askedAs (handedAs (now (state .entry))) (now (strip .entry)) (now (chg .entry)) number) (now (strip .entry)) (now (chg .entry))
         (contentAsked (now (strip .entry)) (now (chg .entry)) number) ⌝ }
 {
-    tell_asked(asked_of(strip, hand_in(state), chg, number), number, answer)
+    tell_asked(
+        asked_of(strip, handed::hand_in(state), chg, number),
+        number,
+        answer,
+    )
 }
 
 // Says where a message's field stands, as `parts::field_of` does. The answer is laid out as that of a field in force, with the source 1.
@@ -421,7 +310,11 @@ pub extern "C" fn beechdoublet_field(msg: &[u8], number: u64, answer: &mut [u64;
         × (now (answer .exit) ≡ partNumbers (partWhole number (fieldOf (now (msg .entry)) (byteOf number))))
         × ShowsField (fieldOf (now (msg .entry)) (byteOf number)) (now (msg .entry)) (contentNumbered (now (msg .entry)) (byteOf number)) ⌝ }
 {
-    tell_part(parts::field_of(msg, byte_of(number)), number, answer)
+    tell_part(
+        parts::field_of(msg, handed::byte_of(number)),
+        number,
+        answer,
+    )
 }
 
 // Tells the parts of a plan, as `parts::plan_parts` does. The answer is number, field, place and the parts; the number is also given back.
@@ -481,7 +374,7 @@ fn key_number(k: Key) -> u64
 fn found_numbers(s: State) -> [u64; 9]
     ensures { λ r. ⌜ r ≡ 13 ∷ stateNumbers s ⌝ }
 {
-    let n = state_numbers(s);
+    let n = handed::state_numbers(s);
     [13, n[0], n[1], n[2], n[3], n[4], n[5], n[6], n[7]]
 }
 
@@ -520,5 +413,72 @@ pub extern "C" fn beechdoublet_cause(
     ensures { λ r. ⌜ (r ≡ causeNumber (causeAs (handedAs (now (state .entry))) (now (strip .entry)) (now (msg .entry))))
         × (now (cause .exit) ≡ causeNumbers (causeAs (handedAs (now (state .entry))) (now (strip .entry)) (now (msg .entry)))) ⌝ }
 {
-    tell_cause(cause_as(strip, hand_in(state), msg), cause)
+    tell_cause(cause_as(strip, handed::hand_in(state), msg), cause)
+}
+
+// Makes a board on which nothing stands, whatever the numbers were. Gives 0 back.
+#[no_mangle]
+pub extern "C" fn beechdoublet_board_empty(places: &mut [u64; 200]) -> u8
+    ensures { λ r. ⌜ (r ≡ 0) × (now (places .exit) ≡ nothing) ⌝ }
+{
+    board_numbers::empty(places);
+    0
+}
+
+// A firm files a message on a board, as `board::file` does. The answer is number, field, place and slot; the number is also given back.
+#[no_mangle]
+pub extern "C" fn beechdoublet_board_file(
+    places: &mut [u64; 200],
+    strips: &mut [u8; 36000],
+    firm: u64,
+    msg: &[u8],
+    answer: &mut [u64; 4],
+) -> u8
+    ensures { λ r. ⌜ Called (filing firm (now (msg .entry))) (now (places .entry)) (now (strips .entry)) r (now (answer .exit)) (now (places .exit))
+        (now (strips .exit)) ⌝ }
+{
+    board_numbers::file(places, strips, firm, msg, answer)
+}
+
+// A firm offers a message to the strip in one of its slots, as `board::update` does. The answer is number, field, place and 0.
+#[no_mangle]
+pub extern "C" fn beechdoublet_board_update(
+    places: &mut [u64; 200],
+    strips: &mut [u8; 36000],
+    firm: u64,
+    slot: u64,
+    msg: &[u8],
+    answer: &mut [u64; 4],
+) -> u8
+    ensures { λ r. ⌜ Called (updating firm slot (now (msg .entry))) (now (places .entry)) (now (strips .entry)) r (now (answer .exit)) (now (places .exit))
+        (now (strips .exit)) ⌝ }
+{
+    board_numbers::update(places, strips, firm, slot, msg, answer)
+}
+
+// A firm clears one of its slots, as `board::clear` does. The answer is number, field, place and 0.
+#[no_mangle]
+pub extern "C" fn beechdoublet_board_clear(
+    places: &mut [u64; 200],
+    firm: u64,
+    slot: u64,
+    answer: &mut [u64; 4],
+) -> u8
+    ensures { λ r. ⌜ Clears firm slot (now (places .entry)) r (now (answer .exit)) (now (places .exit)) ⌝ }
+{
+    board_numbers::clear(places, firm, slot, answer)
+}
+
+// A firm looks at one of its slots, as `board::look` does. The answer is number, field, place, the state, and where the strip begins and its length.
+#[no_mangle]
+pub extern "C" fn beechdoublet_board_look(
+    places: &[u64; 200],
+    strips: &[u8; 36000],
+    firm: u64,
+    slot: u64,
+    answer: &mut [u64; 13],
+) -> u8
+    ensures { λ r. ⌜ Looks firm slot (now (places .entry)) (now (strips .entry)) r (now (answer .exit)) ⌝ }
+{
+    board_numbers::look(places, strips, firm, slot, answer)
 }

@@ -1,5 +1,4 @@
 -- ONE BOARD FOR TWO HANDLERS: all that was asked of it holds. Assumes nothing.
-use Rattle.board.specs.House.{house}
 use Rattle.board.proofs.Runs.{faithful}
 use Rattle.board.proofs.Demands.{board-meets, each-strip, handlers-apart}
 use Rattle.board.proofs.Never.{filing-never, updating-never}

@@ -215,7 +215,8 @@ line-one m out r q after left t u = (
 pub puts-one : (f : Firm) (slot : ℕ) (s : Standing) (ps : List Place) (bytes : List ℕ)
     → Determines (Board × List ℕ) (λ r. PutsIn f slot s ps bytes (r .0 .places) (r .1))
 puts-one f slot s ps bytes x y p q =
-    ap₂ (λ (places : List Place) (after : List ℕ). (record { places = places }, after)) (p .places-are ∙ sym (q .places-are)) (p .bytes-are ∙ sym (q .bytes-are))
+    ap₂ (λ (places : List Place) (after : List ℕ). (record { places = places }, after)) (p .places-are ∙ sym (q .places-are))
+    (p .bytes-are ∙ sym (q .bytes-are))
 
 -- `board::file` and `board::update`
 pub turn-one : (c : Call (List ℕ)) (ps : List Place) (bytes : List ℕ) → Determines (Turn × List ℕ) (λ r. Turned c ps bytes (r .0) (r .1))

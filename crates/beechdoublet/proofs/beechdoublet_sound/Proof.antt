@@ -1,6 +1,6 @@
 -- `beechdoublet::beechdoublet_sound` meets its contract. Assumes nothing.
 use mathlib.Core.Path.{sym, ap, _∙_}
-use Rattle.beechdoublet.specs.Handed.{soundAs}
+use Rattle.handed.specs.States.{soundAs}
 use borrow.Author.Needs.{needs}
 use Rattle.beechdoublet.proofs.beechdoublet_sound.Statement.{statement}
 use Rattle.beechdoublet.proofs.beechdoublet_sound.Tie as tie

@@ -3,7 +3,7 @@ use mathlib.Core.List.{List}
 -- `beechdoublet::found_numbers` meets its contract. Assumes nothing.
 use mathlib.Core.Path.{ap}
 use mathlib.Core.List.{_∷_}
-use Rattle.beechdoublet.proofs.Steps.{state-laid}
+use Rattle.handed.proofs.Steps.{state-laid}
 use borrow.Author.Needs.{needs}
 use Rattle.beechdoublet.proofs.found_numbers.Statement.{statement}
 use Rattle.beechdoublet.proofs.found_numbers.Tie as tie
