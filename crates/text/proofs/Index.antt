@@ -11,7 +11,7 @@ use lib.ListN.{length, take, drop, getD, drop-of-length-le, length-drop}
 use lib.Seq.{drop-cons, drop-drop, take-all}
 use lib.Arith.{lt-of-le-ne}
 use borrow.Author.Tests.{eq-eqb, ne-eqb, lt-ltb, le-ltb, le-leb, lt-leb}
-use Rattle.text.specs.Words.{Word, split, onto, after, upTo, holds, before, behind, all, null, same, rankFrom, firstCells, cells}
+use Rattle.text.specs.Words.{Word, split, onto, after, upTo, holds, before, behind, leading, all, null, same, rankFrom, firstCells, cells}
 use Rattle.text.specs.Places.{Stepped}
 
 pub drop-here : (s : List ℕ) (i : ℕ) → i < length s → drop i s ≡ getD s i 0 ∷ drop (i + 1) s
@@ -53,6 +53,17 @@ all-next p s i h e = rw (drop-here s i h, e)
 
 pub all-end : (p : ℕ → Bool) (s : List ℕ) (i : ℕ) → length s ≤ i → all p (drop i s) ≡ true
 all-end p s i h = rw (drop-end s i h)
+
+-- THE BYTES AT THE FRONT THAT PASS A TEST
+
+pub leading-here : (p : ℕ → Bool) (s : List ℕ) (i : ℕ) → i < length s → p (getD s i 0) ≡ false → leading p (drop i s) ≡ 0
+leading-here p s i h e = rw (drop-here s i h, e)
+
+pub leading-next : (p : ℕ → Bool) (s : List ℕ) (i : ℕ) → i < length s → p (getD s i 0) ≡ true → leading p (drop i s) ≡ suc (leading p (drop (i + 1) s))
+leading-next p s i h e = rw (drop-here s i h, e)
+
+pub leading-end : (p : ℕ → Bool) (s : List ℕ) (i : ℕ) → length s ≤ i → leading p (drop i s) ≡ 0
+leading-end p s i h = rw (drop-end s i h)
 
 -- EQUAL BYTES
 

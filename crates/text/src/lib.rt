@@ -2,7 +2,7 @@
 ghost use mathlib.Core.Path.{_≡_};
 ghost use Prim.Native.Nat.{ℕ, _+_, _≤_, _<_};
 ghost use lib.ListN.{length, drop, getD};
-ghost use Rattle.text.specs.Words.{split, upTo, before, all, textWord, same, elem, rank, cells};
+ghost use Rattle.text.specs.Words.{split, upTo, before, leading, all, textWord, same, elem, rank, cells};
 ghost use Rattle.text.specs.Kinds.{ofKind};
 ghost use Rattle.text.specs.Places.{Stepped};
 ghost use Rattle.text.specs.Lent.{front};
@@ -54,6 +54,22 @@ pub fn all_of(k: Kind, w: &[u8]) -> bool
         i += 1;
     }
     true
+}
+
+// Where the bytes of a kind end that begin at `from`: the place of the first that is none, or the length.
+pub fn end_of(k: Kind, s: &[u8], from: usize) -> usize
+    requires { ⌜ from ≤ length (now s) ⌝ }
+    ensures { λ r. ⌜ r ≡ from + leading (ofKind k) (drop from (now (s .entry))) ⌝ }
+    ensures { λ r. ⌜ (from ≤ r) × (r ≤ length (now (s .entry))) ⌝ }
+{
+    let mut i = from;
+    while i < s.len() {
+        if !is_kind(k, s[i]) {
+            return i;
+        }
+        i += 1;
+    }
+    i
 }
 
 // Whether w is a text word.
