@@ -66,7 +66,7 @@ pub stands-behind : (m : List ℕ) (i last x : ℕ) (r : Bool) → last ≡ x �
 stands-behind m i last x r e t = sym (t ∙ rw (e, rest m i))
 
 -- before white space no byte stands for a run
-not-before-white : (m : List ℕ) (a : Bool) (i : ℕ) → i < length m → white (getD m i 0) ≡ true → standsForRun a (drop i m) ≡ false
+pub not-before-white : (m : List ℕ) (a : Bool) (i : ℕ) → i < length m → white (getD m i 0) ≡ true → standsForRun a (drop i m) ≡ false
 unfolding standsForRun
 not-before-white m a i h w = rw (drop-here m i h, w)
 

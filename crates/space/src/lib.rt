@@ -3,7 +3,9 @@ ghost use mathlib.Core.Path.{_≡_};
 ghost use Prim.Native.Nat.{ℕ, _+_, _-_, _≤_, _<_};
 ghost use lib.ListN.{length, drop, getD};
 ghost use Rattle.text.specs.Lent.{front};
+ghost use Rattle.text.specs.Words.{same};
 ghost use Rattle.space.specs.Reduced.{opens, closes, standsForRun, reduced};
+ghost use Rattle.space.specs.Stays.{stays, allStay};
 ghost use Rattle.space.specs.Places.{countsAt, sentFrom, sentPlace};
 ghost use mathlib.Core.Bool.{false};
 ghost use Rattle.space.specs.Hyphens.{hyphens, placeOfHyphen};
@@ -75,6 +77,40 @@ pub fn reduce(msg: &[u8], buf: &mut [u8]) -> usize
         }
     }
     n
+}
+
+// Whether the reduction leaves b as it is, by the byte before it and by what is behind it.
+fn byte_stays(last: u8, b: u8, behind: &[u8]) -> bool
+    ensures { λ r. ⌜ r ≡ stays last b (now (behind .entry)) ⌝ }
+{
+    if b == b' ' {
+        return stands_for_run(behind, last);
+    }
+    !alphabet::is_white(b)
+}
+
+// Whether it leaves each byte of s as it is, by the byte ahead of s.
+fn all_stay(ahead: u8, s: &[u8]) -> bool
+    ensures { λ r. ⌜ r ≡ allStay ahead (now (s .entry)) ⌝ }
+{
+    let mut last = ahead;
+    let mut i = 0;
+    while i < s.len() {
+        let b = s[i];
+        i += 1;
+        if !byte_stays(last, b, &s[i..]) {
+            return false;
+        }
+        last = b;
+    }
+    true
+}
+
+// Whether a message is its own reduction.
+pub fn is_reduced(msg: &[u8]) -> bool
+    ensures { λ r. ⌜ r ≡ same (reduced (now (msg .entry))) (now (msg .entry)) ⌝ }
+{
+    all_stay(0, msg)
 }
 
 pub fn count_hyphens(msg: &[u8]) -> usize
