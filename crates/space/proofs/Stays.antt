@@ -1,18 +1,19 @@
 -- A message is its own reduction exactly where each of its bytes stays as it is. Assumes nothing.
-use Prim.Native.Nat.{ℕ, _+_, _-_, _<_, _≤_}
-use mathlib.Core.Path.{_≡_, refl, sym, _∙_}
-use mathlib.Core.Bool.{Bool, true, false, cond, not, false≢true}
+use Prim.Native.Nat.{ℕ, zero, suc, _+_, _-_, _<_, _≤_}
+use mathlib.Core.Path.{_≡_, refl, sym, ap, _∙_}
+use mathlib.Core.Bool.{Bool, true, false, cond, not, _&&_, _||_, and-assoc, and-true, or-true, false≢true}
 use mathlib.Core.List.{List, [], _∷_}
 use native.Mathlib.Omega.{arith}
-use lib.Dec.{eqb}
-use lib.ListN.{length, take, drop, getD}
-use borrow.Author.Tests.{eq-eqb, ne-eqb, eqb-true, eqb-false}
+use lib.Dec.{ltb, eqb}
+use lib.ListN.{length, take, drop, getD, length-drop}
+use lib.Seq.{drop-drop, getD-drop}
+use borrow.Author.Tests.{eq-eqb, ne-eqb, eqb-true, eqb-false, ltb-true, not-true}
 use Rattle.alphabet.specs.Alphabet.{white}
 use Rattle.text.specs.Words.{same}
-use Rattle.text.proofs.Tests.{and-false, same-lengths}
+use Rattle.text.proofs.Tests.{both, and-false, same-lengths}
 use Rattle.text.proofs.Index.{drop-here, drop-end, rest}
-use Rattle.space.specs.Reduced.{opens, standsForRun, reducedFrom, reduced}
-use Rattle.space.specs.Stays.{stays, allStay}
+use Rattle.space.specs.Reduced.{opens, closes, standsForRun, reducedFrom, reduced}
+use Rattle.space.specs.Stays.{stays, allStay, regular, allRegular}
 use Rattle.space.proofs.Bytes.{space-white}
 use Rattle.space.proofs.Index.{not-before-white}
 use Rattle.space.proofs.Reduced.{shorter}
@@ -81,3 +82,76 @@ module _ (m : List ℕ) (p i : ℕ) where
   pub stay-end : length m ≤ i → allStay p (drop i m) ≡ true
   unfolding allStay
   stay-end h = rw (drop-end m i h)
+
+-- REGULAR BYTES
+
+regular-tests : (x y a b : Bool) → (((x && y) && not a) && not b) ≡ (x && (y && not (cond a true (cond b true false))))
+regular-tests true true true b = refl
+regular-tests true true false true = refl
+regular-tests true true false false = refl
+regular-tests true false a b = refl
+regular-tests false y a b = refl
+
+-- as the code tests it
+pub regular-is : (b c : ℕ) → (ltb 32 b || (((eqb b 32 && ltb 32 c) && not (eqb c 45)) && not (eqb c 41))) ≡ regular b c
+unfolding closes
+regular-is b c = ap (λ (t : Bool). ltb 32 b || t) (regular-tests (eqb b 32) (ltb 32 c) (eqb c 45) (eqb c 41))
+
+short-regular : (s : List ℕ) → length s ≤ 1 → allRegular s ≡ true
+unfolding allRegular
+short-regular [] h = refl
+short-regular (b ∷ []) h = refl
+short-regular (b ∷ (c ∷ s)) h = absurd (omega arith)
+
+module _ (s : List ℕ) (i : ℕ) (fine : Bool) where
+  pub regular-next : (r : Bool) → 0 < i → i < length s → r ≡ regular (getD s (i - 1) 0) (getD s i 0)
+      → (fine && r) && allRegular (drop (i + 1 - 1) s) ≡ fine && allRegular (drop (i - 1) s)
+  unfolding allRegular
+  regular-next r z h e =
+      let k : i - 1 + 1 ≡ i = omega arith in
+      let n : i + 1 - 1 ≡ i = omega arith in
+      let l : i - 1 < length s = omega arith in
+      rw (e, n, drop-here s (i - 1) l, k, drop-here s i h) (and-assoc fine _ _)
+
+  pub regular-end : 0 < i → length s ≤ i → fine ≡ fine && allRegular (drop (i - 1) s)
+  regular-end z h = rw (short-regular (drop (i - 1) s) (rw length-drop (omega arith))) (sym (and-true fine))
+
+-- a byte above the space in the code is no white space
+solid-over : (b : ℕ) → 32 < b → white b ≡ false
+unfolding white
+solid-over b h = rw (ne-eqb b 32 (λ e. omega arith), ne-eqb b 13 (λ e. omega arith), ne-eqb b 10 (λ e. omega arith))
+
+regular-stays : (p b c : ℕ) (s : List ℕ) → regular b c ≡ true → stays p b (c ∷ s) ≡ true
+unfolding standsForRun
+regular-stays p b c s e = go (ltb 32 b) refl e
+  where
+    go : (t : Bool) → ltb 32 b ≡ t → (t || (eqb b 32 && (ltb 32 c && not (closes c)))) ≡ true → stays p b (c ∷ s) ≡ true
+    go true q e = rw (solid-over b (ltb-true 32 b q))
+    go false q e =
+        let h = both (eqb b 32) (ltb 32 c && not (closes c)) e in
+        let k = both (ltb 32 c) (not (closes c)) (h .1) in
+        rw (eqb-true b 32 (h .0), space-white, solid-over c (ltb-true 32 c (k .0)), not-true (closes c) (k .1)) (or-true (opens p))
+
+-- regular bytes stay
+pub block-stays : (n p : ℕ) (m : List ℕ) → n < length m → allRegular (take (suc n) m) ≡ true → allStay p m ≡ allStay (getD (p ∷ m) n 0) (drop n m)
+unfolding allStay allRegular
+block-stays zero p m h e = refl
+block-stays (suc n) p [] h e = absurd (omega arith)
+block-stays (suc n) p (b ∷ []) h e = absurd (omega arith)
+block-stays (suc n) p (b ∷ (c ∷ s)) h e =
+    let t = both (regular b c) (allRegular (c ∷ take n s)) e in
+    rw (regular-stays p b c s (t .0)) (block-stays n b (c ∷ s) (omega arith) (t .1))
+
+-- WALKING BY BLOCKS of 16 bytes
+
+module _ (m : List ℕ) (p i : ℕ) where
+  pub stay-block : 16 < length m - i → allRegular (take (i + 16 + 1 - i) (drop i m)) ≡ true
+      → allStay p (drop i m) ≡ allStay (getD m (i + 16 - 1) 0) (drop (i + 16) m)
+  stay-block h e =
+      let n : i + 16 + 1 - i ≡ 17 = omega arith in
+      let k : i + 16 - 1 ≡ i + 15 = omega arith in
+      let l : 16 < length (drop i m) = rw length-drop h in
+      rw (k, ← getD-drop i m 15 0, ← drop-drop 16 i m) (block-stays 16 p (drop i m) l (rw n at e))
+
+  pub stay-rest : (r : Bool) → r ≡ allStay p (take (length m - i) (drop i m)) → allStay p (drop i m) ≡ allStay 0 m → r ≡ same (reduced m) m
+  stay-rest r e q = e ∙ rw (rest m i) (q ∙ sym (own-reduction m))

@@ -1,9 +1,9 @@
 -- Which bytes the reduction leaves as they are. Assumes nothing.
 use Prim.Native.Nat.{ℕ}
 use mathlib.Core.Path.{_≡_, refl}
-use mathlib.Core.Bool.{Bool, true, false, cond, _&&_}
+use mathlib.Core.Bool.{Bool, true, false, cond, not, _&&_, _||_}
 use mathlib.Core.List.{List, [], _∷_}
-use lib.Dec.{eqb}
+use lib.Dec.{ltb, eqb}
 use Rattle.alphabet.specs.Text.{bytes}
 use Rattle.alphabet.specs.Alphabet.{white}
 use Rattle.space.specs.Reduced.{opens, closes, standsForRun}
@@ -17,6 +17,17 @@ unfoldable pub allStay : ℕ → List ℕ → Bool
 allStay p [] = true
 allStay p (b ∷ bs) = stays p b bs && allStay b bs
 
+-- whether a byte b just before c stays as it is whatever stands before it: it is above the space in the code, or it is a space and c is above it
+-- and closes nothing
+abbrev pub regular : ℕ → ℕ → Bool
+regular b c = ltb 32 b || (eqb b 32 && (ltb 32 c && not (closes c)))
+
+-- whether each byte but the last does
+unfoldable pub allRegular : List ℕ → Bool
+allRegular [] = true
+allRegular (b ∷ []) = true
+allRegular (b ∷ (c ∷ s)) = regular b c && allRegular (c ∷ s)
+
 -- EXAMPLES, computed
 
 stay : (allStay 0 (bytes "(A B- C- -D)") ≡ true) × (allStay 45 (bytes " -") ≡ true) × (allStay 0 (bytes "A ") ≡ true) × (allStay 0 (bytes "") ≡ true)
@@ -26,3 +37,7 @@ stay = (refl, refl, refl, refl)
 stay-not : (allStay 0 (bytes "A -B") ≡ false) × (allStay 0 (bytes "A  B") ≡ false) × (allStay 0 (bytes "A\nB") ≡ false) × (allStay 0 (bytes "A )") ≡ false)
 unfolding allStay standsForRun opens closes white
 stay-not = (refl, refl, refl, refl)
+
+regular-bytes : (allRegular (bytes "(A B- CD)") ≡ true) × (allRegular (bytes "- -") ≡ false) × (allRegular (bytes "A\nB") ≡ false)
+unfolding allRegular closes
+regular-bytes = (refl, refl, refl)

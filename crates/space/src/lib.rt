@@ -5,7 +5,7 @@ ghost use lib.ListN.{length, drop, getD};
 ghost use Rattle.text.specs.Lent.{front};
 ghost use Rattle.text.specs.Words.{same};
 ghost use Rattle.space.specs.Reduced.{opens, closes, standsForRun, reduced};
-ghost use Rattle.space.specs.Stays.{stays, allStay};
+ghost use Rattle.space.specs.Stays.{stays, allStay, regular, allRegular};
 ghost use Rattle.space.specs.Places.{countsAt, sentFrom, sentPlace};
 ghost use mathlib.Core.Bool.{false};
 ghost use Rattle.space.specs.Hyphens.{hyphens, placeOfHyphen};
@@ -106,11 +106,41 @@ fn all_stay(ahead: u8, s: &[u8]) -> bool
     true
 }
 
-// Whether a message is its own reduction.
+// Whether b just before c is left as it is whatever stands before it. No branch: it is worked out for 16 bytes at a time.
+fn is_regular(b: u8, c: u8) -> bool
+    ensures { λ r. ⌜ r ≡ regular b c ⌝ }
+{
+    (b > b' ') | ((b == b' ') & (c > b' ') & (c != b'-') & (c != b')'))
+}
+
+// Whether each byte but the last is.
+fn all_regular(s: &[u8]) -> bool
+    ensures { λ r. ⌜ r ≡ allRegular (now (s .entry)) ⌝ }
+{
+    let mut fine = true;
+    let mut i = 1;
+    while i < s.len() {
+        fine = fine & is_regular(s[i - 1], s[i]);
+        i += 1;
+    }
+    fine
+}
+
+// Whether a message is its own reduction: block by block, as long as that tells, and then byte by byte.
 pub fn is_reduced(msg: &[u8]) -> bool
     ensures { λ r. ⌜ r ≡ same (reduced (now (msg .entry))) (now (msg .entry)) ⌝ }
 {
-    all_stay(0, msg)
+    let mut last = 0;
+    let mut i = 0;
+    while 16 < msg.len() - i {
+        let e = i + 16;
+        if !all_regular(&msg[i..e + 1]) {
+            return all_stay(last, &msg[i..]);
+        }
+        last = msg[e - 1];
+        i = e;
+    }
+    all_stay(last, &msg[i..])
 }
 
 pub fn count_hyphens(msg: &[u8]) -> usize
