@@ -212,7 +212,7 @@ impl Cursor {
         ensures { λ r. ⌜ (self .at ≤ r) × (r ≤ length (now (s .entry))) ⌝ }
     {
         let at = self.at;
-        find(s, at, c)
+        find_far(s, at, c)
     }
 
     // Over the piece and the c that ends it.

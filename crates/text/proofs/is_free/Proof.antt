@@ -7,7 +7,6 @@ use Rattle.text.specs.Words.{free}
 use Rattle.text.proofs.Index.{gather-next, gather-end}
 -- `text::is_free` meets its contract. Assumes nothing.
 use borrow.Author.Needs.{needs}
-use native.Mathlib.Omega.{arith}
 use Rattle.text.proofs.is_free.Statement.{statement}
 use Rattle.text.proofs.is_free.Tie as tie
 
