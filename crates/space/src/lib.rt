@@ -143,19 +143,35 @@ pub fn is_reduced(msg: &[u8]) -> bool
     all_stay(last, &msg[i..])
 }
 
-pub fn count_hyphens(msg: &[u8]) -> usize
-    ensures { λ r. ⌜ r ≡ hyphens (now (msg .entry)) ⌝ }
+// How many of at most 255 bytes are hyphens. Counted in a byte, many at a time.
+fn few_hyphens(s: &[u8]) -> u8
+    requires { ⌜ length (now s) ≤ 255 ⌝ }
+    ensures { λ r. ⌜ r ≡ hyphens (now (s .entry)) ⌝ }
 {
     let mut n = 0;
     let mut i = 0;
-    while i < msg.len() {
-        let b = msg[i];
+    while i < s.len() {
+        let b = s[i];
         i += 1;
         if b == b'-' {
             n += 1;
         }
     }
     n
+}
+
+// In parts of 224 bytes, seven times 32.
+pub fn count_hyphens(msg: &[u8]) -> usize
+    ensures { λ r. ⌜ r ≡ hyphens (now (msg .entry)) ⌝ }
+{
+    let mut n = 0;
+    let mut i = 0;
+    while 224 < msg.len() - i {
+        let e = i + 224;
+        n += few_hyphens(&msg[i..e]) as usize;
+        i = e;
+    }
+    n + few_hyphens(&msg[i..]) as usize
 }
 
 // The place of the j-th hyphen, counted from 1; 0 for 0, the length where there are fewer.
