@@ -1,13 +1,14 @@
 -- A message is its own reduction exactly where each of its bytes stays as it is. Assumes nothing.
 use Prim.Native.Nat.{ℕ, zero, suc, _+_, _-_, _<_, _≤_}
-use mathlib.Core.Path.{_≡_, refl, sym, ap, _∙_}
+use mathlib.Core.Path.{_≡_, refl, sym, _∙_}
 use mathlib.Core.Bool.{Bool, true, false, cond, not, _&&_, _||_, and-assoc, and-true, or-true, false≢true}
 use mathlib.Core.List.{List, [], _∷_}
 use native.Mathlib.Omega.{arith}
-use lib.Dec.{ltb, eqb}
+use lib.Dec.{ltb, leb, eqb}
+use lib.Arith.{lt-of-le-ne}
 use lib.ListN.{length, take, drop, getD, length-drop}
 use lib.Seq.{drop-drop, getD-drop}
-use borrow.Author.Tests.{eq-eqb, ne-eqb, eqb-true, eqb-false, ltb-true, not-true}
+use borrow.Author.Tests.{eq-eqb, ne-eqb, eqb-true, eqb-false, ltb-false, leb-false, not-true}
 use Rattle.alphabet.specs.Alphabet.{white}
 use Rattle.text.specs.Words.{same}
 use Rattle.text.proofs.Tests.{both, and-false, same-lengths}
@@ -85,17 +86,16 @@ module _ (m : List ℕ) (p i : ℕ) where
 
 -- REGULAR BYTES
 
-regular-tests : (x y a b : Bool) → (((x && y) && not a) && not b) ≡ (x && (y && not (cond a true (cond b true false))))
-regular-tests true true true b = refl
-regular-tests true true false true = refl
-regular-tests true true false false = refl
-regular-tests true false a b = refl
-regular-tests false y a b = refl
+either-of-two : (x a b : Bool) → ((x || a) || b) ≡ (x || cond a true (cond b true false))
+either-of-two true a b = refl
+either-of-two false true b = refl
+either-of-two false false true = refl
+either-of-two false false false = refl
 
 -- as the code tests it
-pub regular-is : (b c : ℕ) → (ltb 32 b || (((eqb b 32 && ltb 32 c) && not (eqb c 45)) && not (eqb c 41))) ≡ regular b c
+pub regular-is : (b c : ℕ) → not (ltb b 32 || (eqb b 32 && ((leb c 32 || eqb c 45) || eqb c 41))) ≡ regular b c
 unfolding closes
-regular-is b c = ap (λ (t : Bool). ltb 32 b || t) (regular-tests (eqb b 32) (ltb 32 c) (eqb c 45) (eqb c 41))
+regular-is b c = rw (either-of-two (leb c 32) (eqb c 45) (eqb c 41))
 
 short-regular : (s : List ℕ) → length s ≤ 1 → allRegular s ≡ true
 unfolding allRegular
@@ -121,16 +121,25 @@ solid-over : (b : ℕ) → 32 < b → white b ≡ false
 unfolding white
 solid-over b h = rw (ne-eqb b 32 (λ e. omega arith), ne-eqb b 13 (λ e. omega arith), ne-eqb b 10 (λ e. omega arith))
 
+neither : (x y : Bool) → (x || y) ≡ false → (x ≡ false) × (y ≡ false)
+neither true y e = absurd (false≢true (sym e))
+neither false y e = (refl, e)
+
 regular-stays : (p b c : ℕ) (s : List ℕ) → regular b c ≡ true → stays p b (c ∷ s) ≡ true
 unfolding standsForRun
-regular-stays p b c s e = go (ltb 32 b) refl e
+regular-stays p b c s e = go (eqb b 32) refl (h .1)
   where
-    go : (t : Bool) → ltb 32 b ≡ t → (t || (eqb b 32 && (ltb 32 c && not (closes c)))) ≡ true → stays p b (c ∷ s) ≡ true
-    go true q e = rw (solid-over b (ltb-true 32 b q))
-    go false q e =
-        let h = both (eqb b 32) (ltb 32 c && not (closes c)) e in
-        let k = both (ltb 32 c) (not (closes c)) (h .1) in
-        rw (eqb-true b 32 (h .0), space-white, solid-over c (ltb-true 32 c (k .0)), not-true (closes c) (k .1)) (or-true (opens p))
+    h : (ltb b 32 ≡ false) × ((eqb b 32 && (leb c 32 || closes c)) ≡ false)
+    h = neither (ltb b 32) (eqb b 32 && (leb c 32 || closes c)) (not-true _ e)
+
+    go : (t : Bool) → eqb b 32 ≡ t → (t && (leb c 32 || closes c)) ≡ false → stays p b (c ∷ s) ≡ true
+    go true q d =
+        let k = neither (leb c 32) (closes c) d in
+        rw (eqb-true b 32 q, space-white, solid-over c (leb-false c 32 (k .0)), k .1) (or-true (opens p))
+    go false q d =
+        let l : 32 ≤ b = ltb-false b 32 (h .0) in
+        let n = eqb-false b 32 q in
+        rw (solid-over b (lt-of-le-ne l (λ z. n (sym z))))
 
 -- regular bytes stay
 pub block-stays : (n p : ℕ) (m : List ℕ) → n < length m → allRegular (take (suc n) m) ≡ true → allStay p m ≡ allStay (getD (p ∷ m) n 0) (drop n m)

@@ -3,7 +3,7 @@ use Prim.Native.Nat.{ℕ}
 use mathlib.Core.Path.{_≡_, refl}
 use mathlib.Core.Bool.{Bool, true, false, cond, not, _&&_, _||_}
 use mathlib.Core.List.{List, [], _∷_}
-use lib.Dec.{ltb, eqb}
+use lib.Dec.{ltb, leb, eqb}
 use Rattle.alphabet.specs.Text.{bytes}
 use Rattle.alphabet.specs.Alphabet.{white}
 use Rattle.space.specs.Reduced.{opens, closes, standsForRun}
@@ -17,12 +17,12 @@ unfoldable pub allStay : ℕ → List ℕ → Bool
 allStay p [] = true
 allStay p (b ∷ bs) = stays p b bs && allStay b bs
 
--- whether a byte b just before c stays as it is whatever stands before it: it is above the space in the code, or it is a space and c is above it
--- and closes nothing
+-- whether a byte b just before c is sure to stay as it is, whatever stands before it: it is not below the space in the code, nor a space before
+-- a byte that closes or is not above the space
 abbrev pub regular : ℕ → ℕ → Bool
-regular b c = ltb 32 b || (eqb b 32 && (ltb 32 c && not (closes c)))
+regular b c = not (ltb b 32 || (eqb b 32 && (leb c 32 || closes c)))
 
--- whether each byte but the last does
+-- whether each byte but the last is
 unfoldable pub allRegular : List ℕ → Bool
 allRegular [] = true
 allRegular (b ∷ []) = true

@@ -106,11 +106,12 @@ fn all_stay(ahead: u8, s: &[u8]) -> bool
     true
 }
 
-// Whether b just before c is left as it is whatever stands before it. No branch: it is worked out for 16 bytes at a time.
+// Whether b just before c is sure to be left as it is, whatever stands before it. No branch: it is worked out for 16 bytes at a time.
 fn is_regular(b: u8, c: u8) -> bool
     ensures { λ r. ⌜ r ≡ regular b c ⌝ }
 {
-    (b > b' ') | ((b == b' ') & (c > b' ') & (c != b'-') & (c != b')'))
+    let ends = (c <= b' ') | (c == b'-') | (c == b')');
+    !((b < b' ') | ((b == b' ') & ends))
 }
 
 // Whether each byte but the last is.
