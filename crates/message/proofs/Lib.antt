@@ -3,6 +3,7 @@ pub mod Faults
 pub mod Written
 pub mod Reached
 pub mod Walk
+pub mod Ends
 pub mod Writing
 pub mod Nth
 pub mod Steps

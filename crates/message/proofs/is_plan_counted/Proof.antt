@@ -121,7 +121,7 @@ part-is-plan-text-end : tie.Need-part-is-plan-text-end
 part-is-plan-text-end c = omega (arith, two (hyphened (many c)))
 
 is-plan-text-requires : tie.Need-is-plan-text-requires
-is-plan-text-requires c κs = text-counted (c .before) .even
+is-plan-text-requires c κs = (planned (hyphened (many (c .before))), text-counted (c .before) .even)
 
 returns-5 : tie.Need-returns-5
 returns-5 c = let e = c .before .before in

@@ -5,7 +5,7 @@ use mathlib.Core.List.{List, []}
 use lib.ListN.{length}
 use Rattle.text.proofs.Tests.{same-eq}
 use Rattle.space.specs.Reduced.{reduced}
-use Rattle.message.proofs.Steps.{counted, two-bytes, text-itself}
+use Rattle.message.proofs.Steps.{counted, few-fields, two-bytes, text-itself}
 use native.Mathlib.Omega.{arith}
 use borrow.Author.Needs.{needs}
 use Rattle.message.proofs.read_reduced.Statement.{statement}
@@ -44,7 +44,8 @@ read-text-requires : tie.Need-read-text-requires
 read-text-requires c κs =
     let d = c .before .before in
     let s = start d in
-    counted (msg d) [] _ (s .pre .0) refl (s .args .t) (s .args .count) (s .pre .1) (s .pre .2) (s .pre .3) _ (text-itself (msg d) (itself d))
+    let k = counted (msg d) [] _ (s .pre .0) refl (s .args .t) (s .args .count) (s .pre .1) (s .pre .2) (s .pre .3) _ (text-itself (msg d) (itself d)) in
+    (k, few-fields (s .args .t) (msg d) (s .args .count) _ k (s .pre .2) (s .pre .3))
 
 same-length : tie.Need-same-length
 same-length c = search needs

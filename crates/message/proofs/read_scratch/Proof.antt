@@ -4,7 +4,7 @@ use mathlib.Core.Path.{ap, _∙_}
 use mathlib.Core.List.{List, []}
 use lib.ListN.{take, drop}
 use Rattle.outer.proofs.Good.{good-short}
-use Rattle.message.proofs.Steps.{counted, reduced-two, reduced-short, text-in}
+use Rattle.message.proofs.Steps.{counted, few-fields, reduced-two, reduced-short, text-in}
 use native.Mathlib.Omega.{arith}
 use borrow.Author.Needs.{needs}
 use Rattle.message.proofs.read_scratch.Statement.{statement}
@@ -47,8 +47,9 @@ read-text-requires c κs =
     let d = c .before .before .before .before in
     let s = start d in
     let u = d .reduce in
-    counted (msg d) [] (u .result) (s .pre .0) (u .ensures .0) (s .args .t) (s .args .count) (s .pre .1) (s .pre .2) (s .pre .3) _
-    (ap (λ (l : List ℕ). take (u .result - 1 - 1) (drop 1 l)) (u .ensures .1) ∙ text-in (msg d) _ (u .result) (s .pre .0) (u .ensures .0))
+    let text = ap (λ (l : List ℕ). take (u .result - 1 - 1) (drop 1 l)) (u .ensures .1) ∙ text-in (msg d) _ (u .result) (s .pre .0) (u .ensures .0) in
+    let k = counted (msg d) [] (u .result) (s .pre .0) (u .ensures .0) (s .args .t) (s .args .count) (s .pre .1) (s .pre .2) (s .pre .3) _ text in
+    (k, few-fields (s .args .t) (msg d) (s .args .count) _ k (s .pre .2) (s .pre .3))
 
 same-length : tie.Need-same-length
 same-length c = search needs
