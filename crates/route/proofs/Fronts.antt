@@ -76,10 +76,10 @@ module _ (n : ℕ) (w : Word) where
   unfolding unitEnd begins
   unit-short h = rw (le-ltb n (length w) h, and-false (ltb 0 n))
 
-  module _ (some : n ≡ 0 → ⊥) (room : n < length w) where
+  module _ (some : 0 < n) (room : n < length w) where
     begins-digits : begins n w ≡ all digit (take n (drop 1 w))
     unfolding begins
-    begins-digits = rw (lt-ltb 0 n (omega arith), lt-ltb n (length w) room)
+    begins-digits = rw (lt-ltb 0 n some, lt-ltb n (length w) room)
 
     pub unit-other : all digit (take n (drop 1 w)) ≡ false → unitEnd n w ≡ 0
     unfolding unitEnd
@@ -89,15 +89,18 @@ module _ (n : ℕ) (w : Word) where
     unfolding unitEnd
     unit-here e = rw (begins-digits, e) (sym (add-one n))
 
--- how many digits are due
+-- where a letter says how many digits are due, and where a byte is no letter
 
-pub speed-letter : (u : ℕ) → (u ≡ 75 → ⊥) → (u ≡ 78 → ⊥) → (u ≡ 77 → ⊥) → speedDigits u ≡ 0
+pub unit-by : (n m : ℕ) (w : Word) (r : ℕ) → n ≡ m → (r ≡ unitEnd n w) × (r ≤ length w) → (r ≡ unitEnd m w) × (r ≤ length w)
+unit-by n m w r e h = (h .0 ∙ ap (λ (k : ℕ). unitEnd k w) e, h .1)
+
+pub no-speed-letter : (u : ℕ) → (u ≡ 75 → ⊥) → (u ≡ 78 → ⊥) → (u ≡ 77 → ⊥) → speedDigits u ≡ 0
 unfolding speedDigits
-speed-letter u k n m = rw (ne-eqb u 75 k, ne-eqb u 78 n, ne-eqb u 77 m)
+no-speed-letter u k n m = rw (ne-eqb u 75 k, ne-eqb u 78 n, ne-eqb u 77 m)
 
-pub level-letter : (u : ℕ) → (u ≡ 70 → ⊥) → (u ≡ 65 → ⊥) → (u ≡ 83 → ⊥) → (u ≡ 77 → ⊥) → levelDigits u ≡ 0
+pub no-level-letter : (u : ℕ) → (u ≡ 70 → ⊥) → (u ≡ 65 → ⊥) → (u ≡ 83 → ⊥) → (u ≡ 77 → ⊥) → levelDigits u ≡ 0
 unfolding levelDigits
-level-letter u f a s m = rw (ne-eqb u 70 f, ne-eqb u 65 a, ne-eqb u 83 s, ne-eqb u 77 m)
+no-level-letter u f a s m = rw (ne-eqb u 70 f, ne-eqb u 65 a, ne-eqb u 83 s, ne-eqb u 77 m)
 
 -- A LIST OF SHAPES, each of a letter and as many digits as are due behind it
 

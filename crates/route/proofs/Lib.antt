@@ -5,5 +5,6 @@ pub mod Levels
 pub mod Fronts
 pub mod Points
 pub mod RouteWords
+pub mod Digits
 pub mod Signs
 pub mod Field15

@@ -7,7 +7,7 @@ use native.Mathlib.Omega.{arith}
 use lib.Dec.{leb, eqb}
 use lib.ListN.{length, take, drop, getD, length-drop}
 use lib.Seq.{drop-drop, take-length, length-take-le}
-use borrow.Author.Tests.{eqb-true, lt-ltb, le-ltb, le-leb, lt-leb}
+use borrow.Author.Tests.{eqb-true, le-ltb, le-leb, lt-leb}
 use Rattle.alphabet.specs.Text.{bytes}
 use Rattle.alphabet.specs.Alphabet.{digit, sign}
 use Rattle.text.specs.Words.{Word, upTo, holds, before, all, leading, same}
@@ -17,10 +17,10 @@ use Rattle.text.proofs.Joined.{holds-free, upTo-free}
 use Rattle.shape.specs.Shape.{fits, copies, wide}
 use Rattle.shape.proofs.Index.{fits-other}
 use Rattle.route.specs.Levels.{numberAt}
-use Rattle.route.specs.Points.{short, long, degreesInRange, minutesInRange, degreesOf, minutesOf, polar, polarOf, radialFits, indicators, nameFits}
-use Rattle.route.specs.Points.{pointFits}
+use Rattle.route.specs.Points.{short, long, polar, polarOf, radialFits, indicators, nameFits, pointFits}
 use Rattle.route.specs.Field15.{pairFits, wordFits, elementFits}
 use Rattle.route.proofs.Points.{known}
+use Rattle.route.proofs.Digits.{nines}
 use Rattle.route.proofs.RouteWords.{known-free, pair-parts, Formed, a-climb, a-change, a-last, an-indicator, a-plain, formed}
 
 -- BYTES AT THE FRONT THAT PASS A TEST
@@ -92,35 +92,22 @@ no-point most w n = go (pointFits most w) refl
     go true e = absurd (true≢false (sym (known most w e .signs) ∙ n))
     go false e = refl
 
--- A WORD OF SIGNS BY ITS LENGTH
+-- a short word can only be a name
+pub short-name : (most : ℕ) (w : Word) → length w < 7 → pointFits most w ≡ nameFits most w
+unfolding pointFits
+short-name most w h =
+    rw (
+      fits-other (wide short) w (λ e. omega arith),
+      fits-other (wide long) w (λ e. omega arith),
+      le-ltb 7 (length w) (omega arith),
+    )
 
-module _ (most : ℕ) (w : Word) where
-  pub by-name : length w < 7 → pointFits most w ≡ nameFits most w
-  unfolding pointFits
-  by-name h =
-      rw (
-        fits-other (wide short) w (λ e. omega arith),
-        fits-other (wide long) w (λ e. omega arith),
-        le-ltb 7 (length w) (omega arith),
-      )
-
-  pub by-seven : length w ≡ 7 → pointFits most w ≡ cond (fits (wide short) w) (degreesInRange (degreesOf w)) (nameFits most w)
-  unfolding pointFits
-  by-seven h = rw (fits-other (wide long) w (λ e. omega arith), le-ltb 7 (length w) (omega arith))
-
-  pub by-more : 7 < length w → pointFits most w ≡ cond (fits (wide long) w) (minutesInRange (minutesOf w)) (radialFits w)
-  unfolding pointFits
-  by-more h = rw (fits-other (wide short) w (λ e. omega arith), lt-ltb 7 (length w) h)
+-- A POINT WITH BEARING, of a word of signs
 
 all-take : (n : ℕ) (w : Word) → all sign w ≡ true → all sign (take n w) ≡ true
 all-take zero w e = refl
 all-take (suc n) [] e = refl
 all-take (suc n) (b ∷ w) e = let h = both (sign b) (all sign w) e in rw (h .0) (all-take n w (h .1))
-
--- digits, as a shape
-nines : (d : Word) → fits (copies (length d)) d ≡ all digit d
-nines [] = refl
-nines (b ∷ d) = ap (λ (t : Bool). digit b && t) (nines d)
 
 pub bearing-far : (w : Word) → 11 < length w → radialFits w ≡ false
 unfolding radialFits

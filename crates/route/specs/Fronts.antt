@@ -1,14 +1,17 @@
--- Field 15: a speed or a level at the front of a word, found by its letter, as the code finds it. It says nothing of what fits: that these ends are
--- where the shapes end is in proofs/Fronts.antt. Assumes nothing.
+-- Field 15: parts of a word as the code looks for them: a speed or a level at the front, by its letter, and a coordinate, by its digits. They say
+-- nothing of what fits: that they are the parts which the shapes have is in proofs/Fronts.antt and proofs/Signs.antt. Assumes nothing.
 use Prim.Native.Nat.{ℕ, suc}
 use mathlib.Core.Path.{_≡_, refl}
 use mathlib.Core.Bool.{Bool, _&&_, cond}
+use mathlib.Core.List.{[], _∷_, _++_}
 use lib.Dec.{ltb}
 use lib.ListN.{length, take, drop}
 use Rattle.alphabet.specs.Text.{bytes}
 use Rattle.alphabet.specs.Alphabet.{digit}
 use Rattle.text.specs.Words.{Word, all}
+use Rattle.shape.specs.Shape.{copies, wide}
 use Rattle.route.specs.Levels.{speedDigits, levelDigits, letterOf}
+use Rattle.route.specs.Points.{short, long}
 
 -- whether w begins with a byte and n digits, which are one or more
 unfoldable pub begins : ℕ → Word → Bool
@@ -24,6 +27,10 @@ speedEnd w = unitEnd (speedDigits (letterOf w)) w
 abbrev pub levelEnd : Word → ℕ
 levelEnd w = unitEnd (levelDigits (letterOf w)) w
 
+-- the shape of k digits, N or S, j digits and E or W
+abbrev pub coordinateShape : ℕ → ℕ → Word
+coordinateShape k j = copies k ++ (110 ∷ (copies j ++ (101 ∷ [])))
+
 -- EXAMPLES, computed
 
 speed-ends : (speedEnd (bytes "N0440F310") ≡ 5) × (speedEnd (bytes "M082F310") ≡ 4) × (speedEnd (bytes "M82F310") ≡ 0) × (speedEnd (bytes "") ≡ 0)
@@ -33,3 +40,6 @@ speed-ends = (refl, refl, refl, refl)
 level-ends : (levelEnd (bytes "F310PLUS") ≡ 4) × (levelEnd (bytes "S1130") ≡ 5) × (levelEnd (bytes "VFR") ≡ 0)
 unfolding unitEnd begins levelDigits
 level-ends = (refl, refl, refl)
+
+coordinates : (coordinateShape 2 3 ≡ wide short) × (coordinateShape 4 5 ≡ wide long)
+coordinates = (refl, refl)

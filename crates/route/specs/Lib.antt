@@ -1,4 +1,4 @@
 pub mod Levels
-pub mod Fronts
 pub mod Points
+pub mod Fronts
 pub mod Field15

@@ -1,14 +1,14 @@
 // Field 15: speed and level, then one or more words.
 ghost use mathlib.Core.Path.{_≡_};
-ghost use mathlib.Core.Bool.{true, cond};
+ghost use mathlib.Core.Bool.{true};
 ghost use Prim.Native.Nat.{ℕ, _+_, _-_, _≤_, _<_};
 ghost use lib.ListN.{length, drop};
 ghost use Rattle.alphabet.specs.Alphabet.{sign};
 ghost use Rattle.text.specs.Words.{split, elem, all, leading};
-ghost use Rattle.shape.specs.Shape.{wide, wides, fits as fitting, any as anyOf};
-ghost use Rattle.route.specs.Levels.{speedDigits, levelDigits, levels, starts, changes, climbs};
-ghost use Rattle.route.specs.Fronts.{unitEnd, speedEnd, levelEnd};
-ghost use Rattle.route.specs.Points.{short, long, degreesInRange, within as withinDegrees, minutesInRange, degreesOf, minutesOf};
+ghost use Rattle.shape.specs.Shape.{wides, fits as fitting, any as anyOf};
+ghost use Rattle.route.specs.Levels.{levels, starts, changes, climbs};
+ghost use Rattle.route.specs.Fronts.{unitEnd, speedEnd, levelEnd, coordinateShape};
+ghost use Rattle.route.specs.Points.{degreesInRange, within as withinDegrees, minutesInRange, degreesOf, minutesOf};
 ghost use Rattle.route.specs.Points.{radialFits, indicators, nameFits, pointFits, outOfRange};
 ghost use Rattle.route.specs.Field15.{pairFits, wordFits, elementFits, routeFits, fits15};
 
@@ -106,39 +106,38 @@ fn name(most: usize, w: &[u8]) -> bool
     !is_indicator(w)
 }
 
+// Whether a word is k digits, N or S, j digits and E or W.
+fn is_coordinate(k: usize, j: usize, w: &[u8]) -> bool
+    requires { ⌜ k + j ≤ 9 ⌝ }
+    ensures { λ r. ⌜ r ≡ fitting (coordinateShape k j) (now (w .entry)) ⌝ }
+{
+    let m = k + j + 1;
+    if w.len() != m + 1 {
+        return false;
+    }
+    if !text::all_of(text::Kind::Digit, &w[..k]) {
+        return false;
+    }
+    if !shape::one_of(w[k], b"NS") {
+        return false;
+    }
+    if !text::all_of(text::Kind::Digit, &w[k + 1..m]) {
+        return false;
+    }
+    shape::one_of(w[m], b"EW")
+}
+
 // Whether a word is shaped as a coordinate in degrees and out of range.
 pub fn out_of_range(w: &[u8]) -> bool
     ensures { λ r. ⌜ r ≡ outOfRange (now (w .entry)) ⌝ }
 {
-    if !shape::fits(b"99n999e", w) {
+    if !is_coordinate(2, 3, w) {
         return false;
     }
     !in_degrees(w)
 }
 
-// Of a word of 7 signs: a coordinate in degrees, or a name.
-fn seven_signs(most: usize, w: &[u8]) -> bool
-    requires { ⌜ all sign (now w) ≡ true ⌝ }
-    ensures { λ r. ⌜ r ≡ cond (fitting (wide short) (now (w .entry))) (degreesInRange (degreesOf (now (w .entry)))) (nameFits most (now (w .entry))) ⌝ }
-{
-    if shape::fits(b"99n999e", w) {
-        return in_degrees(w);
-    }
-    name(most, w)
-}
-
-// Of a word of 8 signs or more: a coordinate in minutes, or a point with bearing and distance.
-fn more_signs(w: &[u8]) -> bool
-    requires { ⌜ (7 < length (now w)) × (all sign (now w) ≡ true) ⌝ }
-    ensures { λ r. ⌜ r ≡ cond (fitting (wide long) (now (w .entry))) (minutesInRange (minutesOf (now (w .entry)))) (radialFits (now (w .entry))) ⌝ }
-{
-    if shape::fits(b"9999n99999e", w) {
-        return in_minutes(w);
-    }
-    with_bearing(w)
-}
-
-// The same as `point`, of a word of signs: its length says what it may be.
+// The same as `point`, of a word of signs. Most are short and can only be names.
 fn point_of_signs(most: usize, w: &[u8]) -> bool
     requires { ⌜ all sign (now w) ≡ true ⌝ }
     ensures { λ r. ⌜ r ≡ pointFits most (now (w .entry)) ⌝ }
@@ -146,10 +145,16 @@ fn point_of_signs(most: usize, w: &[u8]) -> bool
     if w.len() < 7 {
         return name(most, w);
     }
-    if 7 < w.len() {
-        return more_signs(w);
+    if is_coordinate(2, 3, w) {
+        return in_degrees(w);
     }
-    seven_signs(most, w)
+    if is_coordinate(4, 5, w) {
+        return in_minutes(w);
+    }
+    if 7 < w.len() {
+        return with_bearing(w);
+    }
+    name(most, w)
 }
 
 // A coordinate, a point with bearing and distance, or a name of at most so many signs.
@@ -176,35 +181,11 @@ fn word(last: bool, w: &[u8]) -> bool
     point_of_signs(7, w)
 }
 
-// How many digits are due behind the letter of a speed; 0 where the byte is no such letter.
-fn speed_digits(unit: u8) -> usize
-    ensures { λ r. ⌜ r ≡ speedDigits unit ⌝ }
-{
-    match unit {
-        b'K' | b'N' => 4,
-        b'M' => 3,
-        _ => 0,
-    }
-}
-
-// The same of a level.
-fn level_digits(unit: u8) -> usize
-    ensures { λ r. ⌜ r ≡ levelDigits unit ⌝ }
-{
-    match unit {
-        b'F' | b'A' => 3,
-        b'S' | b'M' => 4,
-        _ => 0,
-    }
-}
-
-// Where a byte and n digits end that w begins with; 0 where it does not begin with them, or n is 0.
+// Where a byte and n digits end that w begins with; 0 where it does not begin with them.
 fn unit_end(n: usize, w: &[u8]) -> usize
+    requires { ⌜ 0 < n ⌝ }
     ensures { λ r. ⌜ (r ≡ unitEnd n (now (w .entry))) × (r ≤ length (now (w .entry))) ⌝ }
 {
-    if n == 0 {
-        return 0;
-    }
     if w.len() <= n {
         return 0;
     }
@@ -222,7 +203,12 @@ fn speed_end(w: &[u8]) -> usize
     if w.len() == 0 {
         return 0;
     }
-    unit_end(speed_digits(w[0]), w)
+    let unit = w[0];
+    match unit {
+        b'K' | b'N' => unit_end(4, w),
+        b'M' => unit_end(3, w),
+        _ => 0,
+    }
 }
 
 // The same of a level.
@@ -232,7 +218,12 @@ fn level_end(w: &[u8]) -> usize
     if w.len() == 0 {
         return 0;
     }
-    unit_end(level_digits(w[0]), w)
+    let unit = w[0];
+    match unit {
+        b'F' | b'A' => unit_end(3, w),
+        b'S' | b'M' => unit_end(4, w),
+        _ => 0,
+    }
 }
 
 // A level.

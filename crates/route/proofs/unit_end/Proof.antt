@@ -7,18 +7,15 @@ use lib.ListN.{length, take, drop}
 use borrow.Author.Tests.{not-true, not-false}
 use Rattle.alphabet.specs.Alphabet.{digit}
 use Rattle.text.specs.Words.{all}
-use Rattle.route.proofs.Fronts.{unit-none, unit-short, unit-other, unit-here}
+use Rattle.route.proofs.Fronts.{unit-short, unit-other, unit-here}
 use borrow.Author.Needs.{needs}
 use Rattle.route.proofs.unit_end.Statement.{statement}
 use Rattle.route.proofs.unit_end.Tie as tie
 
 -- where the digits were tried
 module _ (c : tie.After-all-of) where
-  abbrev longer : tie.Else2
-  longer = c .before .before
-
   abbrev start : tie.Start
-  start = longer .before .before .before
+  start = c .before .before .before .before
 
   abbrev count : ℕ
   count = start .args .n
@@ -26,11 +23,8 @@ module _ (c : tie.After-all-of) where
   abbrev word : List ℕ
   word = start .args .w .now
 
-  some : count ≡ 0 → ⊥
-  some = longer .before .if1 .left
-
   room : count < length word
-  room = longer .if2 .left
+  room = c .before .before .if1 .left
 
   digits-there : all digit (take count (drop 1 word)) ≡ c .all-of .result
   digits-there =
@@ -38,10 +32,7 @@ module _ (c : tie.After-all-of) where
       ap (λ (k : ℕ). all digit (take k (drop 1 word))) n ∙ sym (c .all-of .ensures)
 
 returns : tie.Need-returns
-returns c = (sym (unit-none _ _ (c .if1 .taken)), omega arith)
-
-returns-2 : tie.Need-returns-2
-returns-2 c = (sym (unit-short _ _ (c .if2 .taken)), omega arith)
+returns c = (sym (unit-short _ _ (c .if1 .taken)), omega arith)
 
 add-e : tie.Need-add-e
 add-e c = search needs
@@ -58,28 +49,27 @@ part-all-of-end c = search needs
 all-of-requires : tie.Need-all-of-requires
 all-of-requires c κs = search needs
 
+returns-2 : tie.Need-returns-2
+returns-2 c =
+    let r = c .before in
+    let e = digits-there r ∙ not-true _ (c .if2 .taken) in
+    (sym (unit-other (count r) (word r) (start r .pre) (room r) e), omega arith)
+
 returns-3 : tie.Need-returns-3
 returns-3 c =
     let r = c .before in
-    let e = digits-there r ∙ not-true _ (c .if3 .taken) in
-    (sym (unit-other (count r) (word r) (some r) (room r) e), omega arith)
-
-returns-4 : tie.Need-returns-4
-returns-4 c =
-    let r = c .before in
-    let e = digits-there r ∙ not-false _ (c .if3 .left) in
-    (sym (unit-here (count r) (word r) (some r) (room r) e), omega arith)
+    let e = digits-there r ∙ not-false _ (c .if2 .left) in
+    (sym (unit-here (count r) (word r) (start r .pre) (room r) e), omega arith)
 
 pub unit-end-spec : {M : Type 1} → statement M
 unit-end-spec =
     tie.close
     (tie.spec
     returns
-    returns-2
     add-e
     sub-all-of
     part-all-of-start
     part-all-of-end
     all-of-requires
-    returns-3
-    returns-4)
+    returns-2
+    returns-3)
