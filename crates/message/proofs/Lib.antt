@@ -9,6 +9,7 @@ pub mod Steps
 pub mod Valid
 pub mod Accepted
 pub mod Canonical
+pub mod Itself
 pub mod Meaning
 pub mod Answers
 pub mod Places

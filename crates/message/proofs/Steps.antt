@@ -11,6 +11,7 @@ use borrow.Author.Tests.{lt-ltb, le-ltb, ne-eqb}
 use Rattle.text.specs.Words.{split}
 use Rattle.text.specs.Lent.{front}
 use Rattle.space.specs.Reduced.{reduced}
+use Rattle.space.specs.Fields.{inner}
 use Rattle.space.specs.Hyphens.{hyphens, oneMore, placeOfHyphen}
 use Rattle.space.proofs.Reduced.{never-longer}
 use Rattle.space.proofs.Frame.{frame-stays}
@@ -105,6 +106,13 @@ module _ (m buf : List ℕ) (n : ℕ) (g : outer m ≡ Good) (long : n ≡ lengt
         short = omega (arith, reduced-short);
         even = forms-length t count l u ∙ c ∙ sym (passed-count m passed) ∙ ap (λ (x : List ℕ). length (split 45 x)) (sym e);
       }
+
+pub two-bytes : (m : List ℕ) → outer m ≡ Good → 2 ≤ length m
+two-bytes m g = good-passed m g .framed .long
+
+-- a message that is its own reduction has the text where it stands
+pub text-itself : (m : List ℕ) → reduced m ≡ m → take (length m - 1 - 1) (drop 1 m) ≡ textOf m
+text-itself m e = let z : length m - 1 - 1 ≡ length m - 2 = omega arith in ap (λ (k : ℕ). take k (drop 1 m)) z ∙ ap inner (sym e)
 
 -- NUMBER 6
 

@@ -1,10 +1,12 @@
 // Reading a message: its answer, and its spelling written to the room that is lent.
 ghost use mathlib.Core.Path.{_≡_};
+ghost use mathlib.Core.Bool.{_&&_};
 ghost use mathlib.Core.List.{_∷_};
 ghost use Prim.Native.Nat.{_≤_};
-ghost use lib.Dec.{leb};
+ghost use lib.Dec.{leb, eqb};
 ghost use lib.ListN.{length, drop};
-ghost use Rattle.text.specs.Words.{split};
+ghost use Rattle.text.specs.Words.{split, same};
+ghost use Rattle.space.specs.Reduced.{reduced};
 ghost use Rattle.text.specs.Lent.{front};
 ghost use Rattle.space.specs.Hyphens.{behindHyphen};
 ghost use Rattle.outer.specs.declared.Outer as Outer;
@@ -12,6 +14,7 @@ ghost use Rattle.outer.specs.Outer.{most, outer};
 ghost use Rattle.kinds.specs.Kinds.{formsOf, leastOf, greatestOf};
 ghost use Rattle.forms.specs.Forms.{writtenOf};
 ghost use Rattle.message.specs.Reading.{
+  isClear,
   faultIn,
   unexplainedIn,
   leadOf,
@@ -30,6 +33,8 @@ ghost use Rattle.message.specs.Reading.{
   answerOf,
   writtenAs,
   outAfter,
+  plans,
+  planItself,
 };
 use kinds::Form;
 use kinds::MessageType;
@@ -271,7 +276,7 @@ fn read_text(t: MessageType, count: usize, msg: &[u8], s: &[u8], out: &mut [u8])
 }
 
 // Numbers 7 to 11: white space is reduced into a scratch, and the text between the parentheses is read there.
-fn read_reduced(t: MessageType, count: usize, msg: &[u8], out: &mut [u8]) -> Answer
+fn read_scratch(t: MessageType, count: usize, msg: &[u8], out: &mut [u8]) -> Answer
     requires { ⌜ (outer (now msg) ≡ Outer.Good) × (count ≡ countOf (now msg)) × (leastOf t ≤ count) × (count ≤ greatestOf t) ⌝ }
     ensures { λ a. ⌜ (a ≡ fieldsAs t (now (msg .entry)) (length (now (out .entry))))
         × (now (out .exit) ≡ writtenAs (fieldsAs t (now (msg .entry)) (length (now (out .entry)))) (now (msg .entry)) (now (out .entry))) ⌝ }
@@ -280,6 +285,19 @@ fn read_reduced(t: MessageType, count: usize, msg: &[u8], out: &mut [u8]) -> Ans
     let n = space::reduce(msg, &mut scratch);
     let e = n - 1;
     read_text(t, count, msg, &scratch[1..e], out)
+}
+
+// Numbers 7 to 11. A message that is its own reduction is read where it stands.
+fn read_reduced(t: MessageType, count: usize, msg: &[u8], out: &mut [u8]) -> Answer
+    requires { ⌜ (outer (now msg) ≡ Outer.Good) × (count ≡ countOf (now msg)) × (leastOf t ≤ count) × (count ≤ greatestOf t) ⌝ }
+    ensures { λ a. ⌜ (a ≡ fieldsAs t (now (msg .entry)) (length (now (out .entry))))
+        × (now (out .exit) ≡ writtenAs (fieldsAs t (now (msg .entry)) (length (now (out .entry)))) (now (msg .entry)) (now (out .entry))) ⌝ }
+{
+    if space::is_reduced(msg) {
+        let last = msg.len() - 1;
+        return read_text(t, count, msg, &msg[1..last], out);
+    }
+    read_scratch(t, count, msg, out)
 }
 
 // Numbers 6 to 11, for a message of a type.
@@ -351,5 +369,67 @@ pub fn read(msg: &[u8], out: &mut [u8]) -> Answer
             place,
         },
         Outer::Good => read_type(msg, out),
+    }
+}
+
+// Whether the fields of a plan's text have none of the numbers 7 to 10.
+fn is_plan_text(t: MessageType, count: usize, s: &[u8]) -> bool
+    requires { ⌜ length (formsOf t count) ≡ length (split 45 (now s)) ⌝ }
+    ensures { λ r. ⌜ r ≡ (isClear (faultIn t count (split 45 (now (s .entry)))) && eqb (unexplainedIn (split 45 (now (s .entry)))) 0) ⌝ }
+{
+    match fields_fault(t, count, s) {
+        Fault::At {
+            number: _,
+            field: _,
+        } => false,
+        Fault::Clear => unexplained_in(s) == 0,
+    }
+}
+
+// Whether a message of a type is a plan and its own reduction, and numbers 6 to 11 let it pass.
+fn is_plan_counted(t: MessageType, msg: &[u8]) -> bool
+    requires { ⌜ outer (now msg) ≡ Outer.Good ⌝ }
+    ensures { λ r. ⌜ r ≡ (plans (countAs t (now (msg .entry)) most) && same (reduced (now (msg .entry))) (now (msg .entry))) ⌝ }
+{
+    if !is_plan(t) {
+        return false;
+    }
+    if !space::is_reduced(msg) {
+        return false;
+    }
+    let count = space::count_hyphens(msg) + 1;
+    if count < t.least() {
+        return false;
+    }
+    if t.greatest() < count {
+        return false;
+    }
+    let last = msg.len() - 1;
+    is_plan_text(t, count, &msg[1..last])
+}
+
+// The same, for a message that numbers 1 to 3 let pass.
+fn is_plan_typed(msg: &[u8]) -> bool
+    requires { ⌜ outer (now msg) ≡ Outer.Good ⌝ }
+    ensures { λ r. ⌜ r ≡ (plans (outerAs Outer.Good (now (msg .entry)) most) && same (reduced (now (msg .entry))) (now (msg .entry))) ⌝ }
+{
+    match kinds::type_named(three_of(msg)) {
+        Named::Read(t) => is_plan_counted(t, msg),
+        Named::NotRead => false,
+        Named::NoType => false,
+    }
+}
+
+// Whether a message is a plan as it is written: accepted as one, with room enough, and its own reduction. A plan's fields are written as they were sent,
+// so its spelling is then the message itself, and need not be written.
+pub fn is_plan_itself(msg: &[u8]) -> bool
+    ensures { λ r. ⌜ r ≡ planItself (now (msg .entry)) ⌝ }
+{
+    match outer::check_outer(msg) {
+        Outer::Bad {
+            number: _,
+            place: _,
+        } => false,
+        Outer::Good => is_plan_typed(msg),
     }
 }
