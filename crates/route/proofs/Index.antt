@@ -7,7 +7,7 @@ use native.Mathlib.Omega.{arith}
 use native.Mathlib.Numerals.{add-one}
 use lib.Arith.{lt-of-le-ne}
 use lib.ListN.{length, take, drop}
-use borrow.Author.Tests.{lt-ltb, le-ltb}
+use borrow.Author.Tests.{lt-ltb}
 use Rattle.alphabet.specs.Text.{bytes}
 use Rattle.text.specs.Words.{Word, split, after, upTo, null, same}
 use Rattle.text.proofs.Index.{split-at, after-here, after-end, rest, null-split}
@@ -15,7 +15,7 @@ use Rattle.text.proofs.Tests.{and-false}
 use Rattle.shape.specs.Shape.{wides, any}
 use Rattle.route.specs.Levels.{speeds, levels, starts, changes, climbs}
 use Rattle.route.specs.Points.{pointFits}
-use Rattle.route.specs.Field15.{pairFits, wordFits, elementFits, routeFits, fits15}
+use Rattle.route.specs.Field15.{pairFits, elementFits, routeFits, fits15}
 
 -- THE LISTS OF SHAPES, byte for byte as the code has them
 
@@ -52,17 +52,9 @@ module _ (w : Word) (o : ℕ) (at : o ≡ 0 + upTo 47 w) where
   at′ : o ≡ upTo 47 w
   at′ = omega arith
 
-  pub pair-none : (ts : List Word) → o ≡ length w → pairFits ts w ≡ false
-  unfolding pairFits
-  pair-none ts h = rw (← at′, le-ltb o (length w) (omega arith))
-
   pub pair-at : (ts : List Word) → (o ≡ length w → ⊥) → o ≤ length w → pairFits ts w ≡ (pointFits 5 (take o w) && any ts (drop (o + 1) w))
   unfolding pairFits
   pair-at ts ne le = rw (← at′, lt-ltb o (length w) (lt-of-le-ne le ne), add-one o)
-
-  pub element-plain : (last : Bool) → o ≡ length w → elementFits last w ≡ wordFits last w
-  unfolding elementFits
-  element-plain last h = rw (← at′, le-ltb o (length w) (omega arith))
 
   pub element-at : (last : Bool) → (o ≡ length w → ⊥) → o ≤ length w
       → elementFits last w ≡ cond (same (take o w) (bytes "C")) (pairFits (wides climbs) (drop (o + 1) w)) (pairFits (wides changes) w)

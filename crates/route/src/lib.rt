@@ -2,17 +2,18 @@
 ghost use mathlib.Core.Path.{_≡_};
 ghost use mathlib.Core.Bool.{true};
 ghost use Prim.Native.Nat.{ℕ, _+_, _-_, _≤_, _<_};
+ghost use mathlib.Core.List.{[], _∷_};
 ghost use lib.ListN.{length, drop};
 ghost use Rattle.alphabet.specs.Alphabet.{sign};
 ghost use Rattle.text.specs.Words.{split, elem, all, leading};
 ghost use Rattle.shape.specs.Shape.{wides, fits as fitting, any as anyOf};
 ghost use Rattle.route.specs.Levels.{levels, starts, changes, climbs};
-ghost use Rattle.route.specs.Fronts.{unitEnd, speedEnd, levelEnd, coordinateShape};
+ghost use Rattle.route.specs.Fronts.{unitEnd, speedEnd, levelEnd, halfFits, coordinateShape};
 ghost use Rattle.route.specs.Points.{degreesInRange, within as withinDegrees, minutesInRange, degreesOf, minutesOf};
 ghost use Rattle.route.specs.Points.{radialFits, indicators, nameFits, pointFits, outOfRange};
 ghost use Rattle.route.specs.Field15.{pairFits, wordFits, elementFits, routeFits, fits15};
 
-// The shapes of speed and level at the start.
+// The shapes of speed and level at the start. What fits is told by letters and digits here; the lists are for the places of what does not fit.
 pub const STARTS: [u8; 56] = *b"k9999f999 k9999s9999 k9999VFR M999f999 M999s9999 M999VFR";
 
 // At a point, where VFR may not stand.
@@ -106,25 +107,34 @@ fn name(most: usize, w: &[u8]) -> bool
     !is_indicator(w)
 }
 
+// Whether a word is digits and, last, one of two letters.
+fn half(one: u8, other: u8, w: &[u8]) -> bool
+    requires { ⌜ 0 < length (now w) ⌝ }
+    ensures { λ r. ⌜ r ≡ halfFits (one ∷ (other ∷ [])) (now (w .entry)) ⌝ }
+{
+    let k = w.len() - 1;
+    if !text::all_of(text::Kind::Digit, &w[..k]) {
+        return false;
+    }
+    if w[k] == one {
+        return true;
+    }
+    w[k] == other
+}
+
 // Whether a word is k digits, N or S, j digits and E or W.
 fn is_coordinate(k: usize, j: usize, w: &[u8]) -> bool
     requires { ⌜ k + j ≤ 9 ⌝ }
     ensures { λ r. ⌜ r ≡ fitting (coordinateShape k j) (now (w .entry)) ⌝ }
 {
-    let m = k + j + 1;
-    if w.len() != m + 1 {
+    let m = k + 1;
+    if w.len() != m + j + 1 {
         return false;
     }
-    if !text::all_of(text::Kind::Digit, &w[..k]) {
+    if !half(b'N', b'S', &w[..m]) {
         return false;
     }
-    if !shape::one_of(w[k], b"NS") {
-        return false;
-    }
-    if !text::all_of(text::Kind::Digit, &w[k + 1..m]) {
-        return false;
-    }
-    shape::one_of(w[m], b"EW")
+    half(b'E', b'W', &w[m..])
 }
 
 // Whether a word is shaped as a coordinate in degrees and out of range.
@@ -308,13 +318,15 @@ fn joined(o: usize, w: &[u8]) -> bool
     if w[o] != b'/' {
         return false;
     }
-    if text::same_bytes(&w[..o], b"C") {
-        return climb(&w[o + 1..]);
+    let p = &w[..o];
+    let t = &w[o + 1..];
+    if text::same_bytes(p, b"C") {
+        return climb(t);
     }
-    if !point_of_signs(5, &w[..o]) {
+    if !point_of_signs(5, p) {
         return false;
     }
-    changed(&w[o + 1..])
+    changed(t)
 }
 
 // A word.
@@ -336,11 +348,12 @@ fn elements(s: &[u8], from: usize) -> bool
     let mut at = from;
     loop {
         let o = text::end_of(text::Kind::Sign, s, at);
+        let w = &s[at..o];
         if o == s.len() {
-            return word(true, &s[at..o]);
+            return word(true, w);
         }
         if s[o] == b' ' {
-            if !word(false, &s[at..o]) {
+            if !word(false, w) {
                 return false;
             }
             at = o + 1;

@@ -41,7 +41,7 @@ module _ (c : tie.After-end-of Inv-loop μ-loop) where
 -- where a space ends them
 module _ (c : tie.Then2 Inv-loop μ-loop) where
   abbrev ended : tie.After-end-of Inv-loop μ-loop
-  ended = c .before .before .before
+  ended = c .before .before .before .before
 
   next : routeFits (split 32 (drop (at ended) (text ended))) ≡ (wordFits false (front ended) && routeFits (split 32 (drop (o ended + 1) (text ended))))
   next =
@@ -51,8 +51,11 @@ module _ (c : tie.Then2 Inv-loop μ-loop) where
 
 -- where the word goes on to e
 module _ (c : tie.After-find Inv-loop μ-loop) where
+  abbrev other : tie.Else2 Inv-loop μ-loop
+  other = c .before
+
   abbrev found : tie.After-end-of Inv-loop μ-loop
-  found = c .before .before .before .before
+  found = other .before .before .before .before
 
   abbrev e : ℕ
   e = c .find .result
@@ -70,10 +73,10 @@ module _ (c : tie.After-find Inv-loop μ-loop) where
   end = space-behind (text found) (at found) (o found) signs-end e (c .find .ensures .0)
 
   further : o found - at found < length whole
-  further = signs-inside (text found) (at found) (o found) signs-end e (c .find .ensures .1 .1) (c .find .ensures .0) inside (c .before .if2 .left)
+  further = signs-inside (text found) (at found) (o found) signs-end e (c .find .ensures .1 .1) (c .find .ensures .0) inside (other .if2 .left)
 
   there : o found - at found ≡ leading sign whole
-  there = signs-there (text found) (at found) (o found) signs-end e (c .find .ensures .1 .1) (c .find .ensures .0) inside (c .before .if2 .left)
+  there = signs-there (text found) (at found) (o found) signs-end e (c .find .ensures .1 .1) (c .find .ensures .0) inside (other .if2 .left)
 
   wherever : (last : Bool) → elementFits last whole ≡ elementFits true whole
   wherever = anywhere whole (o found - at found) there further
@@ -84,14 +87,14 @@ loop-holds c = (search needs, refl)
 end-of-requires : tie.Need-end-of-requires Inv-loop μ-loop
 end-of-requires c κs = search needs
 
-sub-word : tie.Need-sub-word Inv-loop μ-loop
-sub-word c = search needs
+sub-w : tie.Need-sub-w Inv-loop μ-loop
+sub-w c = search needs
 
-part-word-start : tie.Need-part-word-start Inv-loop μ-loop
-part-word-start c = search needs
+part-w-start : tie.Need-part-w-start Inv-loop μ-loop
+part-w-start c = search needs
 
-part-word-end : tie.Need-part-word-end Inv-loop μ-loop
-part-word-end c = search needs
+part-w-end : tie.Need-part-w-end Inv-loop μ-loop
+part-w-end c = search needs
 
 word-requires : tie.Need-word-requires Inv-loop μ-loop
 word-requires c κs = signs (c .before .before)
@@ -105,22 +108,13 @@ returns c =
 shared-slice-read-if2 : tie.Need-shared-slice-read-if2 Inv-loop μ-loop
 shared-slice-read-if2 c = search needs
 
-sub-word-2 : tie.Need-sub-word-2 Inv-loop μ-loop
-sub-word-2 c = search needs
-
-part-word-start-2 : tie.Need-part-word-start-2 Inv-loop μ-loop
-part-word-start-2 c = search needs
-
-part-word-end-2 : tie.Need-part-word-end-2 Inv-loop μ-loop
-part-word-end-2 c = search needs
-
 word-requires-2 : tie.Need-word-requires-2 Inv-loop μ-loop
-word-requires-2 c κs = signs (ended (c .before))
+word-requires-2 c κs = signs (ended c)
 
 returns-2 : tie.Need-returns-2 Inv-loop μ-loop
 returns-2 c =
     let w = c .before in
-    let d = w .before .before in
+    let d = w .before in
     sym (ended d .before .loop .inv .1 ∙ rw (next d, sym (w .word2 .ensures) ∙ not-true _ (c .if3 .taken)))
 
 add-at : tie.Need-add-at Inv-loop μ-loop
@@ -132,7 +126,7 @@ loop-less c = search needs
 loop-again : tie.Need-loop-again Inv-loop μ-loop
 loop-again c =
     let w = c .before in
-    let d = w .before .before in
+    let d = w .before in
     (search needs, ended d .before .loop .inv .1 ∙ rw (next d, sym (w .word2 .ensures) ∙ not-false _ (c .if3 .left)))
 
 find-requires : tie.Need-find-requires Inv-loop μ-loop
@@ -188,15 +182,12 @@ elements-spec =
     μ-loop
     loop-holds
     end-of-requires
-    sub-word
-    part-word-start
-    part-word-end
+    sub-w
+    part-w-start
+    part-w-end
     word-requires
     returns
     shared-slice-read-if2
-    sub-word-2
-    part-word-start-2
-    part-word-end-2
     word-requires-2
     returns-2
     add-at

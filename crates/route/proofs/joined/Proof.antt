@@ -46,7 +46,7 @@ module _ (c : tie.Else1) where
 -- where what stands before it was compared with C
 module _ (c : tie.After-same-bytes) where
   abbrev parted : tie.Else1
-  parted = c .before .before .before
+  parted = c .before .before .before .before
 
 -- where it is another
 module _ (c : tie.Else2) where
@@ -63,66 +63,51 @@ returns c =
     let s = c .before .before .before in
     sym (no-element (s .args .w .now) (s .args .o) (s .pre .1) true (s .pre .0) (c .if1 .taken))
 
-slice-aggregate-same-bytes : tie.Need-slice-aggregate-same-bytes
-slice-aggregate-same-bytes c = sym (length-take-le _ _ (inside (c .before)))
+slice-aggregate-p : tie.Need-slice-aggregate-p
+slice-aggregate-p c = sym (length-take-le _ _ (inside (c .before)))
 
-slice-aggregate-same-bytes-2 : tie.Need-slice-aggregate-same-bytes-2
-slice-aggregate-same-bytes-2 c = search needs
+add-t : tie.Need-add-t
+add-t c = search needs
+
+sub-t : tie.Need-sub-t
+sub-t c = search needs
+
+part-t-start : tie.Need-part-t-start
+part-t-start c = search needs
+
+part-t-end : tie.Need-part-t-end
+part-t-end c = search needs
+
+slice-aggregate-same-bytes : tie.Need-slice-aggregate-same-bytes
+slice-aggregate-same-bytes c = search needs
 
 same-bytes-requires : tie.Need-same-bytes-requires
 same-bytes-requires c κs = search needs
-
-add-climb : tie.Need-add-climb
-add-climb c = search needs
-
-sub-climb : tie.Need-sub-climb
-sub-climb c = search needs
-
-part-climb-start : tie.Need-part-climb-start
-part-climb-start c = search needs
-
-part-climb-end : tie.Need-part-climb-end
-part-climb-end c = search needs
 
 climb-requires : tie.Need-climb-requires
 climb-requires c κs = search needs
 
 returns-2 : tie.Need-returns-2
 returns-2 c =
-    let r = c .before .before .before in
+    let r = c .before .before in
     let d = parted r in
-    rw (told d, sym (r .same-bytes .ensures) ∙ c .before .before .if2 .taken) (c .climb .ensures ∙ climbs-rest (word d) (o d + 1))
-
-slice-aggregate-point-of-signs : tie.Need-slice-aggregate-point-of-signs
-slice-aggregate-point-of-signs c = sym (length-take-le _ _ (inside (parted (c .before .before))))
+    rw (told d, sym (r .same-bytes .ensures) ∙ c .before .if2 .taken) (c .climb .ensures ∙ climbs-rest (word d) (o d + 1))
 
 point-of-signs-requires : tie.Need-point-of-signs-requires
-point-of-signs-requires c κs = let d = parted (c .before .before) in front-signs (word d) (o d) (start d .pre .1)
+point-of-signs-requires c κs = let d = parted (c .before) in front-signs (word d) (o d) (start d .pre .1)
 
 returns-3 : tie.Need-returns-3
-returns-3 c = let p = c .before in rw (changing (p .before .before), sym (p .point-of-signs .ensures) ∙ not-true _ (c .if3 .taken))
-
-add-changed : tie.Need-add-changed
-add-changed c = search needs
-
-sub-changed : tie.Need-sub-changed
-sub-changed c = search needs
-
-part-changed-start : tie.Need-part-changed-start
-part-changed-start c = search needs
-
-part-changed-end : tie.Need-part-changed-end
-part-changed-end c = search needs
+returns-3 c = let p = c .before in rw (changing (p .before), sym (p .point-of-signs .ensures) ∙ not-true _ (c .if3 .taken))
 
 changed-requires : tie.Need-changed-requires
 changed-requires c κs = search needs
 
 returns-4 : tie.Need-returns-4
 returns-4 c =
-    let p = c .before .before .before in
-    let r = p .before .before in
+    let p = c .before .before in
+    let r = p .before in
     let d = parted (r .before) in
-    rw (changing r, sym (p .point-of-signs .ensures) ∙ not-false _ (c .before .before .if3 .left))
+    rw (changing r, sym (p .point-of-signs .ensures) ∙ not-false _ (c .before .if3 .left))
     (c .changed .ensures ∙ ap (any (wides changes)) (rest (word d) (o d + 1)))
 
 pub joined-spec : {M : Type 1} → statement M
@@ -131,21 +116,16 @@ joined-spec =
     (tie.spec
     shared-slice-read-if1
     returns
+    slice-aggregate-p
+    add-t
+    sub-t
+    part-t-start
+    part-t-end
     slice-aggregate-same-bytes
-    slice-aggregate-same-bytes-2
     same-bytes-requires
-    add-climb
-    sub-climb
-    part-climb-start
-    part-climb-end
     climb-requires
     returns-2
-    slice-aggregate-point-of-signs
     point-of-signs-requires
     returns-3
-    add-changed
-    sub-changed
-    part-changed-start
-    part-changed-end
     changed-requires
     returns-4)
