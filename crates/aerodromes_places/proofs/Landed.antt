@@ -15,7 +15,6 @@ use Rattle.text.proofs.Tests.{both}
 use Rattle.text.proofs.Index.{null-split}
 use Rattle.shape.specs.Time.{clockHours}
 use Rattle.places.specs.Place.{IsPlace}
-
 use Rattle.places.specs.Words.{ended, wordsFit, contentFits, wordsPlace}
 use Rattle.places.specs.Given.{given, orZero}
 use Rattle.places.proofs.Given.{given-ended, given-some, given-place, or-some}

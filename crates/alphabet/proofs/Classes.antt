@@ -21,10 +21,10 @@ pub last-test : (x : Bool) → x ≡ cond x true false
 last-test true = refl
 last-test false = refl
 
--- a byte of a text word is a sign or one of seven marks
-pub text-marks : (b : ℕ) → b < 256 → text b ≡ (sign b || oneOf b marks)
+-- a byte of a text word is a letter, or below the letters a digit or one of seven marks
+pub text-marks : (b : ℕ) → b < 256 → text b ≡ cond (leb 65 b) (leb b 90) (digit b || oneOf b marks)
 unfolding inAlphabet text white
-text-marks = agree text (λ b. sign b || oneOf b marks) tt
+text-marks = agree text (λ b. cond (leb 65 b) (leb b 90) (digit b || oneOf b marks)) tt
 
 -- a byte that may stand between the parentheses is one of a text word, an oblique, a hyphen or white space
 pub inner-tests : (b : ℕ) → b < 256 → innerByte b ≡ (text b || (oneOf b (bytes "/-") || white b))

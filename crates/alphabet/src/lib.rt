@@ -84,7 +84,10 @@ fn is_mark(b: u8) -> bool
 pub fn is_text(b: u8) -> bool
     ensures { λ r. ⌜ r ≡ text b ⌝ }
 {
-    if is_sign(b) {
+    if b'A' <= b {
+        return b <= b'Z';
+    }
+    if is_digit(b) {
         return true;
     }
     is_mark(b)

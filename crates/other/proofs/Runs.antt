@@ -11,7 +11,7 @@ use lib.Arith.{lt-of-le-ne}
 use borrow.Author.Tests.{ne-eqb, eqb-true, eqb-false, ltb-true, lt-ltb, le-ltb}
 use Rattle.alphabet.specs.Alphabet.{sign, text, inAlphabet, white}
 use Rattle.text.specs.Words.{Word, split, onto, after, upTo, holds, before, all, null, leading, free, textWord}
-use Rattle.text.proofs.Index.{drop-here, find-here, find-end, split-cut}
+use Rattle.text.proofs.Index.{drop-here, find-here, find-end, split-cut, all-leading}
 use Rattle.text.proofs.Tests.{both, and-false, all-imp, all-free, of-elem, rank-elem}
 use Rattle.text.proofs.Joined.{holds-seam, before-seam, behind-seam, holds-free}
 use Rattle.text.proofs.Tidy.{sign-text}
@@ -24,14 +24,6 @@ use Rattle.other.proofs.Index.{fit-step, more-step}
 -- BYTES AT THE FRONT THAT PASS A TEST
 
 module _ (p : ℕ → Bool) where
-  all-leading : (s : List ℕ) → all p (take (leading p s) s) ≡ true
-  all-leading [] = refl
-  all-leading (b ∷ s) = go (all-leading s) (p b) refl
-    where
-      go : all p (take (leading p s) s) ≡ true → (t : Bool) → p b ≡ t → all p (take (cond t (suc (leading p s)) 0) (b ∷ s)) ≡ true
-      go ih true e = rw e ih
-      go ih false e = refl
-
   leading-stop : (s : List ℕ) → leading p s < length s → p (getD s (leading p s) 0) ≡ false
   leading-stop [] h = absurd (omega arith)
   leading-stop (b ∷ s) h = go (leading-stop s) (p b) refl h
@@ -49,7 +41,7 @@ module _ (p : ℕ → Bool) where
   -- those from `at` on end at e
   module _ (s : List ℕ) (at e : ℕ) (end : e ≡ at + leading p (drop at s)) where
     pub run-all : all p (take (e - at) (drop at s)) ≡ true
-    run-all = let n : e - at ≡ leading p (drop at s) = omega arith in rw n (all-leading (drop at s))
+    run-all = let n : e - at ≡ leading p (drop at s) = omega arith in rw n (all-leading p (drop at s))
 
     run-stop : e < length s → p (getD s e 0) ≡ false
     run-stop h =

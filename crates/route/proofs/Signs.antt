@@ -11,7 +11,7 @@ use borrow.Author.Tests.{eqb-true, le-ltb, le-leb, lt-leb}
 use Rattle.alphabet.specs.Text.{bytes}
 use Rattle.alphabet.specs.Alphabet.{digit, sign}
 use Rattle.text.specs.Words.{Word, upTo, holds, before, all, leading, same}
-use Rattle.text.proofs.Index.{find-here, find-next, find-end}
+use Rattle.text.proofs.Index.{find-here, find-next, find-end, all-leading}
 use Rattle.text.proofs.Tests.{both, all-free, same-eq, same-other, of-elem}
 use Rattle.text.proofs.Joined.{holds-free, upTo-free}
 use Rattle.shape.specs.Shape.{fits, copies, wide}
@@ -26,14 +26,6 @@ use Rattle.route.proofs.RouteWords.{known-free, pair-parts, Formed, a-c
 -- BYTES AT THE FRONT THAT PASS A TEST
 
 module _ (p : ℕ → Bool) where
-  pub all-leading : (s : List ℕ) → all p (take (leading p s) s) ≡ true
-  all-leading [] = refl
-  all-leading (b ∷ s) = go (all-leading s) (p b) refl
-    where
-      go : all p (take (leading p s) s) ≡ true → (t : Bool) → p b ≡ t → all p (take (cond t (suc (leading p s)) 0) (b ∷ s)) ≡ true
-      go ih true e = rw e ih
-      go ih false e = refl
-
   pub leading-take : (n : ℕ) (s : List ℕ) → leading p s < n → leading p (take n s) ≡ leading p s
   leading-take zero s h = absurd (omega arith)
   leading-take (suc n) [] h = refl

@@ -88,6 +88,14 @@ leading-next p s i h e = rw (drop-here s i h, e)
 pub leading-end : (p : ℕ → Bool) (s : List ℕ) (i : ℕ) → length s ≤ i → leading p (drop i s) ≡ 0
 leading-end p s i h = rw (drop-end s i h)
 
+pub all-leading : (p : ℕ → Bool) (s : List ℕ) → all p (take (leading p s) s) ≡ true
+all-leading p [] = refl
+all-leading p (b ∷ s) = go (all-leading p s) (p b) refl
+  where
+    go : all p (take (leading p s) s) ≡ true → (t : Bool) → p b ≡ t → all p (take (cond t (suc (leading p s)) 0) (b ∷ s)) ≡ true
+    go ih true e = rw e ih
+    go ih false e = refl
+
 -- EQUAL BYTES
 
 pub same-stop : (s t : List ℕ) (i : ℕ) → i < length s → i < length t → (getD s i 0 ≡ getD t i 0 → ⊥) → same (drop i s) (drop i t) ≡ false

@@ -5,7 +5,6 @@ use lib.ListN.{length, drop}
 use borrow.Author.Tests.{not-true, not-false}
 use Rattle.text.specs.Words.{leading}
 use Rattle.alphabet.specs.Alphabet.{oneOf}
-
 use Rattle.text.proofs.Index.{leading-here, leading-next, leading-end}
 use borrow.Author.Needs.{needs}
 use native.Mathlib.Omega.{arith}

@@ -3,7 +3,6 @@ use mathlib.Core.Path.{refl, sym, ap, _∙_}
 use mathlib.Core.List.{[], _∷_}
 use Rattle.text.specs.Words.{leading}
 use Rattle.alphabet.specs.Alphabet.{letter, text}
-
 use Rattle.supplement.specs.declared.Stage.the-variants.{Start, Endurance, Persons, Radio, Survival, JacketRadio, Capacity, Colours}
 use Rattle.supplement.specs.declared.Stage.the-variants.{Aircraft, Remarks, Pilot, Refused}
 use Rattle.supplement.proofs.Stages.{among}
