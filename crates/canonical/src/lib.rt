@@ -1,10 +1,10 @@
 // Field 19 in its canonical spelling: letters in the order of their set, counts without leading zeros.
 ghost use mathlib.Core.Path.{_≡_};
+ghost use mathlib.Core.Bool.{true, cond};
 ghost use Prim.Native.Nat.{_≤_};
 ghost use lib.Dec.{eqb};
 ghost use lib.ListN.{length, drop, getD};
 ghost use Rattle.text.specs.Lent.{front};
-ghost use mathlib.Core.Bool.{true, cond};
 ghost use Rattle.supplement.specs.declared.Stage.the-variants.{Refused};
 ghost use Rattle.supplement.specs.Field19.{byLetter, fits19};
 ghost use Rattle.supplement.specs.Walk.{first, further, step};
@@ -209,7 +209,7 @@ fn is_settled(stage: Stage) -> bool
     }
 }
 
-// Writes the words of a content that fits, with one space between them.
+// Writes the words of a content that fits, with one space between them; from a settled word on the content as it is.
 fn put_words(s: &[u8], out: &mut [u8]) -> usize
     requires { ⌜ (fits19 (now s) ≡ true) × (length (rewrittenText (now s)) ≤ length (now out)) ⌝ }
     ensures { λ r. ⌜ (r ≡ length (rewrittenText (now (s .entry)))) × (now (out .exit) ≡ front (rewrittenText (now (s .entry))) (now (out .entry))) ⌝ }
