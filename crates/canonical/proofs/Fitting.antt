@@ -6,7 +6,7 @@ use mathlib.Core.Bool.{Bool, true, false, cond, _||_, false≢true}
 use mathlib.Core.List.{List, [], _∷_, _++_}
 use native.Mathlib.Omega.{arith}
 use lib.Dec.{ltb, eqb}
-use lib.ListN.{length, take, drop, getD, take-append-drop}
+use lib.ListN.{take, drop, getD, take-append-drop}
 use borrow.Author.Tests.{ltb-true, lt-ltb}
 use Rattle.text.specs.Words.{Word, split, join, upTo, holds, before, behind, same, textWord}
 use Rattle.text.proofs.Index.{split-at}

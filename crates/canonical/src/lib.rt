@@ -1,9 +1,10 @@
 // Field 19 in its canonical spelling: letters in the order of their set, counts without leading zeros.
 ghost use mathlib.Core.Path.{_≡_};
+ghost use mathlib.Core.Bool.{true, cond};
 ghost use Prim.Native.Nat.{_≤_};
-ghost use lib.ListN.{length, drop};
+ghost use lib.Dec.{eqb};
+ghost use lib.ListN.{length, drop, getD};
 ghost use Rattle.text.specs.Lent.{front};
-ghost use mathlib.Core.Bool.{true};
 ghost use Rattle.supplement.specs.declared.Stage.the-variants.{Refused};
 ghost use Rattle.supplement.specs.Field19.{byLetter, fits19};
 ghost use Rattle.supplement.specs.Walk.{first, further, step};
@@ -121,14 +122,17 @@ fn word_length(stage: Stage, w: &[u8]) -> usize
     o + changed_length(stage, &w[o..])
 }
 
-// Writes a word.
+// Writes a word: its key and the oblique as they are, if it has them.
 fn put_word(stage: Stage, w: &[u8], out: &mut [u8]) -> usize
-    requires { ⌜ length (rewrite stage (now w)) ≤ length (now out) ⌝ }
+    requires { ⌜ (upToOblique (now w) ≡ cond (eqb (getD (now w) 1 0) 47) 2 0) × (length (rewrite stage (now w)) ≤ length (now out)) ⌝ }
     ensures { λ r. ⌜ (r ≡ length (rewrite stage (now (w .entry)))) × (now (out .exit) ≡ front (rewrite stage (now (w .entry))) (now (out .entry))) ⌝ }
 {
-    let o = up_to_oblique(w);
-    let n = text::put(&w[..o], out);
-    n + put_changed(stage, &w[o..], &mut out[n..])
+    if !supplement::has_key(w) {
+        return put_changed(stage, w, out);
+    }
+    out[0] = w[0];
+    out[1] = b'/';
+    2 + put_changed(stage, &w[2..], &mut out[2..])
 }
 
 // How many bytes the words have as they are written, with one space between them.
@@ -205,7 +209,7 @@ fn is_settled(stage: Stage) -> bool
     }
 }
 
-// Writes the words of a content that fits, with one space between them.
+// Writes the words of a content that fits, with one space between them; from a settled word on the content as it is.
 fn put_words(s: &[u8], out: &mut [u8]) -> usize
     requires { ⌜ (fits19 (now s) ≡ true) × (length (rewrittenText (now s)) ≤ length (now out)) ⌝ }
     ensures { λ r. ⌜ (r ≡ length (rewrittenText (now (s .entry)))) × (now (out .exit) ≡ front (rewrittenText (now (s .entry))) (now (out .entry))) ⌝ }

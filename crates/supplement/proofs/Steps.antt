@@ -209,6 +209,30 @@ module _ (stage : Stage) (w : Word) where
           step-long stage w (upTo 47 w) (omega arith) (omega (arith, z, inside)) (λ o. omega (arith, z)) ∙ sym (rw (k, le-ltb (past stage) 0 (omega arith)))
       go false q = let o = second-first w e q in step-one stage w (upTo 47 w) (omega arith) (omega (arith, o, inside)) o
 
+  -- so in a word that is not refused an oblique stands there or nowhere
+  pub oblique-second : (step stage w ≡ Refused → ⊥) → cond (holds 47 w) (suc (upTo 47 w)) 0 ≡ cond (eqb (getD w 1 0) 47) 2 0
+  oblique-second n = go (eqb (getD w 1 0) 47) refl
+    where
+      one : eqb (getD w 1 0) 47 ≡ true → (b : Bool) → eqb (getD w 0 0) 47 ≡ b → upTo 47 w ≡ 1
+      one e true q =
+          let z = at-once w q in
+          let l = second-inside w e in
+          absurd (n (step-long stage w (upTo 47 w) (omega arith) (omega (arith, z, l)) (λ o. omega (arith, z))))
+      one e false q = second-first w e q
+
+      none : eqb (getD w 1 0) 47 ≡ false → (b : Bool) → holds 47 w ≡ b → cond b (suc (upTo 47 w)) 0 ≡ 0
+      none e true h =
+          let l = ltb-true (upTo 47 w) (length w) h in
+          absurd (n (step-long stage w (upTo 47 w) (omega arith) l (λ o. false≢true (sym e ∙ found-second w l o))))
+      none e false h = refl
+
+      go : (b : Bool) → eqb (getD w 1 0) 47 ≡ b → cond (holds 47 w) (suc (upTo 47 w)) 0 ≡ cond b 2 0
+      go true e =
+          let o = one e (eqb (getD w 0 0) 47) refl in
+          let l = second-inside w e in
+          rw (o, lt-ltb 1 (length w) l)
+      go false e = none e (holds 47 w) refl
+
   module _ (e : eqb (getD w 1 0) 47 ≡ true) where
     pub step-late : place (byLetter (getD w 0 0)) ≤ past stage → step stage w ≡ Refused
     step-late l = step-keyed e ∙ rw (le-ltb (past stage) (place (byLetter (getD w 0 0))) l)

@@ -9,8 +9,10 @@ use Rattle.text.proofs.Lent.{lent, store}
 use Rattle.text.specs.Words.{split, join, after}
 use Rattle.text.proofs.Index.{rest, split-at}
 use Rattle.supplement.specs.declared.Stage.{Stage}
-use Rattle.supplement.specs.Walk.{walked}
+use Rattle.supplement.specs.declared.Stage.the-variants.{Refused}
+use Rattle.supplement.specs.Walk.{step, walked}
 use Rattle.supplement.proofs.Walk.{walk-fits, walked-next}
+use Rattle.supplement.proofs.Steps.{oblique-second}
 use Rattle.canonical.specs.Rewriting.{rewrite, rewritten, rewrittenText, settled}
 use Rattle.canonical.proofs.Turns.{Writing, begin, due, room, onward, all-written}
 use Rattle.canonical.proofs.Words.{spaced, text-at, text-last, text-next}
@@ -26,6 +28,16 @@ Inv-loop s out₀ at₀ o₀ stage₀ out at o stage =
 
 abbrev μ-loop : tie.MeasureT-loop
 μ-loop s out₀ at₀ o₀ stage₀ out at o stage = length s - at
+
+-- the word that begins here is not refused
+not-refused : (f : tie.After-find Inv-loop μ-loop) → let s = f .before .before .before .before .args .s .now in
+    step (f .before .loop .stage) (take (f .find .result - f .before .loop .at) (drop (f .before .loop .at) s)) ≡ Refused → ⊥
+not-refused f =
+    let l = f .before .loop in
+    let s = f .before .before .before .before .args .s .now in
+    let e = f .find .result in
+    none-refused (l .stage) (take (e - l .at) (drop (l .at) s)) (after 32 (drop e s))
+    (sym (ap (walked (l .stage)) (split-at 32 s (l .at) e (f .find .ensures .0))) ∙ l .inv .3)
 
 -- before the call that writes a word: the loop's head, the word, and what is due
 
@@ -108,13 +120,7 @@ part-w-end : tie.Need-part-w-end Inv-loop μ-loop
 part-w-end c = search needs
 
 read-as-requires : tie.Need-read-as-requires Inv-loop μ-loop
-read-as-requires c κs =
-    let found = c .before in
-    let l = found .before .loop in
-    let s = found .before .before .before .before .args .s .now in
-    let e = found .find .result in
-    none-refused (l .stage) (take (e - l .at) (drop (l .at) s)) (after 32 (drop e s))
-    (sym (ap (walked (l .stage)) (split-at 32 s (l .at) e (found .find .ensures .0))) ∙ l .inv .3)
+read-as-requires c κs = not-refused (c .before)
 
 is-settled-requires : tie.Need-is-settled-requires Inv-loop μ-loop
 is-settled-requires c κs = search needs
@@ -172,8 +178,10 @@ part-put-word-end c = search needs
 put-word-requires : tie.Need-put-word-requires Inv-loop μ-loop
 put-word-requires c κs =
     let f = c .before .before .before in
-    let l = At f .loop in
-    omega (arith, fits f, ap length (rest (l .out) (l .o)), length-drop (l .o) (l .out), l .inv .1, Start f .pre .1)
+    let l = At f .loop in (
+      oblique-second (l .stage) (take (E f - l .at) (drop (l .at) (S f))) (not-refused (f .before .before)),
+      omega (arith, fits f, ap length (rest (l .out) (l .o)), length-drop (l .o) (l .out), l .inv .1, Start f .pre .1),
+    )
 
 add-o : tie.Need-add-o Inv-loop μ-loop
 add-o c =
