@@ -10,12 +10,11 @@ use lib.ListN.{length}
 use borrow.Author.Tests.{lt-ltb, ne-eqb}
 use Rattle.alphabet.specs.Text.{bytes}
 use Rattle.alphabet.specs.Alphabet.{text}
-use Rattle.text.specs.Words.{Word, all, null, same, free, split, textWord}
+use Rattle.text.specs.Words.{Word, all, null, same, free, split, textWord, leading}
 use Rattle.text.proofs.Tests.{both}
 use Rattle.text.proofs.Index.{null-split}
 use Rattle.shape.specs.Time.{clockHours}
 use Rattle.places.specs.Place.{IsPlace}
-use Rattle.places.specs.Parts.{front}
 use Rattle.places.specs.Words.{ended, wordsFit, contentFits, wordsPlace}
 use Rattle.places.specs.Given.{given, orZero}
 use Rattle.places.proofs.Given.{given-ended, given-some, given-place, or-some}
@@ -37,9 +36,9 @@ landed-right n w = go (eqb n 0) (ltb 1 n)
   where
     go : (x y : Bool)
         → IsPlace (λ v. ended (cond x (given (joined clockHours v) (which v)) (given (y && textWord v) 3))) w
-        (cond x (joinedPlace clockHours w) (cond y (front text w) 0))
+        (cond x (joinedPlace clockHours w) (cond y (leading text w) 0))
     go true y = given-place (joined clockHours) which w (joinedPlace clockHours w) (joined-right clockHours w)
-    go false true = given-place textWord (λ v. 3) w (front text w) (text-place w)
+    go false true = given-place textWord (λ v. 3) w (leading text w) (text-place w)
     go false false = no-place w
 
 landed-free : (n : ℕ) (w : Word) → ended (landed .after n w) ≡ true → free 32 w ≡ true
@@ -141,7 +140,7 @@ module _ (n : ℕ) (w : Word) where
     pub goes-more : landed .goes n ≡ true
     goes-more = rw (ne-eqb n 0 z) (lt-ltb 1 n (omega arith))
 
-    pub place-text : landedPlace n w ≡ front text w
+    pub place-text : landedPlace n w ≡ leading text w
     place-text = rw (ne-eqb n 0 z, lt-ltb 1 n (omega arith))
 
   pub place-first : n ≡ 0 → landedPlace n w ≡ joinedPlace clockHours w

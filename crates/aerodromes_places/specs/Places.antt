@@ -6,9 +6,9 @@ use mathlib.Core.List.{List, []}
 use lib.Dec.{leb, ltb, eqb}
 use Rattle.alphabet.specs.Text.{bytes}
 use Rattle.alphabet.specs.Alphabet.{letter, text, inAlphabet, white}
-use Rattle.text.specs.Words.{Word, split, same, textWord}
+use Rattle.text.specs.Words.{Word, split, same, textWord, leading}
 use Rattle.shape.specs.Time.{timeFits, clockHours, elapsedHours}
-use Rattle.places.specs.Parts.{front, noMore, fixedPlace, timePlace}
+use Rattle.places.specs.Parts.{noMore, fixedPlace, timePlace}
 use Rattle.places.specs.Given.{given, orZero}
 use Rattle.places.specs.Words.{Words, wordsPlace}
 use Rattle.aerodromes.specs.Aerodromes.{fourLetters, joined, aerodromeOf}
@@ -67,7 +67,7 @@ landed =
     }
 
 abbrev pub landedPlace : ℕ → Word → ℕ
-landedPlace n w = cond (eqb n 0) (joinedPlace clockHours w) (cond (ltb 1 n) (front text w) 0)
+landedPlace n w = cond (eqb n 0) (joinedPlace clockHours w) (cond (ltb 1 n) (leading text w) 0)
 
 -- what is known behind a word; 0 where it may not stand there
 abbrev pub landedAfter : ℕ → Word → ℕ

@@ -2,7 +2,7 @@
 use mathlib.Core.Path.{_≡_, refl}
 use mathlib.Core.Bool.{Bool, true, false, _&&_, _||_, cond}
 use Prim.Native.Nat.{ℕ, _<_, _≤_}
-use lib.Dec.{leb}
+use lib.Dec.{leb, eqb}
 use borrow.Author.Tests.{le-leb, lt-leb}
 use Rattle.alphabet.specs.Text.{bytes}
 use Rattle.alphabet.specs.Alphabet.{classOf, inAlphabet, innerByte, letter, digit, octal, sign, text, white, oneOf, marks}
@@ -21,15 +21,24 @@ pub last-test : (x : Bool) → x ≡ cond x true false
 last-test true = refl
 last-test false = refl
 
--- a byte of a text word is a sign or one of seven marks
-pub text-marks : (b : ℕ) → b < 256 → text b ≡ (sign b || oneOf b marks)
+-- a byte of a text word is a letter, or below the letters a digit or one of seven marks
+pub text-marks : (b : ℕ) → b < 256 → text b ≡ cond (leb 65 b) (leb b 90) (digit b || oneOf b marks)
 unfolding inAlphabet text white
-text-marks = agree text (λ b. sign b || oneOf b marks) tt
+text-marks = agree text (λ b. cond (leb 65 b) (leb b 90) (digit b || oneOf b marks)) tt
 
 -- a byte that may stand between the parentheses is one of a text word, an oblique, a hyphen or white space
 pub inner-tests : (b : ℕ) → b < 256 → innerByte b ≡ (text b || (oneOf b (bytes "/-") || white b))
 unfolding inAlphabet innerByte text white
 inner-tests = agree innerByte (λ b. text b || (oneOf b (bytes "/-") || white b)) tt
+
+-- the same by ranges, as the code tests it with no branch
+abbrev pub flat : ℕ → Bool
+flat b =
+    (((leb 65 b && leb b 90) || (leb 43 b && leb b 58)) || ((eqb b 63 || eqb b 61) || eqb b 39)) || ((eqb b 32 || eqb b 13) || eqb b 10)
+
+pub inner-flat : (b : ℕ) → b < 256 → flat b ≡ innerByte b
+unfolding inAlphabet innerByte white
+inner-flat = agree flat innerByte tt
 
 -- a byte of the alphabet is one of these or a parenthesis
 pub alphabet-tests : (b : ℕ) → b < 256 → inAlphabet b ≡ (innerByte b || oneOf b (bytes "()"))

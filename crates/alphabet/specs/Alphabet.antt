@@ -44,6 +44,11 @@ known (b ∷ s) = cond (inAlphabet b) (suc (known s)) 0
 unfoldable pub innerByte : ℕ → Bool
 innerByte b = inAlphabet b && not (oneOf b (bytes "()"))
 
+-- whether each byte is one
+abbrev pub allInner : List ℕ → Bool
+allInner [] = true
+allInner (b ∷ s) = innerByte b && allInner s
+
 -- how many bytes stand before the first that is a parenthesis or not in the alphabet
 abbrev pub innerBytes : List ℕ → ℕ
 innerBytes [] = 0

@@ -14,6 +14,7 @@ ghost use Rattle.alphabet.specs.Alphabet.{
   innerByte,
   inAlphabet,
   known,
+  allInner,
   innerBytes,
 };
 
@@ -83,7 +84,10 @@ fn is_mark(b: u8) -> bool
 pub fn is_text(b: u8) -> bool
     ensures { λ r. ⌜ r ≡ text b ⌝ }
 {
-    if is_sign(b) {
+    if b'A' <= b {
+        return b <= b'Z';
+    }
+    if is_digit(b) {
         return true;
     }
     is_mark(b)
@@ -145,8 +149,32 @@ pub fn known_bytes(s: &[u8]) -> usize
     i
 }
 
-// How many bytes stand before the first that is a parenthesis or not in the alphabet.
-pub fn inner_bytes(s: &[u8]) -> usize
+// The same test as is_inner's, with no branch: it is worked out for 16 bytes at a time. From + to : stand the digits and + , - . / : alone.
+fn is_inner_flat(b: u8) -> bool
+    ensures { λ r. ⌜ r ≡ innerByte b ⌝ }
+{
+    let letter = (b'A' <= b) & (b <= b'Z');
+    let middle = (b'+' <= b) & (b <= b':');
+    let mark = (b == b'?') | (b == b'=') | (b == b'\'');
+    let white = (b == b' ') | (b == b'\r') | (b == b'\n');
+    letter | middle | mark | white
+}
+
+// Whether each byte passes it.
+fn all_inner(s: &[u8]) -> bool
+    ensures { λ r. ⌜ r ≡ allInner (now (s .entry)) ⌝ }
+{
+    let mut fine = true;
+    let mut i = 0;
+    while i < s.len() {
+        fine = fine & is_inner_flat(s[i]);
+        i += 1;
+    }
+    fine
+}
+
+// How many bytes stand before the first that is a parenthesis or not in the alphabet, byte by byte.
+fn inner_each(s: &[u8]) -> usize
     ensures { λ r. ⌜ (r ≡ innerBytes (now (s .entry))) × (r ≤ length (now (s .entry))) ⌝ }
 {
     let mut i = 0;
@@ -157,4 +185,25 @@ pub fn inner_bytes(s: &[u8]) -> usize
         i += 1;
     }
     i
+}
+
+// The same over blocks of 16 bytes, as long as all of a block pass. The last 16 bytes are a block too: some of them were in the one before.
+pub fn inner_bytes(s: &[u8]) -> usize
+    ensures { λ r. ⌜ (r ≡ innerBytes (now (s .entry))) × (r ≤ length (now (s .entry))) ⌝ }
+{
+    let mut i = 0;
+    while 16 <= s.len() - i {
+        let e = i + 16;
+        if !all_inner(&s[i..e]) {
+            return i + inner_each(&s[i..]);
+        }
+        i = e;
+    }
+    if 16 <= s.len() {
+        let at = s.len() - 16;
+        if all_inner(&s[at..]) {
+            return s.len();
+        }
+    }
+    i + inner_each(&s[i..])
 }

@@ -7,3 +7,4 @@ pub mod Written
 pub mod Rewritten
 pub mod Steps
 pub mod Words
+pub mod Fitting

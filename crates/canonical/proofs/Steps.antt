@@ -1,15 +1,17 @@
 -- Words at an index: the letters of a set that stand in a word, leading zeros, and how a word is rewritten. Assumes nothing.
 use Prim.Native.Nat.{ℕ, _+_, _-_, _<_, _≤_}
 use mathlib.Core.Path.{_≡_, refl, sym, ap, _∙_}
-use mathlib.Core.Bool.{true, false}
+use mathlib.Core.Bool.{true, false, false≢true}
 use mathlib.Core.List.{List, [], _∷_, _++_}
 use native.Mathlib.Omega.{arith}
-use lib.ListN.{length, take, drop, getD, length-append, length-drop}
+use lib.Dec.{eqb}
+use lib.ListN.{length, take, drop, getD, set, length-append, length-drop}
 use lib.Seq.{length-take-le}
-use borrow.Author.Tests.{lt-ltb, le-ltb, eq-eqb, ne-eqb}
+use borrow.Author.Tests.{lt-ltb, le-ltb, eqb-true, eq-eqb, ne-eqb}
 use types.Run.{OneOf}
 use Rattle.alphabet.specs.Alphabet.{oneOf}
 use Rattle.text.specs.Words.{Word, upTo}
+use Rattle.text.specs.Lent.{front}
 use Rattle.text.proofs.Index.{drop-here, drop-end}
 use Rattle.supplement.specs.declared.Stage.{Stage}
 use Rattle.supplement.specs.declared.Stage.the-variants.{Start, Endurance, Persons, Radio, Survival, Lights, JacketRadio, Number, Capacity, Colours}
@@ -104,3 +106,16 @@ module _ (stage : Stage) (w : Word) (o : ℕ) (e : o ≡ upToOblique w) (h : o �
 
   pub rewrite-shorter : length (rewrite stage w) ≤ length w
   rewrite-shorter = omega (arith, rewrite-length, changed-shorter stage (drop o w), length-drop o w)
+
+-- a word with a key: its first two bytes are stored one by one
+
+pub two-bytes : (w : Word) → eqb (getD w 1 0) 47 ≡ true → take 2 w ≡ getD w 0 0 ∷ (47 ∷ [])
+two-bytes [] e = absurd (false≢true e)
+two-bytes (b ∷ []) e = absurd (false≢true e)
+two-bytes (b ∷ (c ∷ w)) e = ap (λ (x : ℕ). b ∷ (x ∷ [])) (eqb-true c 47 e)
+
+pub stored-two : (out : List ℕ) (a b : ℕ) → 2 ≤ length out → set (set out 0 a) 1 b ≡ front (a ∷ (b ∷ [])) out
+unfolding front
+stored-two [] a b h = absurd (omega arith)
+stored-two (x ∷ []) a b h = absurd (omega arith)
+stored-two (x ∷ (y ∷ out)) a b h = refl

@@ -1,7 +1,7 @@
 -- Field 19 rewritten word by word, as the code writes it: each word by what it was read as. `written-words` (proofs/Rewritten.antt) proves
 -- that it comes out as `written19`. Assumes nothing.
 use Prim.Native.Nat.{ℕ, suc}
-use mathlib.Core.Bool.{cond}
+use mathlib.Core.Bool.{Bool, true, false, cond}
 use mathlib.Core.List.{List, [], _∷_, _++_}
 use lib.Dec.{eqb}
 use lib.ListN.{take, drop}
@@ -53,3 +53,21 @@ rewritten stage (w ∷ ws) = rewrite (step stage w) w ∷ rewritten (step stage 
 
 unfoldable pub rewrittenText : List ℕ → List ℕ
 rewrittenText s = join 32 (rewritten Start (split 32 s))
+
+-- behind the pair of the dinghies nothing is changed: a word that was read so is written as it was sent, and so are all behind it
+-- (`settled-words` in proofs/Fitting.antt)
+abbrev pub settled : Stage → Bool
+settled Start = false
+settled Endurance = false
+settled Persons = false
+settled Radio = false
+settled Survival = false
+settled Lights = false
+settled JacketRadio = false
+settled Number = false
+settled Capacity = false
+settled Colours = true
+settled Aircraft = true
+settled Remarks = true
+settled Pilot = true
+settled Refused = false

@@ -1,10 +1,15 @@
 // Field 19 in its canonical spelling: letters in the order of their set, counts without leading zeros.
 ghost use mathlib.Core.Path.{_≡_};
+ghost use mathlib.Core.Bool.{true, cond};
 ghost use Prim.Native.Nat.{_≤_};
-ghost use lib.ListN.{length, drop};
+ghost use lib.Dec.{eqb};
+ghost use lib.ListN.{length, drop, getD};
 ghost use Rattle.text.specs.Lent.{front};
+ghost use Rattle.supplement.specs.declared.Stage.the-variants.{Refused};
+ghost use Rattle.supplement.specs.Field19.{byLetter, fits19};
+ghost use Rattle.supplement.specs.Walk.{first, further, step};
 ghost use Rattle.canonical.specs.Canonical.{sorted, written19};
-ghost use Rattle.canonical.specs.Rewriting.{stripped, changed, upToOblique, rewrite, rewrittenText};
+ghost use Rattle.canonical.specs.Rewriting.{stripped, changed, upToOblique, rewrite, rewrittenText, settled};
 use supplement::Stage;
 
 // How many leading zeros of w are left off: all but the last byte at most.
@@ -117,14 +122,17 @@ fn word_length(stage: Stage, w: &[u8]) -> usize
     o + changed_length(stage, &w[o..])
 }
 
-// Writes a word.
+// Writes a word: its key and the oblique as they are, if it has them.
 fn put_word(stage: Stage, w: &[u8], out: &mut [u8]) -> usize
-    requires { ⌜ length (rewrite stage (now w)) ≤ length (now out) ⌝ }
+    requires { ⌜ (upToOblique (now w) ≡ cond (eqb (getD (now w) 1 0) 47) 2 0) × (length (rewrite stage (now w)) ≤ length (now out)) ⌝ }
     ensures { λ r. ⌜ (r ≡ length (rewrite stage (now (w .entry)))) × (now (out .exit) ≡ front (rewrite stage (now (w .entry))) (now (out .entry))) ⌝ }
 {
-    let o = up_to_oblique(w);
-    let n = text::put(&w[..o], out);
-    n + put_changed(stage, &w[o..], &mut out[n..])
+    if !supplement::has_key(w) {
+        return put_changed(stage, w, out);
+    }
+    out[0] = w[0];
+    out[1] = b'/';
+    2 + put_changed(stage, &w[2..], &mut out[2..])
 }
 
 // How many bytes the words have as they are written, with one space between them.
@@ -147,9 +155,63 @@ fn words_length(s: &[u8]) -> usize
     }
 }
 
-// Writes the words, with one space between them.
+// What the first word of an item, behind its oblique, was read as in a content that fits: its key tells, but for D.
+fn opened_as(key: u8, w: &[u8]) -> Stage
+    requires { ⌜ (first (byLetter key) (now w) ≡ Refused → ⊥) ⌝ }
+    ensures { λ r. ⌜ r ≡ first (byLetter key) (now (w .entry)) ⌝ }
+{
+    match key {
+        b'E' => Stage::Endurance,
+        b'P' => Stage::Persons,
+        b'R' => Stage::Radio,
+        b'S' => Stage::Survival,
+        b'J' => Stage::Lights,
+        b'D' => supplement::first_of_dinghies(w),
+        b'A' => Stage::Aircraft,
+        b'N' => Stage::Remarks,
+        b'C' => Stage::Pilot,
+        _ => Stage::Refused,
+    }
+}
+
+// What a further word of an item was read as in a content that fits: what was read before it tells.
+fn followed_as(stage: Stage, w: &[u8]) -> Stage
+    requires { ⌜ (further stage (now w) ≡ Refused → ⊥) ⌝ }
+    ensures { λ r. ⌜ r ≡ further stage (now (w .entry)) ⌝ }
+{
+    match stage {
+        Stage::Lights => Stage::JacketRadio,
+        Stage::Number => Stage::Capacity,
+        Stage::Capacity => Stage::Colours,
+        Stage::Colours | Stage::Aircraft | Stage::Remarks | Stage::Pilot => stage,
+        _ => Stage::Refused,
+    }
+}
+
+// What a word was read as in a content that fits. It is not tested again.
+fn read_as(stage: Stage, w: &[u8]) -> Stage
+    requires { ⌜ (step stage (now w) ≡ Refused → ⊥) ⌝ }
+    ensures { λ r. ⌜ r ≡ step stage (now (w .entry)) ⌝ }
+{
+    if !supplement::has_key(w) {
+        return followed_as(stage, w);
+    }
+    opened_as(w[0], &w[2..])
+}
+
+// Whether a word that was read so is written as it was sent, and so are all behind it.
+fn is_settled(stage: Stage) -> bool
+    ensures { λ r. ⌜ r ≡ settled stage ⌝ }
+{
+    match stage {
+        Stage::Colours | Stage::Aircraft | Stage::Remarks | Stage::Pilot => true,
+        _ => false,
+    }
+}
+
+// Writes the words of a content that fits, with one space between them; from a settled word on the content as it is.
 fn put_words(s: &[u8], out: &mut [u8]) -> usize
-    requires { ⌜ length (rewrittenText (now s)) ≤ length (now out) ⌝ }
+    requires { ⌜ (fits19 (now s) ≡ true) × (length (rewrittenText (now s)) ≤ length (now out)) ⌝ }
     ensures { λ r. ⌜ (r ≡ length (rewrittenText (now (s .entry)))) × (now (out .exit) ≡ front (rewrittenText (now (s .entry))) (now (out .entry))) ⌝ }
 {
     let mut at = 0;
@@ -158,7 +220,10 @@ fn put_words(s: &[u8], out: &mut [u8]) -> usize
     loop {
         let e = text::find(s, at, b' ');
         let w = &s[at..e];
-        stage = supplement::step(stage, w);
+        stage = read_as(stage, w);
+        if is_settled(stage) {
+            return o + text::put(&s[at..], &mut out[o..]);
+        }
         o += put_word(stage, w, &mut out[o..]);
         if e == s.len() {
             return o;
@@ -179,6 +244,14 @@ pub fn spelled_length(s: &[u8]) -> usize
     words_length(s)
 }
 
+// Writes the canonical spelling of a content that fits at the front of `out`. The bytes behind it stay.
+pub fn write_fitting19(s: &[u8], out: &mut [u8]) -> usize
+    requires { ⌜ (fits19 (now s) ≡ true) × (length (written19 (now s)) ≤ length (now out)) ⌝ }
+    ensures { λ r. ⌜ (r ≡ length (written19 (now (s .entry)))) × (now (out .exit) ≡ front (written19 (now (s .entry))) (now (out .entry))) ⌝ }
+{
+    put_words(s, out)
+}
+
 // Writes a content at the front of `out`: its canonical spelling where it fits, else itself. The bytes behind it stay.
 pub fn write_field19(s: &[u8], out: &mut [u8]) -> usize
     requires { ⌜ length (written19 (now s)) ≤ length (now out) ⌝ }
@@ -187,5 +260,5 @@ pub fn write_field19(s: &[u8], out: &mut [u8]) -> usize
     if !supplement::fits_field19(s) {
         return text::put(s, out);
     }
-    put_words(s, out)
+    write_fitting19(s, out)
 }

@@ -21,6 +21,7 @@ use Rattle.aerodromes.specs.Field16.{field16, field16plan}
 use Rattle.aerodromes.specs.Field17.{field17}
 use Rattle.route.specs.Field15.{field15}
 use Rattle.other.specs.Field18.{field18}
+use Rattle.supplement.specs.Field19.{fits19}
 use Rattle.canonical.specs.Canonical.{written19}
 use Rattle.head.proofs.Field3.{field3-laws}
 use Rattle.head.proofs.Field7.{field7-laws}
@@ -168,6 +169,23 @@ written-fault again f s e = go (isEntry f) refl e
 
 -- BY THE NUMBER OF A FORM
 
+-- one form has the number 19
+nineteen-is : (f : Form) → eqb (numberOf f) 19 ≡ true → f ≡ Field19
+nineteen-is Field3 e = absurd (false≢true e)
+nineteen-is Field7 e = absurd (false≢true e)
+nineteen-is Field8 e = absurd (false≢true e)
+nineteen-is Field9 e = absurd (false≢true e)
+nineteen-is Field10 e = absurd (false≢true e)
+nineteen-is Field13 e = absurd (false≢true e)
+nineteen-is Field13Open e = absurd (false≢true e)
+nineteen-is Field15 e = absurd (false≢true e)
+nineteen-is Field16 e = absurd (false≢true e)
+nineteen-is Field16Plan e = absurd (false≢true e)
+nineteen-is Field17 e = absurd (false≢true e)
+nineteen-is Field18 e = absurd (false≢true e)
+nineteen-is Field19 e = refl
+nineteen-is Field22 e = absurd (false≢true e)
+
 module _ (f : Form) (s : List ℕ) (n : ℕ) (e : n ≡ numberOf f) where
   pub is-entry : n ≡ 22 → isEntry f ≡ true
   is-entry h = eq-eqb (numberOf f) 22 (sym e ∙ h)
@@ -177,6 +195,9 @@ module _ (f : Form) (s : List ℕ) (n : ℕ) (e : n ≡ numberOf f) where
 
   pub is-rewritten : n ≡ 19 → writtenOf f s ≡ written19 s
   is-rewritten h = rw (eq-eqb (numberOf f) 19 (sym e ∙ h))
+
+  pub fits-nineteen : n ≡ 19 → fieldOf f .fits s ≡ true → fits19 s ≡ true
+  fits-nineteen h k = ap (λ (g : Form). fieldOf g .fits s) (sym (nineteen-is f (eq-eqb (numberOf f) 19 (sym e ∙ h)))) ∙ k
 
   pub no-rewritten : (n ≡ 19 → ⊥) → writtenOf f s ≡ s
   no-rewritten h = rw (ne-eqb (numberOf f) 19 (λ q. h (e ∙ q)))

@@ -1,7 +1,7 @@
 // Field 22, and the dispatch over all forms of fields.
 ghost use mathlib.Core.Path.{_≡_};
 ghost use Prim.Native.Nat.{_≤_};
-ghost use mathlib.Core.Bool.{_&&_};
+ghost use mathlib.Core.Bool.{true, _&&_};
 ghost use lib.Dec.{ltb};
 ghost use lib.ListN.{length};
 ghost use Rattle.text.specs.Lent.{front};
@@ -144,4 +144,15 @@ pub fn write_form(f: Form, s: &[u8], out: &mut [u8]) -> usize
         return text::put(s, out);
     }
     canonical::write_field19(s, out)
+}
+
+// Writes a content that fits its form at the front of `out`, in its canonical spelling; the bytes behind it stay.
+pub fn write_fitting(f: Form, s: &[u8], out: &mut [u8]) -> usize
+    requires { ⌜ (fieldOf f .fits (now s) ≡ true) × (length (writtenOf f (now s)) ≤ length (now out)) ⌝ }
+    ensures { λ r. ⌜ (r ≡ length (writtenOf f (now (s .entry)))) × (now (out .exit) ≡ front (writtenOf f (now (s .entry))) (now (out .entry))) ⌝ }
+{
+    if f.number() != 19 {
+        return text::put(s, out);
+    }
+    canonical::write_fitting19(s, out)
 }

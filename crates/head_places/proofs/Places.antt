@@ -9,11 +9,11 @@ use lib.ListN.{length, take, getD}
 use borrow.Author.Tests.{ne-eqb, leb-true, leb-false, lt-leb}
 use Rattle.alphabet.specs.Text.{bytes}
 use Rattle.alphabet.specs.Alphabet.{letter, digit, sign}
-use Rattle.text.specs.Words.{all, null, free, upTo, holds, before, behind}
+use Rattle.text.specs.Words.{all, null, free, upTo, holds, before, behind, leading}
 use Rattle.text.proofs.Tests.{both, all-free}
 use Rattle.shape.specs.Shape.{fits, letters}
 use Rattle.places.specs.Place.{IsPlace}
-use Rattle.places.specs.Parts.{between, front, firstFits, firstPlace, noMore, runFits, runPlace, along, thenFits, thenPlace}
+use Rattle.places.specs.Parts.{between, firstFits, firstPlace, noMore, runFits, runPlace, along, thenFits, thenPlace}
 use Rattle.places.proofs.Larger.{larger-first}
 use Rattle.places.proofs.Place.{place-of-language, either-place}
 use Rattle.places.proofs.Parts.{stops, then-place}
@@ -202,17 +202,17 @@ wake-within w = wake-right w .within
 pub aircraft-within : (w : List ℕ) → aircraftPlace w ≤ length w
 aircraft-within w = aircraft-right w .within
 
-pub digits-front : (s : List ℕ) → lead true s ≡ front digit s
+pub digits-front : (s : List ℕ) → lead true s ≡ leading digit s
 digits-front [] = refl
 digits-front (b ∷ s) = go (digit b) (digits-front s)
   where
-    go : (x : Bool) → lead true s ≡ front digit s → cond (Bool·beq x true) (suc (lead true s)) 0 ≡ cond x (suc (front digit s)) 0
+    go : (x : Bool) → lead true s ≡ leading digit s → cond (Bool·beq x true) (suc (lead true s)) 0 ≡ cond x (suc (leading digit s)) 0
     go true e = ap suc e
     go false e = refl
 
 nine : (s : List ℕ) → thenFits digit few aircraftFits s ≡ fits9 s
 unfolding fits9
-nine s = rw (digits-front s, front-all digit s (front digit s) (omega arith))
+nine s = rw (digits-front s, front-all digit s (leading digit s) (omega arith))
 
 pub placed9 : (s : List ℕ) → IsPlace fits9 s (place9 s)
 unfolding place9
@@ -223,4 +223,4 @@ placed9 s =
     (bytes "AA/H") one s))
   where
     same : thenPlace digit few countPlace aircraftPlace s ≡ thenPlace digit countFits countPlace aircraftPlace s
-    same = rw (front-all digit s (front digit s) (omega arith))
+    same = rw (front-all digit s (leading digit s) (omega arith))

@@ -9,9 +9,9 @@ use lib.ListN.{length, take, drop, getD}
 use lib.Seq.{drop-drop, length-take-le}
 use borrow.Author.Tests.{eq-eqb, ne-eqb}
 use Rattle.alphabet.specs.Alphabet.{letter, digit}
-use Rattle.text.specs.Words.{Word}
+use Rattle.text.specs.Words.{Word, leading}
 use Rattle.text.proofs.Index.{rest, drop-here, drop-end}
-use Rattle.places.specs.Parts.{front, noMore, runPlace, fixedPlace}
+use Rattle.places.specs.Parts.{noMore, runPlace, fixedPlace}
 use Rattle.places.proofs.Leaves.{run-place}
 use Rattle.places.proofs.Index.{then-none, then-off, then-on, fixed-short, fixed-whole}
 use Rattle.head.specs.Field3.{unit}
@@ -19,7 +19,7 @@ use Rattle.head_places.specs.Places.{Reaches, unitThen, obliqueThen, toD
 
 -- 1 TO 4 LETTERS, n of which are in front
 
-module _ (w : Word) (n : ℕ) (end : n ≡ front letter w) where
+module _ (w : Word) (n : ℕ) (end : n ≡ leading letter w) where
   pub unit-none : (r : ℕ) → n ≡ length w → r ≡ runPlace 4 letter (take n w) → Reaches unitThen w r false
   unit-none r h e pg = sym (then-none letter unit (runPlace 4 letter) pg w n end r h e)
 
@@ -76,16 +76,16 @@ module _ (w : Word) (at : ℕ) (on : Bool) (r : Reaches toDigits w at on) where
     pub last-on : (k : ℕ) → k ≡ runPlace 3 digit (take (length w - at) (drop at w)) → at + k ≡ numberThen noMore w
     last-on k e = ap (λ (j : ℕ). at + j) (e ∙ ap (runPlace 3 digit) (rest w at)) ∙ sym (r (fixedPlace digit 3 noMore) ∙ rw h)
 
-    module _ (n : ℕ) (end : n ≡ front digit (take (length w - at) (drop at w))) where
+    module _ (n : ℕ) (end : n ≡ leading digit (take (length w - at) (drop at w))) where
       pub first-short : n < 3 → at + n ≡ numbersPlace w
       first-short l =
-          let x = fixed-short digit 3 (numberThen noMore) (drop at w) n (end ∙ ap (front digit) (rest w at)) l in
+          let x = fixed-short digit 3 (numberThen noMore) (drop at w) n (end ∙ ap (leading digit) (rest w at)) l in
           ap (λ (j : ℕ). at + j) x ∙ sym (r (fixedPlace digit 3 (numberThen noMore)) ∙ rw h)
 
       pub first-on : (k : ℕ) → 3 ≤ n → k ≡ numberThen noMore (take (length w - (at + 3)) (drop (at + 3) w)) → at + 3 + k ≡ numbersPlace w
       first-on k l e =
           let v = drop at w in
           let q = e ∙ ap (numberThen noMore) (rest w (at + 3) ∙ sym (drop-drop 3 at w) ∙ sym (rest v 3)) in
-          let x = fixed-whole digit 3 (numberThen noMore) v n (end ∙ ap (front digit) (rest w at)) k l q in
+          let x = fixed-whole digit 3 (numberThen noMore) v n (end ∙ ap (leading digit) (rest w at)) k l q in
           let y : at + 3 + k ≡ at + (3 + k) = omega arith in
           y ∙ ap (λ (j : ℕ). at + j) x ∙ sym (r (fixedPlace digit 3 (numberThen noMore)) ∙ rw h)

@@ -44,7 +44,7 @@ type-stays t n cs l g =
     first-stays (formsOf t n) cs (each-count (λ u k. not (eqb (numberOf (getD (formsOf u k) 0 Field19)) 19)) refl t n l g)
 
 -- what an FPL explains: it has no field 19
-plan-kept : (n : ℕ) → all (λ f. not (eqb (numberOf f) 19)) (formsOf Fpl n) ≡ true
+pub plan-kept : (n : ℕ) → all (λ f. not (eqb (numberOf f) 19)) (formsOf Fpl n) ≡ true
 unfolding formsOf planForms
 plan-kept n = refl
 

@@ -3,12 +3,14 @@ pub mod Faults
 pub mod Written
 pub mod Reached
 pub mod Walk
+pub mod Ends
 pub mod Writing
 pub mod Nth
 pub mod Steps
 pub mod Valid
 pub mod Accepted
 pub mod Canonical
+pub mod Itself
 pub mod Meaning
 pub mod Answers
 pub mod Places

@@ -1,16 +1,17 @@
 -- The answers, as the code comes to them: of each number its answer. Assumes nothing.
 use Prim.Native.Nat.{ℕ, suc, _-_, _<_, _≤_}
-use mathlib.Core.Path.{_≡_, sym, ap, ap₂, _∙_}
+use mathlib.Core.Path.{_≡_, refl, sym, ap, ap₂, _∙_}
 use mathlib.Core.Bool.{Bool, true, false}
 use mathlib.Core.List.{List, [], _∷_}
 use native.Mathlib.Omega.{arith}
-use lib.Dec.{eqb}
+use lib.Dec.{eqb, leb}
 use lib.ListN.{length, take, drop, length-take, length-drop}
 use lib.Seq.{drop-append-le, take-append-le}
-use borrow.Author.Tests.{lt-ltb, le-ltb, ne-eqb}
+use borrow.Author.Tests.{lt-ltb, le-ltb, ne-eqb, leb-true}
 use Rattle.text.specs.Words.{split}
 use Rattle.text.specs.Lent.{front}
 use Rattle.space.specs.Reduced.{reduced}
+use Rattle.space.specs.Fields.{inner}
 use Rattle.space.specs.Hyphens.{hyphens, oneMore, placeOfHyphen}
 use Rattle.space.proofs.Reduced.{never-longer}
 use Rattle.space.proofs.Frame.{frame-stays}
@@ -20,8 +21,9 @@ use Rattle.outer.specs.declared.Outer.the-variants.{Good}
 use Rattle.outer.specs.Outer.{outer, Passed}
 use Rattle.outer.proofs.Good.{good-passed}
 use Rattle.kinds.specs.declared.MessageType.{MessageType}
-use Rattle.kinds.specs.Kinds.{leastOf, greatestOf, formsOf, formAt, numberOf}
+use Rattle.kinds.specs.Kinds.{leastOf, greatestOf, typesRead, formsOf, formAt, numberOf}
 use Rattle.kinds.proofs.Fields.{forms-length}
+use Rattle.kinds.proofs.Names.{each}
 use Rattle.message.specs.declared.Fault.{Fault}
 use Rattle.message.specs.declared.Fault.the-variants.{Clear, At}
 use Rattle.message.specs.declared.Answer.the-variants.{Accepted, Refused}
@@ -105,6 +107,22 @@ module _ (m buf : List ℕ) (n : ℕ) (g : outer m ≡ Good) (long : n ≡ lengt
         short = omega (arith, reduced-short);
         even = forms-length t count l u ∙ c ∙ sym (passed-count m passed) ∙ ap (λ (x : List ℕ). length (split 45 x)) (sym e);
       }
+
+pub two-bytes : (m : List ℕ) → outer m ≡ Good → 2 ≤ length m
+two-bytes m g = good-passed m g .framed .long
+
+-- a message that is its own reduction has the text where it stands
+pub text-itself : (m : List ℕ) → reduced m ≡ m → take (length m - 1 - 1) (drop 1 m) ≡ textOf m
+text-itself m e = let z : length m - 1 - 1 ≡ length m - 2 = omega arith in ap (λ (k : ℕ). take k (drop 1 m)) z ∙ ap inner (sym e)
+
+-- no type has more than 13 fields
+most-fields : (t : MessageType) → greatestOf t ≤ 13
+unfolding typesRead
+most-fields t = leb-true (greatestOf t) 13 (each (λ u. leb (greatestOf u) 13) refl t)
+
+pub few-fields : (t : MessageType) (m : List ℕ) (count : ℕ) (s : List ℕ) → Counted t m count s → leastOf t ≤ count → count ≤ greatestOf t
+    → length (split 45 s) ≤ 13
+few-fields t m count s k l u = omega (arith, k .even, forms-length t count l u, most-fields t)
 
 -- NUMBER 6
 

@@ -1,3 +1,4 @@
 pub mod Reading
+pub mod Ends
 pub mod Message
 pub mod Meaning

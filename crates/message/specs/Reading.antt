@@ -2,12 +2,12 @@
 -- Assumes nothing.
 use Prim.Native.Nat.{ℕ, suc, _+_, _-_, _≤_}
 use mathlib.Core.Path.{_≡_}
-use mathlib.Core.Bool.{Bool, true, false, cond}
+use mathlib.Core.Bool.{Bool, true, false, cond, _&&_}
 use mathlib.Core.List.{List, [], _∷_, _++_}
 use lib.Dec.{eqb, ltb}
 use lib.ListN.{length, take, drop, getD}
 use Rattle.alphabet.specs.Alphabet.{oneOf}
-use Rattle.text.specs.Words.{Word, split, before}
+use Rattle.text.specs.Words.{Word, split, before, same}
 use Rattle.text.specs.Lent.{front}
 use Rattle.space.specs.Reduced.{reduced}
 use Rattle.space.specs.Fields.{inner}
@@ -65,6 +65,10 @@ faultFrom earlier j (f ∷ fs) (c ∷ cs) =
     cond (eqb (faultOf (oneOf (rankIn f c) earlier) f c) 0)
     (faultFrom (rankIn f c ∷ earlier) (suc j) fs cs)
     (At (faultOf (oneOf (rankIn f c) earlier) f c) j)
+
+abbrev pub isClear : Fault → Bool
+isClear Clear = true
+isClear (At number j) = false
 
 unfoldable pub faultIn : MessageType → ℕ → List Word → Fault
 faultIn t n cs = faultFrom [] 0 (formsOf t n) cs
@@ -158,3 +162,13 @@ writtenAs (Refused number field place) m out = out
 
 unfoldable pub outAfter : List ℕ → List ℕ → List ℕ
 outAfter m out = writtenAs (answerOf m (length out)) m out
+
+-- A PLAN AS IT IS WRITTEN
+
+abbrev pub plans : Answer → Bool
+plans (Accepted t n) = isPlan t
+plans (Refused number field place) = false
+
+-- accepted as a plan, with the most room that a message needs, and its own reduction
+unfoldable pub planItself : List ℕ → Bool
+planItself m = plans (answerOf m most) && same (reduced m) m

@@ -1,17 +1,21 @@
 // Reading a message: its answer, and its spelling written to the room that is lent.
 ghost use mathlib.Core.Path.{_≡_};
-ghost use mathlib.Core.List.{_∷_};
-ghost use Prim.Native.Nat.{_≤_};
-ghost use lib.Dec.{leb};
-ghost use lib.ListN.{length, drop};
-ghost use Rattle.text.specs.Words.{split};
+ghost use mathlib.Core.Bool.{true, _&&_};
+ghost use mathlib.Core.List.{[], _∷_};
+ghost use Prim.Native.Nat.{_≤_, _<_};
+ghost use lib.Dec.{leb, eqb};
+ghost use lib.ListN.{length, drop, getD};
+ghost use Rattle.text.specs.Words.{split, same};
+ghost use Rattle.space.specs.Reduced.{reduced};
 ghost use Rattle.text.specs.Lent.{front};
 ghost use Rattle.space.specs.Hyphens.{behindHyphen};
 ghost use Rattle.outer.specs.declared.Outer as Outer;
 ghost use Rattle.outer.specs.Outer.{most, outer};
 ghost use Rattle.kinds.specs.Kinds.{formsOf, leastOf, greatestOf};
 ghost use Rattle.forms.specs.Forms.{writtenOf};
+ghost use Rattle.message.specs.Ends.{Ends};
 ghost use Rattle.message.specs.Reading.{
+  isClear,
   faultIn,
   unexplainedIn,
   leadOf,
@@ -30,6 +34,8 @@ ghost use Rattle.message.specs.Reading.{
   answerOf,
   writtenAs,
   outAfter,
+  plans,
+  planItself,
 };
 use kinds::Form;
 use kinds::MessageType;
@@ -56,16 +62,51 @@ pub fn lead_of(j: usize) -> u8
     if j == 0 { b'(' } else { b'-' }
 }
 
+// The places of the fields' ends in a text; behind the last field's they mean nothing.
+type FieldEnds = [usize; MessageType::MOST_FIELDS];
+
+// Where each field of a text ends: at its hyphen, or at the end of the text.
+fn field_ends(s: &[u8]) -> FieldEnds
+    requires { ⌜ length (split 45 (now s)) ≤ 13 ⌝ }
+    ensures { λ r. ⌜ Ends (now (s .entry)) r ⌝ }
+{
+    let mut ends = [0usize; MessageType::MOST_FIELDS];
+    let mut at = 0;
+    let mut j = 0;
+    loop {
+        let e = text::find_far(s, at, b'-');
+        ends[j] = e;
+        if e == s.len() {
+            return ends;
+        }
+        at = e + 1;
+        j += 1;
+    }
+}
+
+// The content of field j, where the fields' ends are known.
+fn content_at<'a>(s: &'a [u8], ends: &FieldEnds, j: usize) -> &'a [u8]
+    requires { ⌜ Ends (now s) (now ends) × (j < length (split 45 (now s))) ⌝ }
+    ensures { λ r. ⌜ now r ≡ getD (split 45 (now (s .entry))) j [] ⌝ }
+{
+    let e = ends[j];
+    if j == 0 {
+        return &s[..e];
+    }
+    let at = ends[j - 1] + 1;
+    &s[at..e]
+}
+
 // The leftmost field of a text that has a number 7, 8 or 9. An entry names a field by its rank; `seen` marks the ranks named before.
-fn fields_fault(t: MessageType, count: usize, s: &[u8]) -> Fault
-    requires { ⌜ length (formsOf t count) ≡ length (split 45 (now s)) ⌝ }
+fn fields_fault(t: MessageType, count: usize, s: &[u8], ends: &FieldEnds) -> Fault
+    requires { ⌜ Ends (now s) (now ends) × (length (formsOf t count) ≡ length (split 45 (now s))) ⌝ }
     ensures { λ r. ⌜ r ≡ faultIn t count (split 45 (now (s .entry))) ⌝ }
 {
     let mut seen = [false; 9];
     let mut at = 0;
     let mut j = 0;
     loop {
-        let e = text::find(s, at, b'-');
+        let e = ends[j];
         let form = t.form_at(count, j);
         let rank = forms::rank_in(form, &s[at..e]);
         let number = forms::fault_of(seen[rank], form, &s[at..e]);
@@ -112,8 +153,9 @@ fn write_field(lead: u8, form: Form, part: &[u8], out: &mut [u8]) -> usize
 }
 
 // Writes the spelling of a text's fields at the front of `out`: each field goes behind the last one, in the rest that is lent to it.
-fn write_fields(t: MessageType, count: usize, s: &[u8], out: &mut [u8]) -> usize
-    requires { ⌜ (length (spelledFrom 40 (formsOf t count) (split 45 (now s))) ≤ length (now out)) × (length (formsOf t count) ≡ length (split 45 (now s))) ⌝ }
+fn write_fields(t: MessageType, count: usize, s: &[u8], ends: &FieldEnds, out: &mut [u8]) -> usize
+    requires { ⌜ Ends (now s) (now ends) × (length (spelledFrom 40 (formsOf t count) (split 45 (now s))) ≤ length (now out))
+        × (length (formsOf t count) ≡ length (split 45 (now s))) ⌝ }
     ensures { λ r. ⌜ (r ≡ length (spelledFrom 40 (formsOf t count) (split 45 (now (s .entry)))))
         × (now (out .exit) ≡ front (spelledFrom 40 (formsOf t count) (split 45 (now (s .entry)))) (now (out .entry))) ⌝ }
 {
@@ -121,7 +163,7 @@ fn write_fields(t: MessageType, count: usize, s: &[u8], out: &mut [u8]) -> usize
     let mut at = 0;
     let mut j = 0;
     loop {
-        let e = text::find(s, at, b'-');
+        let e = ends[j];
         o += write_field(lead_of(j), t.form_at(count, j), &s[at..e], &mut out[o..]);
         if e == s.len() {
             out[o] = b')';
@@ -165,6 +207,19 @@ pub fn unexplained_in(plan: &[u8]) -> u8
     )
 }
 
+// The same, of a plan whose fields' ends are known.
+fn unexplained_by(plan: &[u8], ends: &FieldEnds) -> u8
+    requires { ⌜ Ends (now plan) (now ends) × (length (split 45 (now plan)) ≡ 9) ⌝ }
+    ensures { λ r. ⌜ r ≡ unexplainedIn (split 45 (now (plan .entry))) ⌝ }
+{
+    plan::unexplained_field(
+        content_at(plan, ends, kinds::PLAN_9),
+        content_at(plan, ends, kinds::PLAN_13),
+        content_at(plan, ends, kinds::PLAN_16),
+        content_at(plan, ends, kinds::PLAN_18),
+    )
+}
+
 pub fn is_plan(t: MessageType) -> bool
     ensures { λ r. ⌜ r ≡ isPlan t ⌝ }
 {
@@ -205,8 +260,15 @@ fn has_room(t: MessageType, count: usize, s: &[u8], room: usize) -> bool
 }
 
 // Number 11, and the acceptance: everything is checked before the first byte is written.
-fn read_room(t: MessageType, count: usize, msg: &[u8], s: &[u8], out: &mut [u8]) -> Answer
-    requires { ⌜ Counted t (now msg) count (now s) ⌝ }
+fn read_room(
+    t: MessageType,
+    count: usize,
+    msg: &[u8],
+    s: &[u8],
+    ends: &FieldEnds,
+    out: &mut [u8],
+) -> Answer
+    requires { ⌜ Counted t (now msg) count (now s) × Ends (now s) (now ends) ⌝ }
     ensures { λ a. ⌜ (a ≡ roomAs t (now (msg .entry)) (length (now (out .entry))))
         × (now (out .exit) ≡ writtenAs (roomAs t (now (msg .entry)) (length (now (out .entry)))) (now (msg .entry)) (now (out .entry))) ⌝ }
 {
@@ -217,18 +279,25 @@ fn read_room(t: MessageType, count: usize, msg: &[u8], s: &[u8], out: &mut [u8])
             place: 0,
         };
     }
-    let n = write_fields(t, count, s, out);
+    let n = write_fields(t, count, s, ends, out);
     Answer::Accepted(t, n)
 }
 
 // Numbers 10 and 11.
-fn read_explained(t: MessageType, count: usize, msg: &[u8], s: &[u8], out: &mut [u8]) -> Answer
-    requires { ⌜ Counted t (now msg) count (now s) ⌝ }
+fn read_explained(
+    t: MessageType,
+    count: usize,
+    msg: &[u8],
+    s: &[u8],
+    ends: &FieldEnds,
+    out: &mut [u8],
+) -> Answer
+    requires { ⌜ Counted t (now msg) count (now s) × Ends (now s) (now ends) ⌝ }
     ensures { λ a. ⌜ (a ≡ faultAs Fault.Clear t (now (msg .entry)) (length (now (out .entry))))
         × (now (out .exit) ≡ writtenAs (faultAs Fault.Clear t (now (msg .entry)) (length (now (out .entry)))) (now (msg .entry)) (now (out .entry))) ⌝ }
 {
     if is_plan(t) {
-        let field = unexplained_in(s);
+        let field = unexplained_by(s, ends);
         if field != 0 {
             return Answer::Refused {
                 number: 10,
@@ -236,9 +305,9 @@ fn read_explained(t: MessageType, count: usize, msg: &[u8], s: &[u8], out: &mut 
                 place: space::place_of_hyphen(msg, place_in_plan(field)),
             };
         }
-        return read_room(t, count, msg, s, out);
+        return read_room(t, count, msg, s, ends, out);
     }
-    read_room(t, count, msg, s, out)
+    read_room(t, count, msg, s, ends, out)
 }
 
 // The place of a field that has number 7, 8 or 9: its `-`, or 0 for field 3; for 7 the first byte at which no content that fits could go on.
@@ -256,22 +325,23 @@ fn fault_place(number: u8, t: MessageType, count: usize, j: usize, msg: &[u8], s
 
 // Numbers 7 to 11, for the text of a message whose fields are as many as its type allows.
 fn read_text(t: MessageType, count: usize, msg: &[u8], s: &[u8], out: &mut [u8]) -> Answer
-    requires { ⌜ Counted t (now msg) count (now s) ⌝ }
+    requires { ⌜ Counted t (now msg) count (now s) × (length (split 45 (now s)) ≤ 13) ⌝ }
     ensures { λ a. ⌜ (a ≡ fieldsAs t (now (msg .entry)) (length (now (out .entry))))
         × (now (out .exit) ≡ writtenAs (fieldsAs t (now (msg .entry)) (length (now (out .entry)))) (now (msg .entry)) (now (out .entry))) ⌝ }
 {
-    match fields_fault(t, count, s) {
+    let ends = field_ends(s);
+    match fields_fault(t, count, s, &ends) {
         Fault::At { number, field } => Answer::Refused {
             number,
             field: t.form_at(count, field).number(),
             place: fault_place(number, t, count, field, msg, s),
         },
-        Fault::Clear => read_explained(t, count, msg, s, out),
+        Fault::Clear => read_explained(t, count, msg, s, &ends, out),
     }
 }
 
 // Numbers 7 to 11: white space is reduced into a scratch, and the text between the parentheses is read there.
-fn read_reduced(t: MessageType, count: usize, msg: &[u8], out: &mut [u8]) -> Answer
+fn read_scratch(t: MessageType, count: usize, msg: &[u8], out: &mut [u8]) -> Answer
     requires { ⌜ (outer (now msg) ≡ Outer.Good) × (count ≡ countOf (now msg)) × (leastOf t ≤ count) × (count ≤ greatestOf t) ⌝ }
     ensures { λ a. ⌜ (a ≡ fieldsAs t (now (msg .entry)) (length (now (out .entry))))
         × (now (out .exit) ≡ writtenAs (fieldsAs t (now (msg .entry)) (length (now (out .entry)))) (now (msg .entry)) (now (out .entry))) ⌝ }
@@ -280,6 +350,19 @@ fn read_reduced(t: MessageType, count: usize, msg: &[u8], out: &mut [u8]) -> Ans
     let n = space::reduce(msg, &mut scratch);
     let e = n - 1;
     read_text(t, count, msg, &scratch[1..e], out)
+}
+
+// Numbers 7 to 11. A message that is its own reduction is read where it stands.
+fn read_reduced(t: MessageType, count: usize, msg: &[u8], out: &mut [u8]) -> Answer
+    requires { ⌜ (outer (now msg) ≡ Outer.Good) × (count ≡ countOf (now msg)) × (leastOf t ≤ count) × (count ≤ greatestOf t) ⌝ }
+    ensures { λ a. ⌜ (a ≡ fieldsAs t (now (msg .entry)) (length (now (out .entry))))
+        × (now (out .exit) ≡ writtenAs (fieldsAs t (now (msg .entry)) (length (now (out .entry)))) (now (msg .entry)) (now (out .entry))) ⌝ }
+{
+    if space::is_reduced(msg) {
+        let last = msg.len() - 1;
+        return read_text(t, count, msg, &msg[1..last], out);
+    }
+    read_scratch(t, count, msg, out)
 }
 
 // Numbers 6 to 11, for a message of a type.
@@ -351,5 +434,68 @@ pub fn read(msg: &[u8], out: &mut [u8]) -> Answer
             place,
         },
         Outer::Good => read_type(msg, out),
+    }
+}
+
+// Whether the fields of a plan's text have none of the numbers 7 to 10.
+fn is_plan_text(t: MessageType, count: usize, s: &[u8]) -> bool
+    requires { ⌜ (isPlan t ≡ true) × (length (formsOf t count) ≡ length (split 45 (now s))) ⌝ }
+    ensures { λ r. ⌜ r ≡ (isClear (faultIn t count (split 45 (now (s .entry)))) && eqb (unexplainedIn (split 45 (now (s .entry)))) 0) ⌝ }
+{
+    let ends = field_ends(s);
+    match fields_fault(t, count, s, &ends) {
+        Fault::At {
+            number: _,
+            field: _,
+        } => false,
+        Fault::Clear => unexplained_by(s, &ends) == 0,
+    }
+}
+
+// Whether a message of a type is a plan and its own reduction, and numbers 6 to 11 let it pass.
+fn is_plan_counted(t: MessageType, msg: &[u8]) -> bool
+    requires { ⌜ outer (now msg) ≡ Outer.Good ⌝ }
+    ensures { λ r. ⌜ r ≡ (plans (countAs t (now (msg .entry)) most) && same (reduced (now (msg .entry))) (now (msg .entry))) ⌝ }
+{
+    if !is_plan(t) {
+        return false;
+    }
+    if !space::is_reduced(msg) {
+        return false;
+    }
+    let count = space::count_hyphens(msg) + 1;
+    if count < t.least() {
+        return false;
+    }
+    if t.greatest() < count {
+        return false;
+    }
+    let last = msg.len() - 1;
+    is_plan_text(t, count, &msg[1..last])
+}
+
+// The same, for a message that numbers 1 to 3 let pass.
+fn is_plan_typed(msg: &[u8]) -> bool
+    requires { ⌜ outer (now msg) ≡ Outer.Good ⌝ }
+    ensures { λ r. ⌜ r ≡ (plans (outerAs Outer.Good (now (msg .entry)) most) && same (reduced (now (msg .entry))) (now (msg .entry))) ⌝ }
+{
+    match kinds::type_named(three_of(msg)) {
+        Named::Read(t) => is_plan_counted(t, msg),
+        Named::NotRead => false,
+        Named::NoType => false,
+    }
+}
+
+// Whether a message is a plan as it is written: accepted as one, with room enough, and its own reduction. A plan's fields are written as they were sent,
+// so its spelling is then the message itself, and need not be written.
+pub fn is_plan_itself(msg: &[u8]) -> bool
+    ensures { λ r. ⌜ r ≡ planItself (now (msg .entry)) ⌝ }
+{
+    match outer::check_outer(msg) {
+        Outer::Bad {
+            number: _,
+            place: _,
+        } => false,
+        Outer::Good => is_plan_typed(msg),
     }
 }

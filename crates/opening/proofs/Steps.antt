@@ -9,6 +9,7 @@ use lib.ListN.{length, take, drop, length-take, length-drop, length-append}
 use lib.Seq.{take-append-seam, drop-append-le, take-append-le}
 use Rattle.text.specs.Words.{join, same}
 use Rattle.text.specs.Lent.{front}
+use Rattle.space.specs.Reduced.{reduced}
 use Rattle.space.specs.Fields.{inner}
 use Rattle.outer.specs.Outer.{most}
 use Rattle.kinds.specs.declared.MessageType.{MessageType}
@@ -18,8 +19,9 @@ use Rattle.message.specs.declared.Answer.the-variants.{Accepted as ReadAs, Refu
 use Rattle.message.proofs.Reached.{accepted-taken}
 use Rattle.message.proofs.Plans.{plan-type}
 use Rattle.message.proofs.Canonical.{accepted-spelling}
+use Rattle.message.proofs.Itself.{plan-spelling}
 use Rattle.message.specs.Message.{sentContents, recordIn}
-use Rattle.message.specs.Reading.{isPlan, spellingOf, answerOf, writtenAs as readWritten, outAfter as readAfter}
+use Rattle.message.specs.Reading.{isPlan, spellingOf, answerOf, writtenAs as readWritten, outAfter as readAfter, plans, planItself}
 use Rattle.state.specs.declared.Strip.{Strip}
 use Rattle.state.specs.State.{sound}
 use Rattle.opening.specs.declared.Opening.{Opening}
@@ -65,24 +67,23 @@ pub refused-stays : (m buf : List ℕ) (number field place : ℕ) → answerOf m
 unfolding readAfter
 refused-stays m buf number field place e = ap (λ (a : Answer). readWritten a m buf) e
 
--- THE CANONICAL PLAN
+-- THE CANONICAL PLAN is its own reduction: an accepted plan is spelled as it was sent, white space reduced
 
 module _ (strip : List ℕ) where
-  plan-by : {a : Answer} → answerOf strip 1800 ≡ a → canonicalPlan strip ≡ (readAsPlan a && same (spellingOf Fpl strip) strip)
-  unfolding canonicalPlan
-  plan-by e = ap (λ (x : Answer). readAsPlan x && same (spellingOf Fpl strip) strip) e
+  by-answer : (a : Answer) → answerOf strip most ≡ a
+      → (plans a && same (reduced strip) strip) ≡ (readAsPlan a && same (spellingOf Fpl strip) strip)
+  by-answer (NotRead number field place) e = refl
+  by-answer (ReadAs t n) e = go (isPlan t) refl
+    where
+      go : (b : Bool) → isPlan t ≡ b → (b && same (reduced strip) strip) ≡ (b && same (spellingOf Fpl strip) strip)
+      go true p =
+          let spelled : spellingOf t strip ≡ reduced strip = plan-spelling t strip (accepted-taken t strip most n e .reached) p in
+          ap (λ (w : List ℕ). same w strip) (sym spelled) ∙ ap (λ (u : MessageType). same (spellingOf u strip) strip) (plan-type t p)
+      go false p = refl
 
-  pub plan-refused : (number field place : ℕ) → answerOf strip 1800 ≡ NotRead number field place → false ≡ canonicalPlan strip
-  plan-refused number field place e = sym (plan-by e)
-
-  pub plan-other : (t : MessageType) (n : ℕ) → answerOf strip 1800 ≡ ReadAs t n → isPlan t ≡ false → false ≡ canonicalPlan strip
-  plan-other t n e p = sym (plan-by e ∙ ap (λ (b : Bool). b && same (spellingOf Fpl strip) strip) p)
-
-  pub plan-same : (t : MessageType) (n : ℕ) (w : List ℕ) → answerOf strip 1800 ≡ ReadAs t n → isPlan t ≡ true → w ≡ spellingOf t strip
-      → same w strip ≡ canonicalPlan strip
-  plan-same t n w e p k =
-      sym (plan-by e ∙ ap (λ (b : Bool). b && same (spellingOf Fpl strip) strip) p
-      ∙ ap (λ (u : MessageType). same (spellingOf u strip) strip) (sym (plan-type t p)) ∙ ap (λ (v : List ℕ). same v strip) (sym k))
+  pub plan-itself : planItself strip ≡ canonicalPlan strip
+  unfolding planItself canonicalPlan
+  plan-itself = by-answer (answerOf strip most) refl
 
 -- SLICES
 

@@ -15,20 +15,7 @@ pub enum Opening {
 pub fn is_canonical_plan(strip: &[u8]) -> bool
     ensures { λ r. ⌜ r ≡ canonicalPlan (now (strip .entry)) ⌝ }
 {
-    let mut scratch = [0u8; outer::MOST_BYTES];
-    match message::read(strip, &mut scratch) {
-        Answer::Refused {
-            number: _,
-            field: _,
-            place: _,
-        } => false,
-        Answer::Accepted(t, n) => {
-            if !message::is_plan(t) {
-                return false;
-            }
-            text::same_bytes(&scratch[..n], strip)
-        }
-    }
+    message::is_plan_itself(strip)
 }
 
 // A message that was not read: its own number where that is 1 to 9, otherwise 14.

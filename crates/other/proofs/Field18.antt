@@ -4,12 +4,11 @@ use mathlib.Core.Path.{_≡_, refl, sym, ap, _∙_}
 use mathlib.Core.Bool.{Bool, true, false, cond, not, false≢true, true≢false}
 use mathlib.Core.List.{List, [], _∷_, _++_, map}
 use lib.Dec.{ltb}
-use borrow.Author.Tests.{ltb-true, ne-eqb}
-use native.Mathlib.Omega.{arith}
+use borrow.Author.Tests.{ltb-true}
 use Rattle.alphabet.specs.Text.{bytes}
 use Rattle.alphabet.specs.Alphabet.{sign, text, inAlphabet, white}
 use Rattle.text.specs.Words.{Word, split, join, holds, all, null, free, same, textWord, tidyByte, tidyWord, tidy}
-use Rattle.text.proofs.Tests.{both, and-both, all-imp, all-append, all-free, same-eq, of-elem, rank-elem, null-nil}
+use Rattle.text.proofs.Tests.{both, and-both, all-imp, all-append, all-free, same-eq, null-nil}
 use Rattle.text.proofs.Index.{null-split}
 use Rattle.text.proofs.Joined.{join-split, split-join, seam, holds-seam, before-seam, behind-seam, holds-free}
 use Rattle.text.proofs.Tidy.{word-free, sign-tidy, text-tidy, text-word-free, text-word-tidy, tidy-join, oblique-tidy}
@@ -19,6 +18,7 @@ use Rattle.other.specs.Rules.{Edition18, base, rankIn, ruleIn, wordFits,
 use Rattle.other.specs.Field18.{Item, Worded, Field18, nothing, items, worded, spelt, spell18, Groups, put, group, itemsFit, itemsValid, valid18}
 use Rattle.other.specs.Field18.{fitFrom, itemOf, fitsIn, record18, field18In, field18}
 use Rattle.other.proofs.Texts.{word-text, more-text}
+use Rattle.other.proofs.Runs.{key-signs}
 use Rattle.other.proofs.Items.{null-map, items-valid, items-spelled, worded-fit, worded-back}
 
 -- WORDS INTO ITEMS AND BACK
@@ -77,12 +77,6 @@ some-grouped (w ∷ ws) h e = go (holds 47 w) refl e
 -- IN AN EDITION whose keys are signs
 
 module _ (ed : Edition18) (named : all (all sign) (ed .keys) ≡ true) where
-  key-signs : (last : ℕ) (key : Word) → ltb last (rankIn ed key) ≡ true → all sign key ≡ true
-  key-signs last key e =
-      let h : last < rankIn ed key = ltb-true last (rankIn ed key) e in
-      of-elem (all sign) (ed .keys) named key
-      (sym (rank-elem 1 key (ed .keys) (omega arith)) ∙ ap not (ne-eqb (rankIn ed key) 0 (λ q. omega arith)))
-
   record Fit (last : ℕ) (i : Worded) (is : List Worded) : Type 0 where
     behind-last : last < rankIn ed (i .key)
     key : all sign (i .key) ≡ true
@@ -97,7 +91,7 @@ module _ (ed : Edition18) (named : all (all sign) (ed .keys) ≡ true) where
       let c = both (all (moreFits (ruleIn ed (rankIn ed (i .key)))) (i .more)) _ (b .1) in
       record {
         behind-last = ltb-true last (rankIn ed (i .key)) (a .0);
-        key = key-signs last (i .key) (a .0);
+        key = key-signs ed named last (i .key) (a .0);
         first = word-text (ruleIn ed (rankIn ed (i .key))) (i .first) (b .0);
         more = more-text (ruleIn ed (rankIn ed (i .key))) (i .more) (c .0);
         tail = c .1;

@@ -3,6 +3,7 @@ pub mod Dates
 pub mod Elements
 pub mod Items
 pub mod Index
+pub mod Runs
 pub mod Keys
 pub mod Field18
 pub mod ByKey

@@ -1,10 +1,12 @@
 // Field 18, other information: `0` alone, or items.
 ghost use mathlib.Core.Path.{_≡_};
+ghost use mathlib.Core.Bool.{true};
 ghost use mathlib.Core.List.{[]};
 ghost use Prim.Native.Nat.{ℕ, _+_, _-_, _≤_, _<_};
-ghost use lib.ListN.{length, take, drop};
-ghost use Rattle.alphabet.specs.Alphabet.{oneOf};
-ghost use Rattle.text.specs.Words.{split, after, all, elem, cells};
+ghost use lib.Dec.{eqb};
+ghost use lib.ListN.{length, take, drop, getD};
+ghost use Rattle.alphabet.specs.Alphabet.{oneOf, sign, text};
+ghost use Rattle.text.specs.Words.{split, after, upTo, all, elem, cells};
 ghost use Rattle.other.specs.Rules.{statuses, approved, daysIn, date, elapsedIn, selcal, address, wordFits, single, moreFits, ruleIn, ruleOf, edition};
 ghost use Rattle.other.specs.Field18.{fitFrom, fitMore, fitsIn, fits18, hasKey, wordsUnder, wordsFrom, Found};
 
@@ -197,41 +199,71 @@ pub fn rule_in(rules: &[u8], k: usize) -> Rule
     rule_at(rules, k)
 }
 
-// The item that begins at `at`, its key behind the one at place `last`, with all that follows it.
-fn item(keys: &[u8], rules: &[u8], s: &[u8], at: usize, last: usize) -> bool
-    requires { ⌜ at ≤ length (now s) ⌝ }
+// Whether a word ends at e: a space stands there, or the content is over.
+fn word_ends(s: &[u8], e: usize) -> bool
+    requires { ⌜ e ≤ length (now s) ⌝ }
+    ensures { λ r. ⌜ r ≡ eqb (upTo 32 (drop e (now (s .entry)))) 0 ⌝ }
+{
+    if e == s.len() {
+        return true;
+    }
+    s[e] == b' '
+}
+
+// Whether text bytes may stand under a key of this rule. A free rule asks no more of them than that there is one.
+fn text_fits(rule: Rule, w: &[u8]) -> bool
+    requires { ⌜ all text (now w) ≡ true ⌝ }
+    ensures { λ r. ⌜ r ≡ wordFits rule (now (w .entry)) ⌝ }
+{
+    if let Rule::Free = rule {
+        return 0 < w.len();
+    }
+    word_fits(rule, w)
+}
+
+// The item that begins at `at`, its key behind the one at place `last`, with all that follows it. The oblique behind its key stands at `o`.
+fn item(keys: &[u8], rules: &[u8], s: &[u8], at: usize, o: usize, last: usize) -> bool
+    requires { ⌜ (at ≤ o) × (o < length (now s)) × (getD (now s) o 0 ≡ 47) × (all text (take (o - at) (drop at (now s))) ≡ true) ⌝ }
+    requires { ⌜ all (all sign) (cells 4 (now keys)) ≡ true ⌝ }
     ensures { λ r. ⌜ r ≡ fitFrom (edition (cells 4 (now (keys .entry))) (now (rules .entry))) last (split 32 (drop at (now (s .entry)))) ⌝ }
 {
-    let e = text::find(s, at, b' ');
-    let w = &s[at..e];
-    let o = text::find(w, 0, b'/');
-    if o == w.len() {
-        return false;
-    }
-    let k = text::rank_in_cells(&w[..o], 4, keys);
+    let k = text::rank_in_cells(&s[at..o], 4, keys);
     if k <= last {
         return false;
     }
-    if !word_fits(rule_at(rules, k), &w[o + 1..]) {
+    let from = o + 1;
+    let e = text::end_of(text::Kind::Text, s, from);
+    if !word_ends(s, e) {
+        return false;
+    }
+    if !text_fits(rule_at(rules, k), &s[from..e]) {
         return false;
     }
     words(keys, rules, s, e, k)
 }
 
-// What follows a word that ends at `end`, in an item of the key at place k: its further words, and the items behind it.
+// What follows a word that ends at `end`, in an item of the key at place k: its further words, and the items behind it. The text bytes that a word begins with
+// are all of it, or the key of the next item; with any other byte behind them it does not fit, since no key and no rule has such a byte.
 fn words(keys: &[u8], rules: &[u8], s: &[u8], end: usize, k: usize) -> bool
     requires { ⌜ (end ≤ length (now s)) × (0 < k) ⌝ }
+    requires { ⌜ all (all sign) (cells 4 (now keys)) ≡ true ⌝ }
     ensures { λ r. ⌜ r ≡ fitMore (edition (cells 4 (now (keys .entry))) (now (rules .entry))) k (after 32 (drop end (now (s .entry)))) ⌝ }
 {
+    let rule = rule_at(rules, k);
     let mut e = end;
     while e < s.len() {
         let at = e + 1;
-        e = text::find(s, at, b' ');
-        let w = &s[at..e];
-        if text::find(w, 0, b'/') < w.len() {
-            return item(keys, rules, s, at, k);
+        e = text::end_of(text::Kind::Text, s, at);
+        if !word_ends(s, e) {
+            if s[e] != b'/' {
+                return false;
+            }
+            return item(keys, rules, s, at, e, k);
         }
-        if !more_fits(rule_at(rules, k), w) {
+        if is_single(rule) {
+            return false;
+        }
+        if !text_fits(rule, &s[at..e]) {
             return false;
         }
     }
@@ -240,12 +272,20 @@ fn words(keys: &[u8], rules: &[u8], s: &[u8], end: usize, k: usize) -> bool
 
 // Whether a content fits the form in an edition: its keys, in cells of four bytes, and a mark for the rule of each.
 fn fits_edition(keys: &[u8], rules: &[u8], s: &[u8]) -> bool
+    requires { ⌜ all (all sign) (cells 4 (now keys)) ≡ true ⌝ }
     ensures { λ r. ⌜ r ≡ fitsIn (edition (cells 4 (now (keys .entry))) (now (rules .entry))) (now (s .entry)) ⌝ }
 {
     if text::same_bytes(s, b"0") {
         return true;
     }
-    item(keys, rules, s, 0, 0)
+    let o = text::end_of(text::Kind::Text, s, 0);
+    if word_ends(s, o) {
+        return false;
+    }
+    if s[o] != b'/' {
+        return false;
+    }
+    item(keys, rules, s, 0, o, 0)
 }
 
 // Whether a content fits field 18's form.

@@ -10,10 +10,10 @@ use lib.Dec.{ltb}
 use lib.ListN.{length, drop}
 use Rattle.alphabet.specs.Text.{bytes}
 use Rattle.alphabet.specs.Alphabet.{letter, sign, text, inAlphabet, white, oneOf}
-use Rattle.text.specs.Words.{Word, split, holds, before, behind, all, elem}
+use Rattle.text.specs.Words.{Word, split, holds, before, behind, all, elem, leading}
 use Rattle.shape.specs.Shape.{letters}
 use Rattle.shape.specs.Time.{timeFits, elapsedHours}
-use Rattle.places.specs.Parts.{larger, front, noMore, fixedPlace, timePlace, passes}
+use Rattle.places.specs.Parts.{larger, noMore, fixedPlace, timePlace, passes}
 use Rattle.places.specs.Words.{Words, wordsPlace}
 use Rattle.places.specs.Given.{given, orZero}
 use Rattle.entries.specs.Entries.{Entry, matched, anyOf, entryPlace, entriesPlace}
@@ -45,7 +45,7 @@ rulePlace Day w = passes dateGo [] w
 rulePlace Timed w = signsTime 10 w
 rulePlace Selcal w = fixedPlace letter 4 noMore w
 rulePlace Address w = fixedPlace (λ b. oneOf b hexadecimal) 6 noMore w
-rulePlace Free w = front text w
+rulePlace Free w = leading text w
 
 -- THE WORDS
 

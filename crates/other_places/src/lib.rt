@@ -5,9 +5,9 @@ ghost use mathlib.Core.List.{[], _++_};
 ghost use mathlib.Core.Bool.{true};
 ghost use lib.ListN.{length, drop};
 ghost use Rattle.alphabet.specs.Alphabet.{sign, oneOf};
-ghost use Rattle.text.specs.Words.{before, cells};
+ghost use Rattle.text.specs.Words.{before, cells, leading};
 ghost use Rattle.shape.specs.Time.{elapsedHours};
-ghost use Rattle.places.specs.Parts.{front, fixedPlace, timePlace, passes};
+ghost use Rattle.places.specs.Parts.{fixedPlace, timePlace, passes};
 ghost use Rattle.entries.specs.Entries.{entryPlace};
 ghost use Rattle.other.specs.Rules.{date, edition, base};
 ghost use Rattle.other.specs.declared.Rule.the-variants.{Status, Approvals, Selcal, Address, Free};
@@ -91,7 +91,7 @@ fn selcal_place(w: &[u8]) -> usize
 
 // How many bytes at the front are of a set.
 fn front_in(w: &[u8], set: &[u8]) -> usize
-    ensures { λ r. ⌜ r ≡ front (λ b. oneOf b (now (set .entry))) (now (w .entry)) ⌝ }
+    ensures { λ r. ⌜ r ≡ leading (λ b. oneOf b (now (set .entry))) (now (w .entry)) ⌝ }
 {
     let mut i = 0;
     while i < w.len() {

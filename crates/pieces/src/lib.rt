@@ -25,7 +25,7 @@ pub fn piece_end(s: &[u8], from: usize) -> usize
     if s.len() <= from {
         return s.len();
     }
-    let e = text::find(s, from, b')');
+    let e = text::find_far(s, from, b')');
     if e < s.len() {
         return e + 1;
     }

@@ -9,11 +9,11 @@ use lib.Dec.{eqb}
 use lib.ListN.{length, take, drop, drop-of-length-le}
 use lib.Seq.{take-all}
 use borrow.Author.Tests.{eqb-true, eq-eqb, ltb-true, ltb-false, lt-ltb}
-use Rattle.text.specs.Words.{null, free, upTo, holds, before, behind}
+use Rattle.text.specs.Words.{null, free, upTo, holds, before, behind, leading}
 use Rattle.text.proofs.Tests.{both}
 use Rattle.text.proofs.Index.{upTo-le}
 use Rattle.places.specs.Place.{IsPlace}
-use Rattle.places.specs.Parts.{front, thenFits, thenPlace, firstFits, firstPlace, cutPlace}
+use Rattle.places.specs.Parts.{thenFits, thenPlace, firstFits, firstPlace, cutPlace}
 use Rattle.places.proofs.Place.{place-of-language}
 use Rattle.places.proofs.Parts.{stops, then-place}
 use Rattle.places.proofs.Leaves.{first-place, maybe-place}
@@ -25,11 +25,11 @@ but c b = not (eqb b c)
 abbrev pub is : ℕ → ℕ → Bool
 is c b = eqb b c
 
-pub front-upTo : (c : ℕ) (s : List ℕ) → front (but c) s ≡ upTo c s
+pub front-upTo : (c : ℕ) (s : List ℕ) → leading (but c) s ≡ upTo c s
 front-upTo c [] = refl
 front-upTo c (b ∷ s) = go (eqb b c) (front-upTo c s)
   where
-    go : (x : Bool) → front (but c) s ≡ upTo c s → cond (not x) (suc (front (but c) s)) 0 ≡ cond x 0 (suc (upTo c s))
+    go : (x : Bool) → leading (but c) s ≡ upTo c s → cond (not x) (suc (leading (but c) s)) 0 ≡ cond x 0 (suc (upTo c s))
     go true e = refl
     go false e = ap suc e
 

@@ -9,14 +9,14 @@ use lib.Dec.{leb, leb·suc-suc}
 use lib.ListN.{length, drop}
 use borrow.Author.Tests.{leb-true, le-leb, lt-leb}
 use Rattle.alphabet.specs.Alphabet.{digit}
-use Rattle.text.specs.Words.{Word, null}
+use Rattle.text.specs.Words.{Word, null, leading}
 use Rattle.text.proofs.Tests.{both}
 use Rattle.shape.specs.Shape.{wide}
 use Rattle.shape.specs.Time.{hoursMinutes, hours, minutes, timeFits}
 use Rattle.shape.proofs.Numbers.{digit-range, range-digit}
 use Rattle.shape.proofs.Index.{fits-other}
 use Rattle.places.specs.Place.{IsPlace}
-use Rattle.places.specs.Parts.{front, firstFits, firstPlace, noMore, fixedFits, fixedPlace, tens, units, sixty, minutesPlace, timePlace}
+use Rattle.places.specs.Parts.{firstFits, firstPlace, noMore, fixedFits, fixedPlace, tens, units, sixty, minutesPlace, timePlace}
 use Rattle.places.proofs.Given.{iff}
 use Rattle.places.proofs.Place.{place-of-language}
 use Rattle.places.proofs.Leaves.{nil-place, first-place, fill}
@@ -30,17 +30,17 @@ module _ (p : ℕ → Bool) (g : List ℕ → Bool) (pg : List ℕ → ℕ) wher
   stepped (suc n) s = firstPlace p (λ a. stepped n) s
 
   stepped-is : (n : ℕ) (s : List ℕ) → ((s : List ℕ) → IsPlace g s (pg s)) → stepped n s ≡ fixedPlace p n pg s
-  stepped-is zero s h = sym (rw (le-leb 0 (front p s) (omega arith)) (zero-add (pg s)))
+  stepped-is zero s h = sym (rw (le-leb 0 (leading p s) (omega arith)) (zero-add (pg s)))
   stepped-is (suc n) [] h = sym (rw (lt-leb (suc n) 0 (omega arith)))
   stepped-is (suc n) (b ∷ s) h = go (p b) (stepped-is n s h)
     where
-      inner : (x : Bool) → suc (cond x (n + pg (drop n s)) (front p s)) ≡ cond x (suc n + pg (drop n s)) (suc (front p s))
+      inner : (x : Bool) → suc (cond x (n + pg (drop n s)) (leading p s)) ≡ cond x (suc n + pg (drop n s)) (suc (leading p s))
       inner true = sym (suc-add n (pg (drop n s)))
       inner false = refl
 
       go : (x : Bool) → stepped n s ≡ fixedPlace p n pg s
-          → cond x (suc (stepped n s)) 0 ≡ cond (leb (suc n) (cond x (suc (front p s)) 0)) (suc n + pg (drop n s)) (cond x (suc (front p s)) 0)
-      go true e = ap suc e ∙ rw (leb·suc-suc n (front p s)) (inner (leb n (front p s)))
+          → cond x (suc (stepped n s)) 0 ≡ cond (leb (suc n) (cond x (suc (leading p s)) 0)) (suc n + pg (drop n s)) (cond x (suc (leading p s)) 0)
+      go true e = ap suc e ∙ rw (leb·suc-suc n (leading p s)) (inner (leb n (leading p s)))
       go false e = sym (rw (lt-leb (suc n) 0 (omega arith)))
 
   module _ (right : (s : List ℕ) → IsPlace g s (pg s)) (e : List ℕ) (ge : g e ≡ true) (b : ℕ) (pb : p b ≡ true) where

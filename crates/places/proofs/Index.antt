@@ -8,23 +8,13 @@ use lib.Dec.{ltb}
 use lib.ListN.{length, take, drop, getD, length-drop}
 use lib.Seq.{drop-drop}
 use native.Mathlib.Omega.{arith}
-use Rattle.text.specs.Words.{Word, null, split, upTo, holds, behind}
+use Rattle.text.specs.Words.{Word, null, split, upTo, holds, behind, leading}
 use native.Mathlib.Nat.{not-suc-le-zero}
 use borrow.Author.Tests.{lt-ltb, le-ltb, lt-leb, le-leb}
 use Rattle.text.proofs.Index.{drop-here, drop-end, rest, split-at, after-here, after-end, null-split, found, found-none, found-before, found-behind}
 use Rattle.shape.specs.Shape.{inClass, fits}
 use Rattle.places.specs.Words.{Words, onward, wordsPlace}
-use Rattle.places.specs.Parts.{front, along, firstPlace, noMore, fixedPlace, tens, units, minutesPlace, timePlace, cutPlace, thenPlace, passes}
-
-module _ (p : ℕ → Bool) (s : List ℕ) (i : ℕ) where
-  pub front-stop : i < length s → p (getD s i 0) ≡ false → front p (drop i s) ≡ 0
-  front-stop h e = rw (drop-here s i h, e)
-
-  pub front-next : i < length s → p (getD s i 0) ≡ true → front p (drop i s) ≡ suc (front p (drop (i + 1) s))
-  front-next h e = rw (drop-here s i h, e)
-
-  pub front-end : length s ≤ i → front p (drop i s) ≡ 0
-  front-end h = rw (drop-end s i h)
+use Rattle.places.specs.Parts.{along, firstPlace, noMore, fixedPlace, tens, units, minutesPlace, timePlace, cutPlace, thenPlace, passes}
 
 module _ (t w : Word) (i : ℕ) where
   pub along-stop : i < length t → i < length w → inClass (getD t i 0) (getD w i 0) ≡ false → along (drop i t) (drop i w) ≡ 0
@@ -106,7 +96,7 @@ module _ (c : ℕ) (f : List ℕ → Bool) (pf pg : List ℕ → ℕ) (s : List 
 
 -- ONE PART BEHIND ANOTHER, where n bytes in front are of the set
 
-module _ (p : ℕ → Bool) (f : List ℕ → Bool) (pf pg : List ℕ → ℕ) (s : List ℕ) (n : ℕ) (end : n ≡ front p s) where
+module _ (p : ℕ → Bool) (f : List ℕ → Bool) (pf pg : List ℕ → ℕ) (s : List ℕ) (n : ℕ) (end : n ≡ leading p s) where
   pub then-none : (r : ℕ) → n ≡ length s → r ≡ pf (take n s) → r ≡ thenPlace p f pf pg s
   then-none r h e = rw (← end, le-ltb n (length s) (omega arith)) e
 
@@ -172,7 +162,7 @@ module _ (W : Words) (pw : W .K → Word → ℕ) (k : W .K) (s : List ℕ) (at 
 
 -- SO MANY BYTES OF A SET
 
-module _ (p : ℕ → Bool) (n : ℕ) (pg : List ℕ → ℕ) (s : List ℕ) (m : ℕ) (end : m ≡ front p s) where
+module _ (p : ℕ → Bool) (n : ℕ) (pg : List ℕ → ℕ) (s : List ℕ) (m : ℕ) (end : m ≡ leading p s) where
   pub fixed-short : m < n → m ≡ fixedPlace p n pg s
   fixed-short h = rw (← end, lt-leb n m h)
 

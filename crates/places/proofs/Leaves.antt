@@ -9,11 +9,11 @@ use lib.Dec.{leb}
 use lib.ListN.{length, take, length-append}
 use lib.Seq.{length-take-le}
 use borrow.Author.Tests.{leb-true, leb-false, le-leb, lt-leb}
-use Rattle.text.specs.Words.{Word, all, null}
+use Rattle.text.specs.Words.{Word, all, null, leading}
 use Rattle.text.proofs.Tests.{both, and-both, and-false, all-append}
 use Rattle.shape.specs.Shape.{inClass, fits, any}
 use Rattle.places.specs.Place.{IsPlace, Hopeful, Hopeless}
-use Rattle.places.specs.Parts.{larger, front, firstFits, firstPlace, noMore, runFits, runPlace, along, farthest, sample, sampled, passes}
+use Rattle.places.specs.Parts.{larger, firstFits, firstPlace, noMore, runFits, runPlace, along, farthest, sample, sampled, passes}
 use Rattle.places.proofs.Given.{or-cond}
 use Rattle.places.proofs.Larger.{larger-first, larger-under}
 use Rattle.places.proofs.Place.{place-of-language, no-place, either-place}
@@ -69,25 +69,25 @@ fill-all : (p : ℕ → Bool) (b n : ℕ) → p b ≡ true → all p (fill b n) 
 fill-all p b zero e = refl
 fill-all p b (suc n) e = rw (e, fill-all p b n e)
 
-pub front-le : (p : ℕ → Bool) (s : List ℕ) → front p s ≤ length s
+pub front-le : (p : ℕ → Bool) (s : List ℕ) → leading p s ≤ length s
 front-le p [] = omega arith
 front-le p (b ∷ s) = go (p b) (front-le p s)
   where
-    go : (c : Bool) → front p s ≤ length s → cond c (suc (front p s)) 0 ≤ suc (length s)
+    go : (c : Bool) → leading p s ≤ length s → cond c (suc (leading p s)) 0 ≤ suc (length s)
     go true h = omega arith
     go false h = omega arith
 
-pub front-all : (p : ℕ → Bool) (s : List ℕ) (n : ℕ) → n ≤ front p s → all p (take n s) ≡ true
+pub front-all : (p : ℕ → Bool) (s : List ℕ) (n : ℕ) → n ≤ leading p s → all p (take n s) ≡ true
 front-all p s zero h = refl
 front-all p [] (suc n) h = refl
 front-all p (b ∷ s) (suc n) h = go (front-all p s n) (p b) refl h
   where
-    go : (n ≤ front p s → all p (take n s) ≡ true) → (c : Bool) → p b ≡ c → suc n ≤ cond c (suc (front p s)) 0 → (p b && all p (take n s)) ≡ true
+    go : (n ≤ leading p s → all p (take n s) ≡ true) → (c : Bool) → p b ≡ c → suc n ≤ cond c (suc (leading p s)) 0 → (p b && all p (take n s)) ≡ true
     go ih true e l = rw (e, ih (le-of-suc-le-suc l))
     go ih false e l = absurd (not-suc-le-zero l)
 
 -- bytes that are all of a set are in front
-pub all-front : (p : ℕ → Bool) (n : ℕ) (s : List ℕ) → n ≤ length s → all p (take n s) ≡ true → n ≤ front p s
+pub all-front : (p : ℕ → Bool) (n : ℕ) (s : List ℕ) → n ≤ length s → all p (take n s) ≡ true → n ≤ leading p s
 all-front p zero s l e = omega arith
 all-front p (suc n) [] l e = absurd (not-suc-le-zero l)
 all-front p (suc n) (b ∷ s) l e =
@@ -95,20 +95,20 @@ all-front p (suc n) (b ∷ s) l e =
     let i = all-front p n s (le-of-suc-le-suc l) (h .1) in
     rw (h .0) (suc-le i)
   where
-    suc-le : n ≤ front p s → suc n ≤ suc (front p s)
+    suc-le : n ≤ leading p s → suc n ≤ suc (leading p s)
     suc-le i = omega arith
 
-front-off : (p : ℕ → Bool) (s : List ℕ) → front p s < length s → (t : List ℕ) → all p (take (suc (front p s)) s ++ t) ≡ false
+front-off : (p : ℕ → Bool) (s : List ℕ) → leading p s < length s → (t : List ℕ) → all p (take (suc (leading p s)) s ++ t) ≡ false
 front-off p [] h t = absurd (not-suc-le-zero h)
 front-off p (b ∷ s) h t = go (λ l. front-off p s l t) (p b) refl h
   where
-    go : (front p s < length s → all p (take (suc (front p s)) s ++ t) ≡ false) → (c : Bool) → p b ≡ c → cond c (suc (front p s)) 0 < suc (length s)
-        → all p (take (suc (cond c (suc (front p s)) 0)) (b ∷ s) ++ t) ≡ false
-    go ih true e l = and-false (p b) (all p (take (suc (front p s)) s ++ t)) (ih (le-of-suc-le-suc l))
+    go : (leading p s < length s → all p (take (suc (leading p s)) s ++ t) ≡ false) → (c : Bool) → p b ≡ c → cond c (suc (leading p s)) 0 < suc (length s)
+        → all p (take (suc (cond c (suc (leading p s)) 0)) (b ∷ s) ++ t) ≡ false
+    go ih true e l = and-false (p b) (all p (take (suc (leading p s)) s ++ t)) (ih (le-of-suc-le-suc l))
     go ih false e l = rw e
 
 module _ (least most : ℕ) (p : ℕ → Bool) (l : least ≤ most) (b : ℕ) (e : p b ≡ true) where
-  run-on : (s : List ℕ) (k : ℕ) → suc k ≤ most → suc k ≤ front p s → Hopeful (runFits least most p) s k
+  run-on : (s : List ℕ) (k : ℕ) → suc k ≤ most → suc k ≤ leading p s → Hopeful (runFits least most p) s k
   run-on s k m h =
       let t = fill b (least - suc k) in
       let w = take (suc k) s ++ t in
@@ -121,9 +121,9 @@ module _ (least most : ℕ) (p : ℕ → Bool) (l : least ≤ most) (b : ℕ) (e
             (all-append p (take (suc k) s) t (front-all p s (suc k) h) (fill-all p b (least - suc k) e))),
       )
 
-  run-off : (s : List ℕ) → front p s < length s → Hopeless (runFits least most p) s (front p s)
+  run-off : (s : List ℕ) → leading p s < length s → Hopeless (runFits least most p) s (leading p s)
   run-off s h t =
-      let w = take (suc (front p s)) s ++ t in
+      let w = take (suc (leading p s)) s ++ t in
       and-false (leb least (length w)) (leb (length w) most && all p w) (and-false (leb (length w) most) (all p w) (front-off p s h t))
 
   run-over : (s : List ℕ) → most < length s → Hopeless (runFits least most p) s most
@@ -133,29 +133,29 @@ module _ (least most : ℕ) (p : ℕ → Bool) (l : least ≤ most) (b : ℕ) (e
       and-false (leb least (length w)) (leb (length w) most && all p w) (rw (lt-leb (length w) most n))
 
   pub run-place : (s : List ℕ) → IsPlace (runFits least most p) s (runPlace most p s)
-  run-place s = go (leb most (front p s)) refl
+  run-place s = go (leb most (leading p s)) refl
     where
-      go : (c : Bool) → leb most (front p s) ≡ c → IsPlace (runFits least most p) s (cond c most (front p s))
+      go : (c : Bool) → leb most (leading p s) ≡ c → IsPlace (runFits least most p) s (cond c most (leading p s))
       go true q =
-          let m : most ≤ front p s = leb-true most (front p s) q in
+          let m : most ≤ leading p s = leb-true most (leading p s) q in
           record { within = (let x = front-le p s in omega arith); before = λ k h. run-on s k h (omega arith); there = run-over s }
       go false q =
-          let m : front p s < most = leb-false most (front p s) q in
+          let m : leading p s < most = leb-false most (leading p s) q in
           record { within = front-le p s; before = λ k h. run-on s k (omega arith) h; there = run-off s }
 
 -- a place before that of a run is before the greatest length and before the first byte that is not of the set
 module _ (p : ℕ → Bool) (s : List ℕ) (most k : ℕ) where
-  pub run-below : k < runPlace most p s → (k < most) × (k < front p s)
-  run-below = go (leb most (front p s)) refl
+  pub run-below : k < runPlace most p s → (k < most) × (k < leading p s)
+  run-below = go (leb most (leading p s)) refl
     where
-      go : (c : Bool) → leb most (front p s) ≡ c → k < cond c most (front p s) → (k < most) × (k < front p s)
-      go true e h = let l = leb-true most (front p s) e in (h, omega arith)
-      go false e h = let l = leb-false most (front p s) e in (omega arith, h)
+      go : (c : Bool) → leb most (leading p s) ≡ c → k < cond c most (leading p s) → (k < most) × (k < leading p s)
+      go true e h = let l = leb-true most (leading p s) e in (h, omega arith)
+      go false e h = let l = leb-false most (leading p s) e in (omega arith, h)
 
-  pub run-above : k < most → k < front p s → k < runPlace most p s
-  run-above h i = go (leb most (front p s))
+  pub run-above : k < most → k < leading p s → k < runPlace most p s
+  run-above h i = go (leb most (leading p s))
     where
-      go : (c : Bool) → k < cond c most (front p s)
+      go : (c : Bool) → k < cond c most (leading p s)
       go true = h
       go false = i
 

@@ -9,10 +9,10 @@ use lib.Dec.{ltb}
 use lib.ListN.{length, take, drop, length-append}
 use lib.Seq.{take-append-seam, drop-append-seam}
 use borrow.Author.Tests.{ltb-true, ltb-false, not-true}
-use Rattle.text.specs.Words.{all}
+use Rattle.text.specs.Words.{all, leading}
 use Rattle.text.proofs.Tests.{both, and-both, all-append}
 use Rattle.places.specs.Place.{IsPlace, Hopeful, Hopeless}
-use Rattle.places.specs.Parts.{front, thenFits, thenPlace}
+use Rattle.places.specs.Parts.{thenFits, thenPlace}
 
 -- CUTTING at the first byte that is not of the set
 
@@ -21,7 +21,7 @@ stops p [] = true
 stops p (b ∷ t) = not (p b)
 
 module _ (p : ℕ → Bool) where
-  pub front-cut : (a r : List ℕ) → all p a ≡ true → stops p r ≡ true → front p (a ++ r) ≡ length a
+  pub front-cut : (a r : List ℕ) → all p a ≡ true → stops p r ≡ true → leading p (a ++ r) ≡ length a
   front-cut [] [] e h = refl
   front-cut [] (b ∷ r) e h = rw (not-true (p b) h)
   front-cut (x ∷ a) r e h = let q = both (p x) (all p a) e in rw (q .0, front-cut a r (q .1) h)

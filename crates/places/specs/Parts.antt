@@ -4,7 +4,7 @@ use mathlib.Core.Bool.{Bool, false, _&&_, cond}
 use mathlib.Core.List.{List, [], _∷_, _++_}
 use lib.Dec.{leb, ltb}
 use lib.ListN.{length, take, drop, getD}
-use Rattle.text.specs.Words.{Word, all, upTo, holds, before, behind}
+use Rattle.text.specs.Words.{Word, all, upTo, holds, before, behind, leading}
 use Rattle.alphabet.specs.Alphabet.{digit}
 use Rattle.shape.specs.Shape.{inClass, letters, fits}
 
@@ -15,18 +15,13 @@ larger p q = cond (leb p q) q p
 abbrev pub smaller : ℕ → ℕ → ℕ
 smaller p q = cond (leb p q) p q
 
--- how many bytes at the front are of a set
-abbrev pub front : (ℕ → Bool) → List ℕ → ℕ
-front p [] = 0
-front p (b ∷ s) = cond (p b) (suc (front p s)) 0
-
 -- ONE PART BEHIND ANOTHER, cut at the first byte that is not of a set: f before it, g from it on
 
 abbrev pub inFront : (ℕ → Bool) → List ℕ → List ℕ
-inFront p s = take (front p s) s
+inFront p s = take (leading p s) s
 
 abbrev pub fromThere : (ℕ → Bool) → List ℕ → List ℕ
-fromThere p s = drop (front p s) s
+fromThere p s = drop (leading p s) s
 
 abbrev pub thenFits : (ℕ → Bool) → (f g : List ℕ → Bool) → List ℕ → Bool
 thenFits p f g s = f (inFront p s) && g (fromThere p s)
@@ -34,8 +29,8 @@ thenFits p f g s = f (inFront p s) && g (fromThere p s)
 -- the place is in g's part where f's part fits and something stands behind it, and else in f's
 abbrev pub thenPlace : (ℕ → Bool) → (List ℕ → Bool) → (pf pg : List ℕ → ℕ) → List ℕ → ℕ
 thenPlace p f pf pg s =
-    cond (ltb (front p s) (length s) && f (inFront p s))
-    (front p s + pg (fromThere p s))
+    cond (ltb (leading p s) (length s) && f (inFront p s))
+    (leading p s + pg (fromThere p s))
     (pf (inFront p s))
 
 -- the same cut at the first c, which belongs to neither part
@@ -71,7 +66,7 @@ fixedFits p zero g s = g s
 fixedFits p (suc n) g s = firstFits p (λ a. fixedFits p n g) s
 
 abbrev pub fixedPlace : (ℕ → Bool) → ℕ → (List ℕ → ℕ) → List ℕ → ℕ
-fixedPlace p n pg s = cond (leb n (front p s)) (n + pg (drop n s)) (front p s)
+fixedPlace p n pg s = cond (leb n (leading p s)) (n + pg (drop n s)) (leading p s)
 
 -- A TIME, for a greatest hour: the hours' first digit, both, the minutes' first digit, and the last
 
@@ -96,7 +91,7 @@ abbrev pub runFits : ℕ → ℕ → (ℕ → Bool) → List ℕ → Bool
 runFits least most p w = leb least (length w) && (leb (length w) most && all p w)
 
 abbrev pub runPlace : ℕ → (ℕ → Bool) → List ℕ → ℕ
-runPlace most p w = smaller most (front p w)
+runPlace most p w = smaller most (leading p w)
 
 -- A SHAPE, AND A LIST OF SHAPES: how far the bytes follow the shape, and how far they follow the one that they follow farthest
 

@@ -2,8 +2,9 @@
 ghost use mathlib.Core.Path.{_≡_};
 ghost use Prim.Native.Nat.{_≤_};
 ghost use lib.ListN.{length};
+ghost use Rattle.text.specs.Words.{leading};
 ghost use Rattle.text.specs.Kinds.{ofKind};
-ghost use Rattle.places.specs.Parts.{larger, smaller, front, runPlace, along, twoDigits, timePlace};
+ghost use Rattle.places.specs.Parts.{larger, smaller, runPlace, along, twoDigits, timePlace};
 use text::Kind;
 
 pub fn larger_of(p: usize, q: usize) -> usize
@@ -26,16 +27,9 @@ pub fn smaller_of(p: usize, q: usize) -> usize
 
 // How many bytes at the front are of a kind.
 pub fn front_of(k: Kind, s: &[u8]) -> usize
-    ensures { λ r. ⌜ (r ≡ front (ofKind k) (now (s .entry))) × (r ≤ length (now (s .entry))) ⌝ }
+    ensures { λ r. ⌜ (r ≡ leading (ofKind k) (now (s .entry))) × (r ≤ length (now (s .entry))) ⌝ }
 {
-    let mut i = 0;
-    while i < s.len() {
-        if !text::is_kind(k, s[i]) {
-            return i;
-        }
-        i += 1;
-    }
-    i
+    text::end_of(k, s, 0)
 }
 
 // The place of a run of bytes of a kind, at most so many.

@@ -10,13 +10,13 @@ use lib.Seq.{length-take-le, take-all}
 use borrow.Author.Tests.{leb-true, leb-false, le-leb, lt-leb, ltb-true, lt-ltb, le-ltb, eqb-true, eq-eqb}
 use Rattle.alphabet.specs.Text.{bytes}
 use Rattle.alphabet.specs.Alphabet.{sign}
-use Rattle.text.specs.Words.{Word, all, same, elem}
+use Rattle.text.specs.Words.{Word, all, same, elem, leading}
 use Rattle.text.proofs.Tests.{both, and-both, and-false, same-eq, of-elem}
 use Rattle.shape.specs.Numbers.{value}
 use Rattle.shape.specs.Shape.{letters, fits, wide}
 use Rattle.shape.proofs.Index.{fits-lengths, fits-other}
 use Rattle.places.specs.Place.{IsPlace, Hopeful}
-use Rattle.places.specs.Parts.{larger, front, runFits, runPlace}
+use Rattle.places.specs.Parts.{larger, runFits, runPlace}
 use Rattle.places.proofs.Given.{iff}
 use Rattle.places.proofs.Place.{place-of-language, either-place, sandwich, absorbed}
 use Rattle.places.proofs.Leaves.{run-place, run-below, run-above, front-le, front-all, all-front}
@@ -249,7 +249,7 @@ few-signs w e =
     rw (a .0, le-leb (length w) 7 (omega arith), b .1, fits-other (wide short) w (λ q. omega arith))
 
 -- up to six signs go on
-six-on : (s : List ℕ) (k : ℕ) → k < 6 → k < front sign s → Hopeful signs7 s k
+six-on : (s : List ℕ) (k : ℕ) → k < 6 → k < leading sign s → Hopeful signs7 s k
 six-on s k h i =
     let t = run-place 2 6 sign (omega arith) 65 refl s .before k (run-above sign s 6 k h i) in
     (t .0, few-signs (take (suc k) s ++ t .0) (t .1))
@@ -273,7 +273,7 @@ signs-right s = go (outOfRange (take 7 s)) refl
     refused e [] = rw (append-nil (take 7 s), e) (and-false (runFits 2 7 sign (take 7 s)) false refl)
     refused e (b ∷ t) = long-off (take 7 s) (b ∷ t) (range-parts (take 7 s) e .0) (λ n. omega arith)
 
-    whole : outOfRange (take 7 s) ≡ false → 7 ≤ front sign s → signs7 (take 7 s) ≡ true
+    whole : outOfRange (take 7 s) ≡ false → 7 ≤ leading sign s → signs7 (take 7 s) ≡ true
     whole e l =
         let i = front-le sign s in
         let n : length (take 7 s) ≡ 7 = length-take-le 7 s (omega arith) in
@@ -283,7 +283,7 @@ signs-right s = go (outOfRange (take 7 s)) refl
     go true e =
         let r = range-parts (take 7 s) e in
         let m : 7 ≤ length s = long-enough (r .0) in
-        let f : 7 ≤ front sign s = all-front sign 7 s m (r .1) in
+        let f : 7 ≤ leading sign s = all-front sign 7 s m (r .1) in
         record { within = omega arith; before = λ k h. six-on s k h (omega arith); there = λ h. refused e }
       where
         long-enough : length (take 7 s) ≡ 7 → 7 ≤ length s
@@ -300,7 +300,7 @@ signs-right s = go (outOfRange (take 7 s)) refl
           there = λ h t. rw (run-place 2 7 sign (omega arith) 65 refl s .there h t);
         }
       where
-        on : (k : ℕ) → k < 7 → k < front sign s → (x : Bool) → eqb k 6 ≡ x → Hopeful signs7 s k
+        on : (k : ℕ) → k < 7 → k < leading sign s → (x : Bool) → eqb k 6 ≡ x → Hopeful signs7 s k
         on k h i true q =
             let z : k ≡ 6 = eqb-true k 6 q in
             ([], ap (λ (n : ℕ). signs7 (take (suc n) s ++ [])) z ∙ ap signs7 (append-nil (take 7 s)) ∙ whole e (omega arith))

@@ -7,15 +7,15 @@ use native.Mathlib.Omega.{arith}
 use native.Mathlib.Numerals.{add-one}
 use lib.Arith.{lt-of-le-ne}
 use lib.ListN.{length, take, drop}
-use borrow.Author.Tests.{lt-ltb, le-ltb}
+use borrow.Author.Tests.{lt-ltb}
 use Rattle.alphabet.specs.Text.{bytes}
-use Rattle.text.specs.Words.{Word, split, upTo, same}
+use Rattle.text.specs.Words.{Word, split, after, upTo, null, same}
 use Rattle.text.proofs.Index.{split-at, after-here, after-end, rest, null-split}
 use Rattle.text.proofs.Tests.{and-false}
 use Rattle.shape.specs.Shape.{wides, any}
 use Rattle.route.specs.Levels.{speeds, levels, starts, changes, climbs}
 use Rattle.route.specs.Points.{pointFits}
-use Rattle.route.specs.Field15.{pairFits, wordFits, elementFits, routeFits, fits15}
+use Rattle.route.specs.Field15.{pairFits, elementFits, routeFits, fits15}
 
 -- THE LISTS OF SHAPES, byte for byte as the code has them
 
@@ -42,15 +42,6 @@ pub climbs-wide : split 32 climbs-text ≡ wides climbs
 unfolding climbs speeds levels
 climbs-wide = refl
 
-pub starts-list : (w : Word) → any (split 32 starts-text) w ≡ any (wides starts) w
-starts-list w = ap (λ (ts : List Word). any ts w) starts-wide
-
-pub changes-list : (w : Word) → pairFits (split 32 changes-text) w ≡ pairFits (wides changes) w
-changes-list w = ap (λ (ts : List Word). pairFits ts w) changes-wide
-
-pub climbs-list : (w : Word) → pairFits (split 32 climbs-text) w ≡ pairFits (wides climbs) w
-climbs-list w = ap (λ (ts : List Word). pairFits ts w) climbs-wide
-
 -- with what Rattle says of `&w[i..]`
 pub climbs-rest : (w : Word) (i : ℕ) → pairFits (wides climbs) (take (length w - i) (drop i w)) ≡ pairFits (wides climbs) (drop i w)
 climbs-rest w i = ap (pairFits (wides climbs)) (rest w i)
@@ -61,17 +52,9 @@ module _ (w : Word) (o : ℕ) (at : o ≡ 0 + upTo 47 w) where
   at′ : o ≡ upTo 47 w
   at′ = omega arith
 
-  pub pair-none : (ts : List Word) → o ≡ length w → pairFits ts w ≡ false
-  unfolding pairFits
-  pair-none ts h = rw (← at′, le-ltb o (length w) (omega arith))
-
   pub pair-at : (ts : List Word) → (o ≡ length w → ⊥) → o ≤ length w → pairFits ts w ≡ (pointFits 5 (take o w) && any ts (drop (o + 1) w))
   unfolding pairFits
   pair-at ts ne le = rw (← at′, lt-ltb o (length w) (lt-of-le-ne le ne), add-one o)
-
-  pub element-plain : (last : Bool) → o ≡ length w → elementFits last w ≡ wordFits last w
-  unfolding elementFits
-  element-plain last h = rw (← at′, le-ltb o (length w) (omega arith))
 
   pub element-at : (last : Bool) → (o ≡ length w → ⊥) → o ≤ length w
       → elementFits last w ≡ cond (same (take o w) (bytes "C")) (pairFits (wides climbs) (drop (o + 1) w)) (pairFits (wides changes) w)
@@ -81,6 +64,10 @@ module _ (w : Word) (o : ℕ) (at : o ≡ 0 + upTo 47 w) where
 -- THE WORDS ONE BY ONE
 
 module _ (s : List ℕ) (at e : ℕ) (end : e ≡ at + upTo 32 (drop at s)) where
+  -- a word that would fit neither last nor elsewhere
+  pub route-not : ((last : Bool) → elementFits last (take (e - at) (drop at s)) ≡ false) → routeFits (split 32 (drop at s)) ≡ false
+  route-not h = rw (split-at 32 s at e end, h (null (after 32 (drop e s))))
+
   pub route-last : length s ≤ e → routeFits (split 32 (drop at s)) ≡ elementFits true (take (e - at) (drop at s))
   route-last h = rw (split-at 32 s at e end, after-end 32 s e h) (and-true (elementFits true (take (e - at) (drop at s))))
 

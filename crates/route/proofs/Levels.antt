@@ -36,10 +36,10 @@ fit-digits (suc k) (b ∷ d) e =
     (ap suc (i .0), and-both (digit b) (all digit d) (h .0) (i .1))
 
 -- d is the n digits that are due
-record Due (n : ℕ) (d : Word) : Type 0 where
-  some : 0 < n
-  size : length d ≡ n
-  digits : all digit d ≡ true
+pub record Due (n : ℕ) (d : Word) : Type 0 where
+  pub some : 0 < n
+  pub size : length d ≡ n
+  pub digits : all digit d ≡ true
 
 due-fit : (n : ℕ) (d : Word) → Due n d → fits (copies n) d ≡ true
 due-fit n d h = ap (λ (m : ℕ). fits (copies m) d) (sym (h .size)) ∙ digits-fit d (h .digits)
@@ -72,19 +72,19 @@ module _ (k l : ℕ) (d : Word) where
 apart : (xs ys : List ℕ) → all (λ x. not (oneOf x ys)) xs ≡ true → (b : ℕ) → oneOf b xs ≡ true → oneOf b ys ≡ false
 apart xs ys a b e = not-true (oneOf b ys) (of-one (λ x. not (oneOf x ys)) xs a b e)
 
-speed-due : (b : ℕ) (d : Word) → any (wides speeds) (b ∷ d) ≡ true → Due (speedDigits b) d
+pub speed-due : (b : ℕ) (d : Word) → any (wides speeds) (b ∷ d) ≡ true → Due (speedDigits b) d
 unfolding speeds speedDigits letters
 speed-due b d e = due 4 3 d (omega arith) (omega arith) (oneOf b (bytes "KN")) (oneOf b (bytes "M")) (apart (bytes "M") (bytes "KN") refl b) e
 
-speed-made : (b : ℕ) (d : Word) → Due (speedDigits b) d → any (wides speeds) (b ∷ d) ≡ true
+pub speed-made : (b : ℕ) (d : Word) → Due (speedDigits b) d → any (wides speeds) (b ∷ d) ≡ true
 unfolding speeds speedDigits letters
 speed-made b d h = made 4 3 d (oneOf b (bytes "KN")) (oneOf b (bytes "M")) h
 
-level-due : (b : ℕ) (d : Word) → any (wides levels) (b ∷ d) ≡ true → Due (levelDigits b) d
+pub level-due : (b : ℕ) (d : Word) → any (wides levels) (b ∷ d) ≡ true → Due (levelDigits b) d
 unfolding levels levelDigits letters
 level-due b d e = due 3 4 d (omega arith) (omega arith) (oneOf b (bytes "FA")) (oneOf b (bytes "SM")) (apart (bytes "SM") (bytes "FA") refl b) e
 
-level-made : (b : ℕ) (d : Word) → Due (levelDigits b) d → any (wides levels) (b ∷ d) ≡ true
+pub level-made : (b : ℕ) (d : Word) → Due (levelDigits b) d → any (wides levels) (b ∷ d) ≡ true
 unfolding levels levelDigits letters
 level-made b d h = made 3 4 d (oneOf b (bytes "FA")) (oneOf b (bytes "SM")) h
 
@@ -129,34 +129,34 @@ module _ (size : ℕ → ℕ) (ts : List Word) (none : any (wides ts) [] ≡ fal
       let h = both (ltb 0 (size u)) (ltb n (10 ^ size u)) e in
       rw (take-at (digits (size u) n) t (size u) (digits-length (size u) n)) (value-digits (size u) n (ltb-true n (10 ^ size u) (h .1)))
 
-no-speed : any (wides speeds) [] ≡ false
+pub speed-none : any (wides speeds) [] ≡ false
 unfolding speeds
-no-speed = refl
+speed-none = refl
 
-no-level : any (wides levels) [] ≡ false
+pub level-none : any (wides levels) [] ≡ false
 unfolding levels
-no-level = refl
+level-none = refl
 
 speed : Front Speed speeds speedOf pastSpeed spellSpeed validSpeed
 speed =
     record {
-      spelled = front-spelled speedDigits speeds no-speed speed-due speed-made;
-      held = front-held speedDigits speeds no-speed speed-due speed-made;
-      left = front-left speedDigits speeds no-speed speed-due speed-made;
-      taken = λ x e. front-taken speedDigits speeds no-speed speed-due speed-made (x .unit) (x .number) e;
+      spelled = front-spelled speedDigits speeds speed-none speed-due speed-made;
+      held = front-held speedDigits speeds speed-none speed-due speed-made;
+      left = front-left speedDigits speeds speed-none speed-due speed-made;
+      taken = λ x e. front-taken speedDigits speeds speed-none speed-due speed-made (x .unit) (x .number) e;
       back = λ x t e.
-          ap (λ (n : ℕ). record { unit = x .unit; number = n }) (front-back speedDigits speeds no-speed speed-due speed-made (x .unit) (x .number) t e);
+          ap (λ (n : ℕ). record { unit = x .unit; number = n }) (front-back speedDigits speeds speed-none speed-due speed-made (x .unit) (x .number) t e);
     }
 
 level : Front Level levels levelOf pastLevel spellLevel validLevel
 level =
     record {
-      spelled = front-spelled levelDigits levels no-level level-due level-made;
-      held = front-held levelDigits levels no-level level-due level-made;
-      left = front-left levelDigits levels no-level level-due level-made;
-      taken = λ x e. front-taken levelDigits levels no-level level-due level-made (x .unit) (x .number) e;
+      spelled = front-spelled levelDigits levels level-none level-due level-made;
+      held = front-held levelDigits levels level-none level-due level-made;
+      left = front-left levelDigits levels level-none level-due level-made;
+      taken = λ x e. front-taken levelDigits levels level-none level-due level-made (x .unit) (x .number) e;
       back = λ x t e.
-          ap (λ (n : ℕ). record { unit = x .unit; number = n }) (front-back levelDigits levels no-level level-due level-made (x .unit) (x .number) t e);
+          ap (λ (n : ℕ). record { unit = x .unit; number = n }) (front-back levelDigits levels level-none level-due level-made (x .unit) (x .number) t e);
     }
 
 one-level : Part Level (any (wides levels)) levelOf spellLevel validLevel
@@ -237,11 +237,11 @@ module _ (k : Word) (itself : (w : Word) → fits (wide k) w ≡ same w k) (othe
               ap or-of (wrap-spell l) ∙ rw (not-word (spellLevel l) (one-level .taken l v)) (ap wrap (one-level .back l v)));
         }
 
-vfr-itself : (w : Word) → fits (wide (bytes "VFR")) w ≡ same w (bytes "VFR")
+pub vfr-itself : (w : Word) → fits (wide (bytes "VFR")) w ≡ same w (bytes "VFR")
 unfolding letters
 vfr-itself w = fits-same (bytes "VFR") w refl
 
-plus-itself : (w : Word) → fits (wide (bytes "PLUS")) w ≡ same w (bytes "PLUS")
+pub plus-itself : (w : Word) → fits (wide (bytes "PLUS")) w ≡ same w (bytes "PLUS")
 unfolding letters
 plus-itself w = fits-same (bytes "PLUS") w refl
 

@@ -2,6 +2,9 @@ pub mod Examples
 pub mod Index
 pub mod Parts
 pub mod Levels
+pub mod Fronts
 pub mod Points
 pub mod RouteWords
+pub mod Digits
+pub mod Signs
 pub mod Field15

@@ -61,12 +61,12 @@ any-append (t ∷ ts) us w = go (any-append ts us w) (fits (wide t) w)
     go ih false = ih
 
 -- a word of one of the shapes with one of the others behind it, cut between them
-record CutAt (ts us : List Word) (w : Word) : Type 0 where
-  front : Word
-  rest : Word
-  whole : front ++ rest ≡ w
-  first : any (wides ts) front ≡ true
-  second : any (wides us) rest ≡ true
+pub record CutAt (ts us : List Word) (w : Word) : Type 0 where
+  pub front : Word
+  pub rest : Word
+  pub whole : front ++ rest ≡ w
+  pub first : any (wides ts) front ≡ true
+  pub second : any (wides us) rest ≡ true
 
 prefixed-cut : (t : Word) (us : List Word) (w : Word) → any (wides (prefixed t us)) w ≡ true
     → (fits (wide t) (take (length (wide t)) w) ≡ true) × (any (wides us) (drop (length (wide t)) w) ≡ true)
@@ -81,7 +81,7 @@ prefixed-cut t (u ∷ us) w e = go (prefixed-cut t us w) (fits (wide (t ++ u)) w
         (h .0, ap (λ (b : Bool). cond b true (any (wides us) (drop (length (wide t)) w))) (h .1))
     go ih false p q = let h = ih q in (h .0, later (fits (wide u) (drop (length (wide t)) w)) _ (h .1))
 
-each-cut : (ts us : List Word) (w : Word) → any (wides (each ts us)) w ≡ true → CutAt ts us w
+pub each-cut : (ts us : List Word) (w : Word) → any (wides (each ts us)) w ≡ true → CutAt ts us w
 each-cut [] us w e = absurd (false≢true e)
 each-cut (t ∷ ts) us w e = go (each-cut ts us w) (any (wides (prefixed t us)) w) refl (sym (any-append (prefixed t us) (each ts us) w) ∙ e)
   where
@@ -117,7 +117,7 @@ prefixed-join t (u ∷ us) v w e f = go (prefixed-join t us v w e) (fits (wide u
     go ih true p q = rw (wide-append t u, fits-join (wide t) (wide u) v w e p)
     go ih false p q = later (fits (wide (t ++ u)) (v ++ w)) _ (ih q)
 
-each-join : (ts us : List Word) (v w : Word) → any (wides ts) v ≡ true → any (wides us) w ≡ true → any (wides (each ts us)) (v ++ w) ≡ true
+pub each-join : (ts us : List Word) (v w : Word) → any (wides ts) v ≡ true → any (wides us) w ≡ true → any (wides (each ts us)) (v ++ w) ≡ true
 each-join [] us v w e f = absurd (false≢true e)
 each-join (t ∷ ts) us v w e f = any-append (prefixed t us) (each ts us) (v ++ w) ∙ go (each-join ts us v w) (fits (wide t) v) refl e
   where

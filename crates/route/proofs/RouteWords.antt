@@ -27,12 +27,12 @@ use Rattle.route.proofs.Points.{point, Known, known}
 point5 : Part Point (pointFits 5) pointOf spellPoint (validPoint 5)
 point5 = point 5 (omega arith)
 
-record Pair (ts : List Word) (w : Word) : Type 0 where
-  oblique : holds 47 w ≡ true
-  point : pointFits 5 (before 47 w) ≡ true
-  form : any ts (behind 47 w) ≡ true
+pub record Pair (ts : List Word) (w : Word) : Type 0 where
+  pub oblique : holds 47 w ≡ true
+  pub point : pointFits 5 (before 47 w) ≡ true
+  pub form : any ts (behind 47 w) ≡ true
 
-pair-parts : (ts : List Word) (w : Word) → pairFits ts w ≡ true → Pair ts w
+pub pair-parts : (ts : List Word) (w : Word) → pairFits ts w ≡ true → Pair ts w
 unfolding pairFits
 pair-parts ts w e =
     let h = both (holds 47 w) (pointFits 5 (before 47 w) && any ts (behind 47 w)) e in
@@ -137,14 +137,14 @@ module _ (last : Bool) (w : Word) where
   is-plain h s i = (rw (h, s, i), rw (h, s, i))
 
 -- the five forms of a word that fits
-data Formed (last : Bool) (w : Word) : Type 0 where
+pub data Formed (last : Bool) (w : Word) : Type 0 where
   a-climb : holds 47 w ≡ true → same (before 47 w) (bytes "C") ≡ true → pairFits (wides climbs) (behind 47 w) ≡ true → Formed last w
   a-change : holds 47 w ≡ true → same (before 47 w) (bytes "C") ≡ false → pairFits (wides changes) w ≡ true → Formed last w
   a-last : holds 47 w ≡ false → same w (bytes "T") ≡ true → last ≡ true → Formed last w
   an-indicator : holds 47 w ≡ false → same w (bytes "T") ≡ false → elem w indicators ≡ true → Formed last w
   a-plain : holds 47 w ≡ false → same w (bytes "T") ≡ false → elem w indicators ≡ false → pointFits 7 w ≡ true → Formed last w
 
-formed : (last : Bool) (w : Word) → elementFits last w ≡ true → Formed last w
+pub formed : (last : Bool) (w : Word) → elementFits last w ≡ true → Formed last w
 unfolding elementFits
 formed last w e = first (holds 47 w) refl e
   where

@@ -1,16 +1,19 @@
 // Field 15: speed and level, then one or more words.
 ghost use mathlib.Core.Path.{_≡_};
+ghost use mathlib.Core.Bool.{true};
 ghost use Prim.Native.Nat.{ℕ, _+_, _-_, _≤_, _<_};
+ghost use mathlib.Core.List.{[], _∷_};
 ghost use lib.ListN.{length, drop};
-ghost use Rattle.text.specs.Words.{split, elem};
-ghost use Rattle.shape.specs.Shape.{wides};
-ghost use Rattle.shape.specs.Shape.{any as anyOf};
-ghost use Rattle.route.specs.Levels.{starts, changes, climbs};
+ghost use Rattle.alphabet.specs.Alphabet.{sign};
+ghost use Rattle.text.specs.Words.{split, elem, all, leading};
+ghost use Rattle.shape.specs.Shape.{wides, fits as fitting, any as anyOf};
+ghost use Rattle.route.specs.Levels.{levels, starts, changes, climbs};
+ghost use Rattle.route.specs.Fronts.{unitEnd, speedEnd, levelEnd, halfFits, coordinateShape};
 ghost use Rattle.route.specs.Points.{degreesInRange, within as withinDegrees, minutesInRange, degreesOf, minutesOf};
 ghost use Rattle.route.specs.Points.{radialFits, indicators, nameFits, pointFits, outOfRange};
 ghost use Rattle.route.specs.Field15.{pairFits, wordFits, elementFits, routeFits, fits15};
 
-// The shapes of speed and level at the start.
+// The shapes of speed and level at the start. What fits is told by letters and digits here; the lists are for the places of what does not fit.
 pub const STARTS: [u8; 56] = *b"k9999f999 k9999s9999 k9999VFR M999f999 M999s9999 M999VFR";
 
 // At a point, where VFR may not stand.
@@ -59,20 +62,16 @@ fn in_minutes(w: &[u8]) -> bool
     within(180, shape::three(w, 5), shape::two(w, 8))
 }
 
-// 2 to 5 signs, a bearing of at most 360 and a distance.
+// 2 to 5 signs, a bearing of at most 360 and a distance, of a word of signs.
 fn with_bearing(w: &[u8]) -> bool
-    requires { ⌜ 7 < length (now w) ⌝ }
+    requires { ⌜ (7 < length (now w)) × (all sign (now w) ≡ true) ⌝ }
     ensures { λ r. ⌜ r ≡ radialFits (now (w .entry)) ⌝ }
 {
     if 11 < w.len() {
         return false;
     }
     let k = w.len() - 6;
-    if !text::all_of(text::Kind::Sign, &w[..k]) {
-        return false;
-    }
-    let t = &w[k..];
-    if !shape::fits(b"999999", t) {
+    if !text::all_of(text::Kind::Digit, &w[k..]) {
         return false;
     }
     shape::three(w, k) <= 360
@@ -85,11 +84,18 @@ fn is_indicator(w: &[u8]) -> bool
     if w.len() != 3 {
         return false;
     }
-    text::in_list(w, b"DCT VFR IFR")
+    if text::same_bytes(w, b"DCT") {
+        return true;
+    }
+    if text::same_bytes(w, b"VFR") {
+        return true;
+    }
+    text::same_bytes(w, b"IFR")
 }
 
-// 2 or more signs, and no indicator.
+// 2 or more signs, and no indicator, of a word of signs.
 fn name(most: usize, w: &[u8]) -> bool
+    requires { ⌜ all sign (now w) ≡ true ⌝ }
     ensures { λ r. ⌜ r ≡ nameFits most (now (w .entry)) ⌝ }
 {
     if w.len() < 2 {
@@ -98,30 +104,61 @@ fn name(most: usize, w: &[u8]) -> bool
     if most < w.len() {
         return false;
     }
-    if !text::all_of(text::Kind::Sign, w) {
+    !is_indicator(w)
+}
+
+// Whether a word is digits and, last, one of two letters.
+fn half(one: u8, other: u8, w: &[u8]) -> bool
+    requires { ⌜ 0 < length (now w) ⌝ }
+    ensures { λ r. ⌜ r ≡ halfFits (one ∷ (other ∷ [])) (now (w .entry)) ⌝ }
+{
+    let k = w.len() - 1;
+    if !text::all_of(text::Kind::Digit, &w[..k]) {
         return false;
     }
-    !is_indicator(w)
+    if w[k] == one {
+        return true;
+    }
+    w[k] == other
+}
+
+// Whether a word is k digits, N or S, j digits and E or W.
+fn is_coordinate(k: usize, j: usize, w: &[u8]) -> bool
+    requires { ⌜ k + j ≤ 9 ⌝ }
+    ensures { λ r. ⌜ r ≡ fitting (coordinateShape k j) (now (w .entry)) ⌝ }
+{
+    let m = k + 1;
+    if w.len() != m + j + 1 {
+        return false;
+    }
+    if !half(b'N', b'S', &w[..m]) {
+        return false;
+    }
+    half(b'E', b'W', &w[m..])
 }
 
 // Whether a word is shaped as a coordinate in degrees and out of range.
 pub fn out_of_range(w: &[u8]) -> bool
     ensures { λ r. ⌜ r ≡ outOfRange (now (w .entry)) ⌝ }
 {
-    if !shape::fits(b"99n999e", w) {
+    if !is_coordinate(2, 3, w) {
         return false;
     }
     !in_degrees(w)
 }
 
-// A coordinate, a point with bearing and distance, or a name of at most so many signs.
-pub fn point(most: usize, w: &[u8]) -> bool
+// The same as `point`, of a word of signs. Most are short and can only be names.
+fn point_of_signs(most: usize, w: &[u8]) -> bool
+    requires { ⌜ all sign (now w) ≡ true ⌝ }
     ensures { λ r. ⌜ r ≡ pointFits most (now (w .entry)) ⌝ }
 {
-    if shape::fits(b"99n999e", w) {
+    if w.len() < 7 {
+        return name(most, w);
+    }
+    if is_coordinate(2, 3, w) {
         return in_degrees(w);
     }
-    if shape::fits(b"9999n99999e", w) {
+    if is_coordinate(4, 5, w) {
         return in_minutes(w);
     }
     if 7 < w.len() {
@@ -130,22 +167,19 @@ pub fn point(most: usize, w: &[u8]) -> bool
     name(most, w)
 }
 
-// A point, '/', and one of a list of shapes.
-fn pair(list: &[u8], w: &[u8]) -> bool
-    ensures { λ r. ⌜ r ≡ pairFits (split 32 (now (list .entry))) (now (w .entry)) ⌝ }
+// A coordinate, a point with bearing and distance, or a name of at most so many signs.
+pub fn point(most: usize, w: &[u8]) -> bool
+    ensures { λ r. ⌜ r ≡ pointFits most (now (w .entry)) ⌝ }
 {
-    let o = text::find(w, 0, b'/');
-    if o == w.len() {
+    if !text::all_of(text::Kind::Sign, w) {
         return false;
     }
-    if !point(5, &w[..o]) {
-        return false;
-    }
-    shape::any(list, &w[o + 1..])
+    point_of_signs(most, w)
 }
 
-// A word with no oblique. T may stand only last.
+// A word of signs. T may stand only last.
 fn word(last: bool, w: &[u8]) -> bool
+    requires { ⌜ all sign (now w) ≡ true ⌝ }
     ensures { λ r. ⌜ r ≡ wordFits last (now (w .entry)) ⌝ }
 {
     if text::same_bytes(w, b"T") {
@@ -154,61 +188,186 @@ fn word(last: bool, w: &[u8]) -> bool
     if is_indicator(w) {
         return true;
     }
-    point(7, w)
+    point_of_signs(7, w)
 }
 
-// A climb, behind its `C/`: a point, a speed and two levels, or PLUS for the second. A list stands in a function of its own, since it is laid down
-// whenever its function is called.
-fn climb(w: &[u8]) -> bool
-    ensures { λ r. ⌜ r ≡ pairFits (wides climbs) (now (w .entry)) ⌝ }
+// Where a byte and n digits end that w begins with; 0 where it does not begin with them.
+fn unit_end(n: usize, w: &[u8]) -> usize
+    requires { ⌜ 0 < n ⌝ }
+    ensures { λ r. ⌜ (r ≡ unitEnd n (now (w .entry))) × (r ≤ length (now (w .entry))) ⌝ }
 {
-    pair(&CLIMBS, w)
-}
-
-// A change of speed and level at a point.
-fn change(w: &[u8]) -> bool
-    ensures { λ r. ⌜ r ≡ pairFits (wides changes) (now (w .entry)) ⌝ }
-{
-    pair(&CHANGES, w)
-}
-
-// A word. `C/` is a climb, any other oblique a change of speed and level.
-pub fn element(last: bool, w: &[u8]) -> bool
-    ensures { λ r. ⌜ r ≡ elementFits last (now (w .entry)) ⌝ }
-{
-    let o = text::find(w, 0, b'/');
-    if o == w.len() {
-        return word(last, w);
+    if w.len() <= n {
+        return 0;
     }
-    if text::same_bytes(&w[..o], b"C") {
-        return climb(&w[o + 1..]);
+    let e = n + 1;
+    if !text::all_of(text::Kind::Digit, &w[1..e]) {
+        return 0;
     }
-    change(w)
+    e
 }
 
-// The words from `from` on.
-fn elements(s: &[u8], from: usize) -> bool
-    requires { ⌜ from ≤ length (now s) ⌝ }
-    ensures { λ r. ⌜ r ≡ routeFits (split 32 (drop from (now (s .entry)))) ⌝ }
+// Where the speed ends that w begins with; 0 where it begins with none.
+fn speed_end(w: &[u8]) -> usize
+    ensures { λ r. ⌜ (r ≡ speedEnd (now (w .entry))) × (r ≤ length (now (w .entry))) ⌝ }
 {
-    let mut at = from;
-    loop {
-        let e = text::find(s, at, b' ');
-        if e == s.len() {
-            return element(true, &s[at..e]);
-        }
-        if !element(false, &s[at..e]) {
-            return false;
-        }
-        at = e + 1;
+    if w.len() == 0 {
+        return 0;
     }
+    let unit = w[0];
+    match unit {
+        b'K' | b'N' => unit_end(4, w),
+        b'M' => unit_end(3, w),
+        _ => 0,
+    }
+}
+
+// The same of a level.
+fn level_end(w: &[u8]) -> usize
+    ensures { λ r. ⌜ (r ≡ levelEnd (now (w .entry))) × (r ≤ length (now (w .entry))) ⌝ }
+{
+    if w.len() == 0 {
+        return 0;
+    }
+    let unit = w[0];
+    match unit {
+        b'F' | b'A' => unit_end(3, w),
+        b'S' | b'M' => unit_end(4, w),
+        _ => 0,
+    }
+}
+
+// A level.
+fn level(w: &[u8]) -> bool
+    ensures { λ r. ⌜ r ≡ anyOf (wides levels) (now (w .entry)) ⌝ }
+{
+    let l = level_end(w);
+    if l == 0 {
+        return false;
+    }
+    l == w.len()
 }
 
 // Speed and level at the start.
 pub fn start(w: &[u8]) -> bool
     ensures { λ r. ⌜ r ≡ anyOf (wides starts) (now (w .entry)) ⌝ }
 {
-    shape::any(&STARTS, w)
+    let v = speed_end(w);
+    if v == 0 {
+        return false;
+    }
+    let t = &w[v..];
+    if level(t) {
+        return true;
+    }
+    text::same_bytes(t, b"VFR")
+}
+
+// Speed and level at a point.
+fn changed(w: &[u8]) -> bool
+    ensures { λ r. ⌜ r ≡ anyOf (wides changes) (now (w .entry)) ⌝ }
+{
+    let v = speed_end(w);
+    if v == 0 {
+        return false;
+    }
+    level(&w[v..])
+}
+
+// Speed and two levels at a point, or PLUS for the second.
+fn climbed(w: &[u8]) -> bool
+    ensures { λ r. ⌜ r ≡ anyOf (wides climbs) (now (w .entry)) ⌝ }
+{
+    let v = speed_end(w);
+    if v == 0 {
+        return false;
+    }
+    let t = &w[v..];
+    let l = level_end(t);
+    if l == 0 {
+        return false;
+    }
+    let u = &t[l..];
+    if level(u) {
+        return true;
+    }
+    text::same_bytes(u, b"PLUS")
+}
+
+// A climb, behind its `C/`: a point, '/', a speed and two levels.
+fn climb(w: &[u8]) -> bool
+    ensures { λ r. ⌜ r ≡ pairFits (wides climbs) (now (w .entry)) ⌝ }
+{
+    let o = text::end_of(text::Kind::Sign, w, 0);
+    if o == w.len() {
+        return false;
+    }
+    if w[o] != b'/' {
+        return false;
+    }
+    if !point_of_signs(5, &w[..o]) {
+        return false;
+    }
+    climbed(&w[o + 1..])
+}
+
+// A word whose signs end at o, before its end. Behind them an oblique is due: `C/` is a climb, any other a change of speed and level at a point.
+fn joined(o: usize, w: &[u8]) -> bool
+    requires { ⌜ (o < length (now w)) × (o ≡ leading sign (now w)) ⌝ }
+    ensures { λ r. ⌜ r ≡ elementFits true (now (w .entry)) ⌝ }
+{
+    if w[o] != b'/' {
+        return false;
+    }
+    let p = &w[..o];
+    let t = &w[o + 1..];
+    if text::same_bytes(p, b"C") {
+        return climb(t);
+    }
+    if !point_of_signs(5, p) {
+        return false;
+    }
+    changed(t)
+}
+
+// A word.
+pub fn element(last: bool, w: &[u8]) -> bool
+    ensures { λ r. ⌜ r ≡ elementFits last (now (w .entry)) ⌝ }
+{
+    let o = text::end_of(text::Kind::Sign, w, 0);
+    if o == w.len() {
+        return word(last, w);
+    }
+    joined(o, w)
+}
+
+// The words from `from` on. Most are of signs alone and so walked once.
+fn elements(s: &[u8], from: usize) -> bool
+    requires { ⌜ from ≤ length (now s) ⌝ }
+    ensures { λ r. ⌜ r ≡ routeFits (split 32 (drop from (now (s .entry)))) ⌝ }
+{
+    let mut at = from;
+    loop {
+        let o = text::end_of(text::Kind::Sign, s, at);
+        let w = &s[at..o];
+        if o == s.len() {
+            return word(true, w);
+        }
+        if s[o] == b' ' {
+            if !word(false, w) {
+                return false;
+            }
+            at = o + 1;
+        } else {
+            let e = text::find(s, o, b' ');
+            if !joined(o - at, &s[at..e]) {
+                return false;
+            }
+            if e == s.len() {
+                return true;
+            }
+            at = e + 1;
+        }
+    }
 }
 
 // Whether a content fits field 15's form.

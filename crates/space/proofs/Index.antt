@@ -8,7 +8,7 @@ use native.Mathlib.Numerals.{sub-one}
 use native.Mathlib.Omega.{arith}
 use lib.Dec.{eqb}
 use lib.ListN.{length, getD, take, drop, set, length-set, length-drop}
-use lib.Seq.{length-take-le, getD-take, getD-set-same}
+use lib.Seq.{drop-drop, length-take-le, getD-take, getD-set-same}
 use borrow.Author.Tests.{eq-eqb, ne-eqb}
 use Rattle.alphabet.specs.Alphabet.{oneOf, white}
 use Rattle.text.specs.Words.{upTo}
@@ -16,7 +16,7 @@ use Rattle.text.proofs.Index.{drop-here, drop-end, rest}
 use Rattle.text.specs.Lent.{front}
 use Rattle.text.proofs.Lent.{store, next-out, next-rest, next-fits, whole-out}
 use Rattle.space.specs.Reduced.{opens, closes, standsForRun, reducedFrom, reduced}
-use Rattle.space.specs.Hyphens.{hyphens, upToHyphen, placeOfHyphen}
+use Rattle.space.specs.Hyphens.{oneMore, hyphens, upToHyphen, placeOfHyphen}
 
 -- ONE OF TWO BYTES
 
@@ -66,7 +66,7 @@ pub stands-behind : (m : List ℕ) (i last x : ℕ) (r : Bool) → last ≡ x �
 stands-behind m i last x r e t = sym (t ∙ rw (e, rest m i))
 
 -- before white space no byte stands for a run
-not-before-white : (m : List ℕ) (a : Bool) (i : ℕ) → i < length m → white (getD m i 0) ≡ true → standsForRun a (drop i m) ≡ false
+pub not-before-white : (m : List ℕ) (a : Bool) (i : ℕ) → i < length m → white (getD m i 0) ≡ true → standsForRun a (drop i m) ≡ false
 unfolding standsForRun
 not-before-white m a i h w = rw (drop-here m i h, w)
 
@@ -234,6 +234,37 @@ module _ (m : List ℕ) (i : ℕ) (h : i < length m) where
           up [] = refl
           up (b ∷ s) = refl
       go (suc k) = rw (drop-here m i h, ne-eqb (getD m i 0) 45 e)
+
+-- as many as in a part and behind it
+pub hyphens-cut : (n : ℕ) (m : List ℕ) → hyphens (take n m) + hyphens (drop n m) ≡ hyphens m
+unfolding hyphens
+hyphens-cut zero m = omega arith
+hyphens-cut (suc n) [] = refl
+hyphens-cut (suc n) (b ∷ m) = go (hyphens-cut n m) (eqb b 45)
+  where
+    go : hyphens (take n m) + hyphens (drop n m) ≡ hyphens m → (t : Bool) → oneMore t (hyphens (take n m)) + hyphens (drop n m) ≡ oneMore t (hyphens m)
+    go ih true = omega arith
+    go ih false = ih
+
+pub hyphens-le : (m : List ℕ) → hyphens m ≤ length m
+unfolding hyphens
+hyphens-le [] = omega arith
+hyphens-le (b ∷ m) = go (hyphens-le m) (eqb b 45)
+  where
+    go : hyphens m ≤ length m → (t : Bool) → oneMore t (hyphens m) ≤ suc (length m)
+    go ih true = omega arith
+    go ih false = omega arith
+
+-- counted part by part: n of them stand before i
+module _ (m : List ℕ) (n i : ℕ) (counted : n + hyphens (drop i m) ≡ hyphens m) (r : ℕ) where
+  pub part-counted : (e : ℕ) → i ≤ e → r ≡ hyphens (take (e - i) (drop i m)) → n + r + hyphens (drop e m) ≡ hyphens m
+  part-counted e h q =
+      let k : i + (e - i) ≡ e = omega arith in
+      let d : drop (e - i) (drop i m) ≡ drop e m = drop-drop (e - i) i m ∙ ap (λ (j : ℕ). drop j m) k in
+      omega (arith, hyphens-cut (e - i) (drop i m), ap hyphens d)
+
+  pub rest-counted : r ≡ hyphens (take (length m - i) (drop i m)) → n + r ≡ hyphens m
+  rest-counted q = omega (arith, ap hyphens (rest m i))
 
 pub hyphens-end : (m : List ℕ) (i : ℕ) → length m ≤ i → hyphens (drop i m) ≡ 0
 unfolding hyphens

@@ -6,3 +6,4 @@ pub mod Fields
 pub mod Frame
 pub mod Tidy
 pub mod Places
+pub mod Stays

@@ -20,7 +20,7 @@ kept-length true true b x n p = omega arith
 kept-length true false b x n p = omega arith
 kept-length false s b x n p = omega arith
 
-shorter : (a : Bool) (m : List ℕ) → length (reducedFrom a m) ≤ length m
+pub shorter : (a : Bool) (m : List ℕ) → length (reducedFrom a m) ≤ length m
 unfolding reducedFrom
 shorter a [] = omega arith
 shorter a (b ∷ bs) = kept-length (white b) (standsForRun a bs) b _ _ (shorter (cond (white b) a (opens b)) bs)

@@ -2,3 +2,4 @@ pub mod Reduced
 pub mod Fields
 pub mod Hyphens
 pub mod Places
+pub mod Stays

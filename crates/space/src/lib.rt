@@ -3,7 +3,9 @@ ghost use mathlib.Core.Path.{_≡_};
 ghost use Prim.Native.Nat.{ℕ, _+_, _-_, _≤_, _<_};
 ghost use lib.ListN.{length, drop, getD};
 ghost use Rattle.text.specs.Lent.{front};
+ghost use Rattle.text.specs.Words.{same};
 ghost use Rattle.space.specs.Reduced.{opens, closes, standsForRun, reduced};
+ghost use Rattle.space.specs.Stays.{stays, allStay, regular, allRegular};
 ghost use Rattle.space.specs.Places.{countsAt, sentFrom, sentPlace};
 ghost use mathlib.Core.Bool.{false};
 ghost use Rattle.space.specs.Hyphens.{hyphens, placeOfHyphen};
@@ -77,19 +79,100 @@ pub fn reduce(msg: &[u8], buf: &mut [u8]) -> usize
     n
 }
 
-pub fn count_hyphens(msg: &[u8]) -> usize
-    ensures { λ r. ⌜ r ≡ hyphens (now (msg .entry)) ⌝ }
+// Whether the reduction leaves b as it is, by the byte before it and by what is behind it.
+fn byte_stays(last: u8, b: u8, behind: &[u8]) -> bool
+    ensures { λ r. ⌜ r ≡ stays last b (now (behind .entry)) ⌝ }
+{
+    if b == b' ' {
+        return stands_for_run(behind, last);
+    }
+    !alphabet::is_white(b)
+}
+
+// Whether it leaves each byte of s as it is, by the byte ahead of s.
+fn all_stay(ahead: u8, s: &[u8]) -> bool
+    ensures { λ r. ⌜ r ≡ allStay ahead (now (s .entry)) ⌝ }
+{
+    let mut last = ahead;
+    let mut i = 0;
+    while i < s.len() {
+        let b = s[i];
+        i += 1;
+        if !byte_stays(last, b, &s[i..]) {
+            return false;
+        }
+        last = b;
+    }
+    true
+}
+
+// Whether b just before c is sure to be left as it is, whatever stands before it. No branch: it is worked out for 16 bytes at a time.
+fn is_regular(b: u8, c: u8) -> bool
+    ensures { λ r. ⌜ r ≡ regular b c ⌝ }
+{
+    let ends = (c <= b' ') | (c == b'-') | (c == b')');
+    !((b < b' ') | ((b == b' ') & ends))
+}
+
+// Whether each byte but the last is.
+fn all_regular(s: &[u8]) -> bool
+    ensures { λ r. ⌜ r ≡ allRegular (now (s .entry)) ⌝ }
+{
+    let mut fine = true;
+    let mut i = 1;
+    while i < s.len() {
+        fine = fine & is_regular(s[i - 1], s[i]);
+        i += 1;
+    }
+    fine
+}
+
+// Whether a message is its own reduction: block by block, as long as that tells, and then byte by byte.
+pub fn is_reduced(msg: &[u8]) -> bool
+    ensures { λ r. ⌜ r ≡ same (reduced (now (msg .entry))) (now (msg .entry)) ⌝ }
+{
+    let mut last = 0;
+    let mut i = 0;
+    while 16 < msg.len() - i {
+        let e = i + 16;
+        if !all_regular(&msg[i..e + 1]) {
+            return all_stay(last, &msg[i..]);
+        }
+        last = msg[e - 1];
+        i = e;
+    }
+    all_stay(last, &msg[i..])
+}
+
+// How many of at most 255 bytes are hyphens. Counted in a byte, many at a time.
+fn few_hyphens(s: &[u8]) -> u8
+    requires { ⌜ length (now s) ≤ 255 ⌝ }
+    ensures { λ r. ⌜ r ≡ hyphens (now (s .entry)) ⌝ }
 {
     let mut n = 0;
     let mut i = 0;
-    while i < msg.len() {
-        let b = msg[i];
+    while i < s.len() {
+        let b = s[i];
         i += 1;
         if b == b'-' {
             n += 1;
         }
     }
     n
+}
+
+// In parts of 224 bytes, seven times 32.
+pub fn count_hyphens(msg: &[u8]) -> usize
+    ensures { λ r. ⌜ r ≡ hyphens (now (msg .entry)) ⌝ }
+{
+    let mut n = 0;
+    let mut i = 0;
+    while 224 < msg.len() - i {
+        let e = i + 224;
+        n += few_hyphens(&msg[i..e]) as usize;
+        i = e;
+    }
+    n + few_hyphens(&msg[i..]) as usize
 }
 
 // The place of the j-th hyphen, counted from 1; 0 for 0, the length where there are fewer.

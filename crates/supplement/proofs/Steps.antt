@@ -1,5 +1,5 @@
 -- Words at an index: letters of a set, and a step over a word. Assumes nothing.
-use Prim.Native.Nat.{ℕ, _+_, _<_, _≤_}
+use Prim.Native.Nat.{ℕ, suc, _+_, _<_, _≤_}
 use mathlib.Core.Path.{_≡_, refl, sym, ap, _∙_}
 use mathlib.Core.Bool.{Bool, true, false, cond, and-true, false≢true}
 use mathlib.Core.List.{List, [], _∷_}
@@ -7,18 +7,22 @@ use native.Mathlib.Omega.{arith}
 use native.Mathlib.Numerals.{add-one}
 use lib.ListN.{length, take, drop, getD}
 use lib.Seq.{length-take-le}
-use lib.Dec.{leb, ltb}
-use borrow.Author.Tests.{ltb-false, lt-ltb, le-ltb, ne-eqb}
+use lib.Dec.{leb, ltb, eqb}
+use borrow.Author.Tests.{ltb-true, ltb-false, lt-ltb, le-ltb, eqb-true, ne-eqb}
 use Rattle.alphabet.specs.Text.{bytes}
-use Rattle.alphabet.specs.Alphabet.{oneOf}
-use Rattle.text.specs.Words.{Word, upTo}
-use Rattle.text.proofs.Tests.{and-false}
+use Rattle.alphabet.specs.Alphabet.{oneOf, text, inAlphabet, white}
+use Rattle.text.specs.Words.{Word, upTo, holds, same, textWord}
+use Rattle.text.proofs.Tests.{and-false, same-eq}
 use Rattle.text.proofs.Index.{drop-here, drop-end}
+use Rattle.text.proofs.Joined.{holds-free}
+use Rattle.text.proofs.Tidy.{text-word-free}
 use Rattle.supplement.specs.Field19.{Key, E, P, R, S, J, D, A, N, C, Other, spellKey, byLetter}
 use Rattle.supplement.specs.declared.Stage.{Stage}
-use Rattle.supplement.specs.declared.Stage.the-variants.{Refused}
-use Rattle.supplement.specs.Field19.{keyed, place, lettersFit, someOf}
-use Rattle.supplement.specs.Walk.{past, first, further, opens, step}
+use Rattle.supplement.specs.declared.Stage.the-variants.{Start, Endurance, Persons, Radio, Survival, Lights, JacketRadio, Number, Capacity, Colours}
+use Rattle.supplement.specs.declared.Stage.the-variants.{Aircraft, Remarks, Pilot, Refused}
+use Rattle.supplement.specs.Field19.{keyed, place, count, lettersFit, someOf, colour, jacketRadioLetters, capacityDigits, cover}
+use Rattle.supplement.specs.Walk.{past, shaded, first, further, opens, step}
+use Rattle.supplement.proofs.Words.{count-text, some-text, colour-text}
 use Rattle.supplement.proofs.Items.{key-spelled}
 
 -- LETTERS OF A SET, from an index on
@@ -96,7 +100,7 @@ module _ (stage : Stage) (w : Word) (o : ℕ) (end : o ≡ 0 + upTo 47 w) where
   at : o ≡ upTo 47 w
   at = omega arith
 
-  pub step-further : length w ≤ o → step stage w ≡ further stage w
+  step-further : length w ≤ o → step stage w ≡ further stage w
   unfolding step
   step-further h = rw (le-ltb (upTo 47 w) (length w) (omega arith))
 
@@ -104,18 +108,134 @@ module _ (stage : Stage) (w : Word) (o : ℕ) (end : o ≡ 0 + upTo 47 w) where
   unfolding step
   step-opens h = rw (lt-ltb (upTo 47 w) (length w) (omega arith), ← at, add-one o)
 
-  pub step-long : o < length w → (o ≡ 1 → ⊥) → step stage w ≡ Refused
+  step-long : o < length w → (o ≡ 1 → ⊥) → step stage w ≡ Refused
   step-long h n =
       let l : length (take o w) ≡ o = length-take-le o w (omega arith) in
       let z = no-key (take o w) (λ e. n (sym l ∙ e)) in
       step-opens h ∙ rw (le-ltb (past stage) (place (keyed (take o w))) (omega arith))
 
-  module _ (h : o < length w) (one : o ≡ 1) where
-    step-key : step stage w ≡ opens stage (byLetter (getD w 0 0)) (drop 2 w)
-    step-key = step-opens h ∙ rw (one, first-letter w (omega arith))
+  step-one : o < length w → o ≡ 1 → step stage w ≡ opens stage (byLetter (getD w 0 0)) (drop 2 w)
+  step-one h one = step-opens h ∙ rw (one, first-letter w (omega arith))
 
+-- a word that holds an oblique follows none: those that may are text words
+module _ (w : Word) (held : holds 47 w ≡ true) where
+  no-text : (p : Bool) → (p ≡ true → textWord w ≡ true) → p ≡ false
+  no-text true f = absurd (false≢true (sym (holds-free 47 w (text-word-free w (f refl))) ∙ held))
+  no-text false f = refl
+
+  not-taken : (p : Bool) (stage : Stage) → (p ≡ true → textWord w ≡ true) → cond p stage Refused ≡ Refused
+  not-taken p stage f = ap (λ (b : Bool). cond b stage Refused) (no-text p f)
+
+  cover-text : same w cover ≡ true → textWord w ≡ true
+  unfolding text inAlphabet white
+  cover-text e = ap textWord (same-eq w cover e)
+
+  not-shaded : shaded w ≡ Refused
+  not-shaded =
+      ap (λ (b : Bool). cond b Colours (cond (colour w) Colours Refused)) (no-text (same w cover) cover-text) ∙ not-taken (colour w) Colours (colour-text w)
+
+  no-further : (stage : Stage) → further stage w ≡ Refused
+  no-further Start = refl
+  no-further Endurance = refl
+  no-further Persons = refl
+  no-further Radio = refl
+  no-further Survival = refl
+  no-further Lights = not-taken (someOf jacketRadioLetters w) JacketRadio (some-text jacketRadioLetters refl w)
+  no-further JacketRadio = refl
+  no-further Number = not-taken (count capacityDigits w) Capacity (count-text capacityDigits w)
+  no-further Capacity = not-shaded
+  no-further Colours = not-taken (colour w) Colours (colour-text w)
+  no-further Aircraft = not-taken (textWord w) Aircraft (λ e. e)
+  no-further Remarks = not-taken (textWord w) Remarks (λ e. e)
+  no-further Pilot = not-taken (textWord w) Pilot (λ e. e)
+  no-further Refused = refl
+
+-- an oblique behind the first byte
+
+pub second-none : (w : Word) → length w < 2 → eqb (getD w 1 0) 47 ≡ false
+second-none [] h = refl
+second-none (b ∷ []) h = refl
+second-none (b ∷ (c ∷ w)) h = absurd (omega arith)
+
+pub second-inside : (w : Word) → eqb (getD w 1 0) 47 ≡ true → 1 < length w
+second-inside [] e = absurd (false≢true e)
+second-inside (b ∷ []) e = absurd (false≢true e)
+second-inside (b ∷ (c ∷ w)) e = omega arith
+
+second-first : (w : Word) → eqb (getD w 1 0) 47 ≡ true → eqb (getD w 0 0) 47 ≡ false → upTo 47 w ≡ 1
+second-first [] e q = absurd (false≢true e)
+second-first (b ∷ []) e q = absurd (false≢true e)
+second-first (b ∷ (c ∷ w)) e q = rw (q, e)
+
+at-once : (w : Word) → eqb (getD w 0 0) 47 ≡ true → upTo 47 w ≡ 0
+at-once [] q = absurd (false≢true q)
+at-once (b ∷ w) q = rw q
+
+-- it is the first where the first stands there
+found-second : (w : Word) → upTo 47 w < length w → upTo 47 w ≡ 1 → eqb (getD w 1 0) 47 ≡ true
+found-second [] h e = absurd (omega arith)
+found-second (b ∷ []) h e = absurd (omega arith)
+found-second (b ∷ (c ∷ w)) h e = go (eqb b 47) (eqb c 47) e
+  where
+    go : (x y : Bool) → cond x 0 (suc (cond y 0 (suc (upTo 47 w)))) ≡ 1 → y ≡ true
+    go true y e = absurd (omega arith)
+    go false true e = refl
+    go false false e = absurd (omega arith)
+
+no-oblique-key : byLetter 47 ≡ Other
+unfolding keyed
+no-oblique-key = refl
+
+module _ (stage : Stage) (w : Word) where
+  pub step-plain : eqb (getD w 1 0) 47 ≡ false → step stage w ≡ further stage w
+  step-plain n = go (holds 47 w) refl
+    where
+      go : (b : Bool) → holds 47 w ≡ b → step stage w ≡ further stage w
+      go true h =
+          let l = ltb-true (upTo 47 w) (length w) h in
+          step-long stage w (upTo 47 w) (omega arith) l (λ e. false≢true (sym n ∙ found-second w l e)) ∙ sym (no-further w h stage)
+      go false h = step-further stage w (upTo 47 w) (omega arith) (ltb-false (upTo 47 w) (length w) h)
+
+  pub step-keyed : eqb (getD w 1 0) 47 ≡ true → step stage w ≡ opens stage (byLetter (getD w 0 0)) (drop 2 w)
+  step-keyed e = go (eqb (getD w 0 0) 47) refl
+    where
+      inside : 1 < length w
+      inside = second-inside w e
+
+      go : (b : Bool) → eqb (getD w 0 0) 47 ≡ b → step stage w ≡ opens stage (byLetter (getD w 0 0)) (drop 2 w)
+      go true q =
+          let z = at-once w q in
+          let k : byLetter (getD w 0 0) ≡ Other = ap byLetter (eqb-true (getD w 0 0) 47 q) ∙ no-oblique-key in
+          step-long stage w (upTo 47 w) (omega arith) (omega (arith, z, inside)) (λ o. omega (arith, z)) ∙ sym (rw (k, le-ltb (past stage) 0 (omega arith)))
+      go false q = let o = second-first w e q in step-one stage w (upTo 47 w) (omega arith) (omega (arith, o, inside)) o
+
+  -- so in a word that is not refused an oblique stands there or nowhere
+  pub oblique-second : (step stage w ≡ Refused → ⊥) → cond (holds 47 w) (suc (upTo 47 w)) 0 ≡ cond (eqb (getD w 1 0) 47) 2 0
+  oblique-second n = go (eqb (getD w 1 0) 47) refl
+    where
+      one : eqb (getD w 1 0) 47 ≡ true → (b : Bool) → eqb (getD w 0 0) 47 ≡ b → upTo 47 w ≡ 1
+      one e true q =
+          let z = at-once w q in
+          let l = second-inside w e in
+          absurd (n (step-long stage w (upTo 47 w) (omega arith) (omega (arith, z, l)) (λ o. omega (arith, z))))
+      one e false q = second-first w e q
+
+      none : eqb (getD w 1 0) 47 ≡ false → (b : Bool) → holds 47 w ≡ b → cond b (suc (upTo 47 w)) 0 ≡ 0
+      none e true h =
+          let l = ltb-true (upTo 47 w) (length w) h in
+          absurd (n (step-long stage w (upTo 47 w) (omega arith) l (λ o. false≢true (sym e ∙ found-second w l o))))
+      none e false h = refl
+
+      go : (b : Bool) → eqb (getD w 1 0) 47 ≡ b → cond (holds 47 w) (suc (upTo 47 w)) 0 ≡ cond b 2 0
+      go true e =
+          let o = one e (eqb (getD w 0 0) 47) refl in
+          let l = second-inside w e in
+          rw (o, lt-ltb 1 (length w) l)
+      go false e = none e (holds 47 w) refl
+
+  module _ (e : eqb (getD w 1 0) 47 ≡ true) where
     pub step-late : place (byLetter (getD w 0 0)) ≤ past stage → step stage w ≡ Refused
-    step-late l = step-key ∙ rw (le-ltb (past stage) (place (byLetter (getD w 0 0))) l)
+    step-late l = step-keyed e ∙ rw (le-ltb (past stage) (place (byLetter (getD w 0 0))) l)
 
     pub step-first : past stage < place (byLetter (getD w 0 0)) → step stage w ≡ first (byLetter (getD w 0 0)) (drop 2 w)
-    step-first l = step-key ∙ rw (lt-ltb (past stage) (place (byLetter (getD w 0 0))) l)
+    step-first l = step-keyed e ∙ rw (lt-ltb (past stage) (place (byLetter (getD w 0 0))) l)

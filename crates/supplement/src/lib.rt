@@ -1,6 +1,8 @@
 // Field 19, supplementary information, as sent.
 ghost use mathlib.Core.Path.{_≡_};
 ghost use mathlib.Core.Bool.{cond};
+ghost use lib.Dec.{eqb};
+ghost use lib.ListN.{getD};
 ghost use Rattle.supplement.specs.declared.Stage.the-variants.{Refused};
 ghost use Rattle.supplement.specs.Field19.{D, byLetter, place as placeOf, count, someOf, colour, fits19};
 ghost use Rattle.supplement.specs.Walk.{past as pastOf, complete as completeAt, shaded, first as firstOf, further as furtherOf, step as stepOf};
@@ -128,7 +130,7 @@ fn shade(w: &[u8]) -> Stage
 }
 
 // The first word under D: the number of a pair, the cover, or a colour.
-fn first_of_dinghies(w: &[u8]) -> Stage
+pub fn first_of_dinghies(w: &[u8]) -> Stage
     ensures { λ r. ⌜ r ≡ firstOf D (now (w .entry)) ⌝ }
 {
     if is_count(2, w) {
@@ -169,16 +171,22 @@ fn further(stage: Stage, w: &[u8]) -> Stage
     }
 }
 
-// A word: it begins an item where it holds an oblique, behind a key of one letter.
+// Whether an oblique stands behind the first byte.
+pub fn has_key(w: &[u8]) -> bool
+    ensures { λ r. ⌜ r ≡ eqb (getD (now (w .entry)) 1 0) 47 ⌝ }
+{
+    if w.len() < 2 {
+        return false;
+    }
+    w[1] == b'/'
+}
+
+// A word: it begins an item where it holds an oblique, behind a key of one letter. An oblique elsewhere is in no word.
 pub fn step(stage: Stage, w: &[u8]) -> Stage
     ensures { λ r. ⌜ r ≡ stepOf stage (now (w .entry)) ⌝ }
 {
-    let o = text::find(w, 0, b'/');
-    if o == w.len() {
+    if !has_key(w) {
         return further(stage, w);
-    }
-    if o != 1 {
-        return Stage::Refused;
     }
     let key = w[0];
     if place(key) <= past(stage) {

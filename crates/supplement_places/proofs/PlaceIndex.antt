@@ -11,9 +11,9 @@ use borrow.Author.Tests.{le-leb, lt-ltb, le-ltb, eq-eqb, ne-eqb}
 use types.Run.{OneOf}
 use Rattle.alphabet.specs.Text.{bytes}
 use Rattle.alphabet.specs.Alphabet.{text}
-use Rattle.text.specs.Words.{Word, split, upTo}
+use Rattle.text.specs.Words.{Word, split, upTo, leading}
 use Rattle.text.proofs.Index.{rest}
-use Rattle.places.specs.Parts.{front, firstPlace, passes}
+use Rattle.places.specs.Parts.{firstPlace, passes}
 use Rattle.places.specs.Words.{wordsPlace}
 use Rattle.places.proofs.Texts.{word-length}
 use Rattle.places.proofs.Index.{passes-stop, passes-next, words-stuck, words-next}
@@ -43,7 +43,7 @@ module _ (set w : List ℕ) (i : ℕ) (h : i < length w) where
 -- THE FIRST WORD OF AN ITEM
 
 -- the keys of text
-pub text-key : (b : ℕ) (w : Word) → OneOf (bytes "ACN") b → firstWordPlace (byLetter b) w ≡ front text w
+pub text-key : (b : ℕ) (w : Word) → OneOf (bytes "ACN") b → firstWordPlace (byLetter b) w ≡ leading text w
 unfolding keyed
 text-key b w = ⊎-elim (λ e. rw e) (⊎-elim (λ e. rw e) (λ e. rw e))
 

@@ -9,11 +9,11 @@ use lib.ListN.{length}
 use borrow.Author.Tests.{le-leb, le-ltb, eqb-true, not-true}
 use Rattle.alphabet.specs.Text.{bytes}
 use Rattle.alphabet.specs.Alphabet.{letter, digit, text, inAlphabet, white, oneOf}
-use Rattle.text.specs.Words.{Word, same, textWord}
+use Rattle.text.specs.Words.{Word, same, textWord, leading}
 use Rattle.text.proofs.Tests.{both, and-both}
 use Rattle.shape.specs.Time.{timeFits, elapsedFits, elapsedHours}
 use Rattle.places.specs.Place.{IsPlace}
-use Rattle.places.specs.Parts.{larger, front, firstFits, firstPlace, runPlace}
+use Rattle.places.specs.Parts.{larger, firstFits, firstPlace, runPlace}
 use Rattle.places.proofs.Place.{place-of-language, no-place, either-place}
 use Rattle.places.proofs.Leaves.{first-place, run-place, passes-place}
 use Rattle.places.proofs.Fixed.{time-place}
@@ -31,7 +31,7 @@ use Rattle.supplement_places.specs.Places.{lettersPlace, firstWordPlace,
 
 -- A COLOUR
 
-colour-right : (s : List ℕ) → IsPlace colour s (front letter s)
+colour-right : (s : List ℕ) → IsPlace colour s (leading letter s)
 colour-right = many-place 2 letter 65 refl
 
 -- LETTERS OF A SET, none twice
@@ -67,13 +67,13 @@ letters-right set x e s =
 
 -- THE COVER, or a colour
 
-cover-within : (s : List ℕ) → larger (matched cover s) (front letter s) ≡ front letter s
+cover-within : (s : List ℕ) → larger (matched cover s) (leading letter s) ≡ leading letter s
 cover-within [] = refl
 cover-within (b ∷ s) = go (eqb 67 b) refl
   where
-    go : (x : Bool) → eqb 67 b ≡ x → larger (cond x 1 0) (front letter (b ∷ s)) ≡ front letter (b ∷ s)
-    go true q = subst (λ (c : ℕ). larger 1 (front letter (c ∷ s)) ≡ front letter (c ∷ s)) (eqb-true 67 b q) (rw (le-leb 1 (suc (front letter s)) (omega arith)))
-    go false q = larger-first (front letter (b ∷ s))
+    go : (x : Bool) → eqb 67 b ≡ x → larger (cond x 1 0) (leading letter (b ∷ s)) ≡ leading letter (b ∷ s)
+    go true q = subst (λ (c : ℕ). larger 1 (leading letter (c ∷ s)) ≡ leading letter (c ∷ s)) (eqb-true 67 b q) (rw (le-leb 1 (suc (leading letter s)) (omega arith)))
+    go false q = larger-first (leading letter (b ∷ s))
 
 pub shaded-is : (w : Word) → (same cover w || colour w) ≡ stands (shaded w)
 shaded-is w = rw (same-swap cover w) (go (same w cover) (colour w))
@@ -83,11 +83,11 @@ shaded-is w = rw (same-swap cover w) (go (same w cover) (colour w))
     go false true = refl
     go false false = refl
 
-shade-right : (s : List ℕ) → IsPlace (λ w. stands (shaded w)) s (front letter s)
+shade-right : (s : List ℕ) → IsPlace (λ w. stands (shaded w)) s (leading letter s)
 shade-right s =
     subst (IsPlace (λ w. stands (shaded w)) s) (cover-within s)
-    (place-of-language (λ w. same cover w || colour w) (λ w. stands (shaded w)) shaded-is s (larger (matched cover s) (front letter s))
-    (either-place (same cover) colour s (matched cover s) (front letter s) (label-place cover s) (colour-right s)))
+    (place-of-language (λ w. same cover w || colour w) (λ w. stands (shaded w)) shaded-is s (larger (matched cover s) (leading letter s))
+    (either-place (same cover) colour s (matched cover s) (leading letter s) (label-place cover s) (colour-right s)))
 
 -- THE FIRST WORD OF AN ITEM
 
@@ -106,7 +106,7 @@ count-right most h = run-place 1 most digit h 48 refl
 dinghies-right : (s : List ℕ) → IsPlace (λ w. stands (first D w)) s (firstWordPlace D s)
 dinghies-right s =
     place-of-language (λ w. count 2 w || stands (shaded w)) (λ w. stands (first D w)) (λ w. go w (count 2 w)) s (firstWordPlace D s)
-    (either-place (count 2) (λ w. stands (shaded w)) s (runPlace 2 digit s) (front letter s) (count-right 2 (omega arith) s) (shade-right s))
+    (either-place (count 2) (λ w. stands (shaded w)) s (runPlace 2 digit s) (leading letter s) (count-right 2 (omega arith) s) (shade-right s))
   where
     go : (w : Word) (x : Bool) → (x || stands (shaded w)) ≡ stands (cond x Number (shaded w))
     go w true = refl
@@ -119,9 +119,9 @@ key-right R s = taken-right Radio refl (someOf radioLetters) s (firstWordPlace R
 key-right S s = taken-right Survival refl (someOf survivalLetters) s (firstWordPlace S s) (letters-right survivalLetters 80 refl s)
 key-right J s = taken-right Lights refl (someOf lightLetters) s (firstWordPlace J s) (letters-right lightLetters 76 refl s)
 key-right D s = dinghies-right s
-key-right A s = taken-right Aircraft refl textWord s (front text s) (text-place s)
-key-right N s = taken-right Remarks refl textWord s (front text s) (text-place s)
-key-right C s = taken-right Pilot refl textWord s (front text s) (text-place s)
+key-right A s = taken-right Aircraft refl textWord s (leading text s) (text-place s)
+key-right N s = taken-right Remarks refl textWord s (leading text s) (text-place s)
+key-right C s = taken-right Pilot refl textWord s (leading text s) (text-place s)
 key-right Other s = no-place s
 
 -- and a word of each
@@ -150,10 +150,10 @@ further-right Lights s = taken-right JacketRadio refl (someOf jacketRadioLetters
 further-right JacketRadio s = no-place s
 further-right Number s = taken-right Capacity refl (count 3) s (furtherPlace Number s) (count-right 3 (omega arith) s)
 further-right Capacity s = shade-right s
-further-right Colours s = taken-right Colours refl colour s (front letter s) (colour-right s)
-further-right Aircraft s = taken-right Aircraft refl textWord s (front text s) (text-place s)
-further-right Remarks s = taken-right Remarks refl textWord s (front text s) (text-place s)
-further-right Pilot s = taken-right Pilot refl textWord s (front text s) (text-place s)
+further-right Colours s = taken-right Colours refl colour s (leading letter s) (colour-right s)
+further-right Aircraft s = taken-right Aircraft refl textWord s (leading text s) (text-place s)
+further-right Remarks s = taken-right Remarks refl textWord s (leading text s) (text-place s)
+further-right Pilot s = taken-right Pilot refl textWord s (leading text s) (text-place s)
 further-right Refused s = no-place s
 
 -- A WORD THAT BEGINS AN ITEM

@@ -9,9 +9,9 @@ use mathlib.Core.Option.{Option, none, some}
 use lib.Dec.{ltb, eqb}
 use Rattle.alphabet.specs.Text.{bytes}
 use Rattle.alphabet.specs.Alphabet.{letter, digit, text, inAlphabet, white}
-use Rattle.text.specs.Words.{Word, split}
+use Rattle.text.specs.Words.{Word, split, leading}
 use Rattle.shape.specs.Time.{timeFits, elapsedHours}
-use Rattle.places.specs.Parts.{larger, front, firstPlace, runPlace, timePlace, passes}
+use Rattle.places.specs.Parts.{larger, firstPlace, runPlace, timePlace, passes}
 use Rattle.places.specs.Words.{Words, wordsPlace}
 use Rattle.supplement.specs.Field19.{Key, E, P, R, S, J, D, A, N, C, Other, keyed, byLetter, place, lettersFit}
 use Rattle.supplement.specs.Field19.{personsDigits, numberDigits, capacityDigits, radioLetters, survivalLetters, lightLetters, jacketRadioLetters}
@@ -33,10 +33,10 @@ firstWordPlace P w = runPlace personsDigits digit w
 firstWordPlace R w = lettersPlace radioLetters w
 firstWordPlace S w = lettersPlace survivalLetters w
 firstWordPlace J w = lettersPlace lightLetters w
-firstWordPlace D w = larger (runPlace numberDigits digit w) (front letter w)
-firstWordPlace A w = front text w
-firstWordPlace N w = front text w
-firstWordPlace C w = front text w
+firstWordPlace D w = larger (runPlace numberDigits digit w) (leading letter w)
+firstWordPlace A w = leading text w
+firstWordPlace N w = leading text w
+firstWordPlace C w = leading text w
 firstWordPlace Other w = 0
 
 -- a further word of an item
@@ -49,11 +49,11 @@ furtherPlace Survival w = 0
 furtherPlace Lights w = lettersPlace jacketRadioLetters w
 furtherPlace JacketRadio w = 0
 furtherPlace Number w = runPlace capacityDigits digit w
-furtherPlace Capacity w = front letter w
-furtherPlace Colours w = front letter w
-furtherPlace Aircraft w = front text w
-furtherPlace Remarks w = front text w
-furtherPlace Pilot w = front text w
+furtherPlace Capacity w = leading letter w
+furtherPlace Colours w = leading letter w
+furtherPlace Aircraft w = leading text w
+furtherPlace Remarks w = leading text w
+furtherPlace Pilot w = leading text w
 furtherPlace Refused w = 0
 
 -- a word that begins an item: the letter of a key that may come next, an oblique, and the item's first word

@@ -2,7 +2,7 @@
 -- Assumes nothing.
 use Prim.Native.Nat.{ℕ, zero, suc, _+_, _-_, _<_, _≤_}
 use mathlib.Core.Path.{_≡_, refl, sym, ap, _∙_}
-use mathlib.Core.Bool.{Bool, true, false, cond}
+use mathlib.Core.Bool.{Bool, true, false, cond, not, _&&_, and-assoc, and-true}
 use mathlib.Core.List.{List, [], _∷_}
 use native.Mathlib.Omega.{arith}
 use native.Mathlib.Numerals.{add-one}
@@ -10,9 +10,10 @@ use lib.Dec.{eqb}
 use lib.ListN.{length, take, drop, getD, drop-of-length-le, length-drop}
 use lib.Seq.{drop-cons, drop-drop, take-all}
 use lib.Arith.{lt-of-le-ne}
-use borrow.Author.Tests.{eq-eqb, ne-eqb, lt-ltb, le-ltb, le-leb, lt-leb}
-use Rattle.text.specs.Words.{Word, split, onto, after, upTo, holds, before, behind, all, null, same, rankFrom, firstCells, cells}
+use borrow.Author.Tests.{eq-eqb, ne-eqb, lt-ltb, le-ltb, le-leb, lt-leb, not-true}
+use Rattle.text.specs.Words.{Word, split, onto, after, upTo, holds, before, behind, leading, all, free, null, same, rankFrom, firstCells, cells}
 use Rattle.text.specs.Places.{Stepped}
+use Rattle.text.proofs.Tests.{both}
 
 pub drop-here : (s : List ℕ) (i : ℕ) → i < length s → drop i s ≡ getD s i 0 ∷ drop (i + 1) s
 drop-here s i h = rw (add-one, drop-cons s i 0)
@@ -43,6 +44,20 @@ find-next c s i h e = rw (drop-here s i h, ne-eqb (getD s i 0) c e)
 pub find-end : (c : ℕ) (s : List ℕ) (i : ℕ) → length s ≤ i → upTo c (drop i s) ≡ 0
 find-end c s i h = rw (drop-end s i h)
 
+-- n bytes that are not c are passed at once
+over-free : (c n : ℕ) (s : List ℕ) → n ≤ length s → free c (take n s) ≡ true → upTo c s ≡ n + upTo c (drop n s)
+over-free c zero s h e = omega arith
+over-free c (suc n) [] h e = absurd (omega arith)
+over-free c (suc n) (b ∷ s) h e =
+    let t = both (not (eqb b c)) (free c (take n s)) e in
+    rw (not-true (eqb b c) (t .0)) (omega (arith, over-free c n s (omega arith) (t .1)))
+
+pub find-block : (c : ℕ) (s : List ℕ) (i : ℕ) → 16 ≤ length s - i → free c (take (i + 16 - i) (drop i s)) ≡ true
+    → upTo c (drop i s) ≡ 16 + upTo c (drop (i + 16) s)
+find-block c s i h e =
+    let n : i + 16 - i ≡ 16 = omega arith in
+    rw (← drop-drop 16 i s) (over-free c 16 (drop i s) (rw length-drop h) (rw n at e))
+
 -- EVERY BYTE
 
 pub all-stop : (p : ℕ → Bool) (s : List ℕ) (i : ℕ) → i < length s → p (getD s i 0) ≡ false → all p (drop i s) ≡ false
@@ -53,6 +68,33 @@ all-next p s i h e = rw (drop-here s i h, e)
 
 pub all-end : (p : ℕ → Bool) (s : List ℕ) (i : ℕ) → length s ≤ i → all p (drop i s) ≡ true
 all-end p s i h = rw (drop-end s i h)
+
+-- the same, gathered: `fine` says it of the bytes before i
+pub gather-next : (p : ℕ → Bool) (s : List ℕ) (i : ℕ) (fine : Bool) → i < length s
+    → (fine && p (getD s i 0)) && all p (drop (i + 1) s) ≡ fine && all p (drop i s)
+gather-next p s i fine h = rw (drop-here s i h) (and-assoc fine (p (getD s i 0)) (all p (drop (i + 1) s)))
+
+pub gather-end : (p : ℕ → Bool) (s : List ℕ) (i : ℕ) (fine : Bool) → length s ≤ i → fine ≡ fine && all p (drop i s)
+gather-end p s i fine h = rw (drop-end s i h) (sym (and-true fine))
+
+-- THE BYTES AT THE FRONT THAT PASS A TEST
+
+pub leading-here : (p : ℕ → Bool) (s : List ℕ) (i : ℕ) → i < length s → p (getD s i 0) ≡ false → leading p (drop i s) ≡ 0
+leading-here p s i h e = rw (drop-here s i h, e)
+
+pub leading-next : (p : ℕ → Bool) (s : List ℕ) (i : ℕ) → i < length s → p (getD s i 0) ≡ true → leading p (drop i s) ≡ suc (leading p (drop (i + 1) s))
+leading-next p s i h e = rw (drop-here s i h, e)
+
+pub leading-end : (p : ℕ → Bool) (s : List ℕ) (i : ℕ) → length s ≤ i → leading p (drop i s) ≡ 0
+leading-end p s i h = rw (drop-end s i h)
+
+pub all-leading : (p : ℕ → Bool) (s : List ℕ) → all p (take (leading p s) s) ≡ true
+all-leading p [] = refl
+all-leading p (b ∷ s) = go (all-leading p s) (p b) refl
+  where
+    go : all p (take (leading p s) s) ≡ true → (t : Bool) → p b ≡ t → all p (take (cond t (suc (leading p s)) 0) (b ∷ s)) ≡ true
+    go ih true e = rw e ih
+    go ih false e = refl
 
 -- EQUAL BYTES
 

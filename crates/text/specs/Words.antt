@@ -62,6 +62,11 @@ abbrev pub null : {A : Type 0} → List A → Bool
 null [] = true
 null (x ∷ xs) = false
 
+-- how many bytes at the front pass a test
+abbrev pub leading : (ℕ → Bool) → List ℕ → ℕ
+leading p [] = 0
+leading p (b ∷ s) = cond (p b) (suc (leading p s)) 0
+
 -- c stands nowhere in w
 abbrev pub free : ℕ → Word → Bool
 free c w = all (λ b. not (eqb b c)) w
@@ -121,6 +126,9 @@ fields-joined = refl
 
 oblique-cut : (before 47 (bytes "DOF/240229") ≡ bytes "DOF") × (behind 47 (bytes "DOF/240229") ≡ bytes "240229")
 oblique-cut = (refl, refl)
+
+led : (leading (λ b. eqb b 65) (bytes "AAB A") ≡ 2) × (leading (λ b. eqb b 65) (bytes "AA") ≡ 2) × (leading (λ b. eqb b 65) (bytes "B") ≡ 0)
+led = (refl, refl, refl)
 
 ranked : (rank (bytes "DOF") (split 32 (bytes "STS DOF RMK")) ≡ 2) × (rank (bytes "DO") (split 32 (bytes "STS DOF RMK")) ≡ 0)
 ranked = (refl, refl)

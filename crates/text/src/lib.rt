@@ -2,7 +2,7 @@
 ghost use mathlib.Core.Path.{_≡_};
 ghost use Prim.Native.Nat.{ℕ, _+_, _≤_, _<_};
 ghost use lib.ListN.{length, drop, getD};
-ghost use Rattle.text.specs.Words.{split, upTo, before, all, textWord, same, elem, rank, cells};
+ghost use Rattle.text.specs.Words.{split, upTo, before, leading, all, free, textWord, same, elem, rank, cells};
 ghost use Rattle.text.specs.Kinds.{ofKind};
 ghost use Rattle.text.specs.Places.{Stepped};
 ghost use Rattle.text.specs.Lent.{front};
@@ -21,6 +21,36 @@ pub fn find(s: &[u8], from: usize, c: u8) -> usize
         i += 1;
     }
     i
+}
+
+// Whether c stands nowhere in s. No branch: it is worked out for 16 bytes at a time.
+fn is_free(c: u8, s: &[u8]) -> bool
+    ensures { λ r. ⌜ r ≡ free c (now (s .entry)) ⌝ }
+{
+    let mut fine = true;
+    let mut i = 0;
+    while i < s.len() {
+        fine = fine & (s[i] != c);
+        i += 1;
+    }
+    fine
+}
+
+// As find, over blocks of 16 bytes as long as none of them is c: for what may be far away.
+pub fn find_far(s: &[u8], from: usize, c: u8) -> usize
+    requires { ⌜ from ≤ length (now s) ⌝ }
+    ensures { λ r. ⌜ r ≡ from + upTo c (drop from (now (s .entry))) ⌝ }
+    ensures { λ r. ⌜ (from ≤ r) × (r ≤ length (now (s .entry))) ⌝ }
+{
+    let mut i = from;
+    while 16 <= s.len() - i {
+        let e = i + 16;
+        if !is_free(c, &s[i..e]) {
+            return find(s, i, c);
+        }
+        i = e;
+    }
+    find(s, i, c)
 }
 
 // What a byte may be.
@@ -54,6 +84,22 @@ pub fn all_of(k: Kind, w: &[u8]) -> bool
         i += 1;
     }
     true
+}
+
+// Where the bytes of a kind end that begin at `from`: the place of the first that is none, or the length.
+pub fn end_of(k: Kind, s: &[u8], from: usize) -> usize
+    requires { ⌜ from ≤ length (now s) ⌝ }
+    ensures { λ r. ⌜ r ≡ from + leading (ofKind k) (drop from (now (s .entry))) ⌝ }
+    ensures { λ r. ⌜ (from ≤ r) × (r ≤ length (now (s .entry))) ⌝ }
+{
+    let mut i = from;
+    while i < s.len() {
+        if !is_kind(k, s[i]) {
+            return i;
+        }
+        i += 1;
+    }
+    i
 }
 
 // Whether w is a text word.
@@ -166,7 +212,7 @@ impl Cursor {
         ensures { λ r. ⌜ (self .at ≤ r) × (r ≤ length (now (s .entry))) ⌝ }
     {
         let at = self.at;
-        find(s, at, c)
+        find_far(s, at, c)
     }
 
     // Over the piece and the c that ends it.

@@ -1,150 +1,166 @@
 -- `canonical::put_word` meets its contract. Assumes nothing.
-use Prim.Native.Nat.{ℕ, _+_, _-_, _≤_}
-use mathlib.Core.List.{List, _++_}
-use mathlib.Core.Path.{_≡_, sym, ap, _∙_}
+use Prim.Native.Nat.{ℕ, _+_, _-_, _<_, _≤_}
+use mathlib.Core.Bool.{Bool, true, cond}
+use mathlib.Core.List.{List, [], _∷_, _++_}
+use mathlib.Core.Path.{_≡_, refl, sym, ap, ap₂, _∙_}
 use native.Mathlib.Omega.{arith}
-use lib.ListN.{length, take, drop, length-drop}
-use lib.Seq.{length-take-le}
+use lib.Dec.{eqb}
+use lib.ListN.{length, take, drop, getD, set, length-set, length-drop}
+use borrow.Author.Tests.{not-true, not-false}
 use Rattle.text.specs.Lent.{front}
 use Rattle.text.proofs.Index.{rest}
-use Rattle.text.proofs.Lent.{lent, length-front}
+use Rattle.text.proofs.Lent.{lent}
 use Rattle.supplement.specs.declared.Stage.{Stage}
-use Rattle.canonical.specs.Rewriting.{changed, rewrite}
-use Rattle.canonical.proofs.Steps.{rewrite-parts, rewrite-length, rewrite-shorter}
-use Rattle.canonical.proofs.Turns.{halves}
+use Rattle.supplement.proofs.Steps.{second-inside}
+use Rattle.canonical.specs.Rewriting.{changed, upToOblique, rewrite}
+use Rattle.canonical.proofs.Steps.{rewrite-parts, rewrite-length, rewrite-shorter, two-bytes, stored-two}
+use Rattle.canonical.proofs.Turns.{put-same, room-same, halves}
 use borrow.Author.Needs.{needs}
 use Rattle.canonical.proofs.put_word.Statement.{statement}
 use Rattle.canonical.proofs.put_word.Tie as tie
 
--- what is put first, and what is put behind it
+-- a word without a key is changed as a whole
+module _ (c : tie.Then1) where
+  abbrev start : tie.Start
+  start = c .before .before .before .before
 
-abbrev Led : tie.After-put → tie.After-up-to-oblique
-Led p = p .before .before .before
+  plain : rewrite (start .args .stage) (start .args .w .now) ≡ changed (start .args .stage) (start .args .w .now)
+  plain =
+      let n = sym (c .before .has-key .ensures) ∙ not-true _ (c .if1 .taken) in
+      rewrite-parts (start .args .stage) (start .args .w .now) 0 (sym (start .pre .0 ∙ ap (λ (b : Bool). cond b 2 0) n)) (omega arith)
 
-abbrev W : tie.After-put → List ℕ
-W p = Led p .before .before .before .args .w .now
+-- a word with a key: what is put first, and what is put behind it
+module _ (c : tie.Else1) where
+  abbrev Start : tie.Start
+  Start = c .before .before .before .before
 
-abbrev Out : tie.After-put → List ℕ
-Out p = Led p .before .before .before .args .out .now
+  abbrev W : List ℕ
+  W = Start .args .w .now
 
-abbrev St : tie.After-put → Stage
-St p = Led p .before .before .before .args .stage
+  abbrev Out : List ℕ
+  Out = Start .args .out .now
 
-abbrev O : tie.After-put → ℕ
-O p = Led p .up-to-oblique .result
+  abbrev St : Stage
+  St = Start .args .stage
 
-abbrev behindIt : tie.After-put → List ℕ
-behindIt p = changed (St p) (drop (O p) (W p))
+  second : eqb (getD W 1 0) 47 ≡ true
+  second = sym (c .before .has-key .ensures) ∙ not-false _ (c .if1 .left)
 
-behind-same : (p : tie.After-put) → changed (St p) (take (length (W p) - O p) (drop (O p) (W p))) ≡ behindIt p
-behind-same p = ap (changed (St p)) (rest (W p) (O p))
+  inside : 1 < length W
+  inside = second-inside W second
 
-head-length : (p : tie.After-put) → length (take (O p) (W p)) ≡ O p
-head-length p = length-take-le (O p) (W p) (Led p .up-to-oblique .ensures .1)
+  two : 2 ≡ upToOblique W
+  two = sym (Start .pre .0 ∙ ap (λ (b : Bool). cond b 2 0) second)
 
-whole-length : (p : tie.After-put) → length (rewrite (St p) (W p)) ≡ O p + length (behindIt p)
-whole-length p = rewrite-length (St p) (W p) (O p) (Led p .up-to-oblique .ensures .0) (Led p .up-to-oblique .ensures .1)
+  within : 2 ≤ length W
+  within = omega (arith, inside)
 
-middle-length : (p : tie.After-put) → length (p .put .last .1 .0) ≡ length (Out p)
-middle-length p =
-    ap length (p .put .ensures .1)
-    ∙ length-front (take (O p) (W p)) (Out p) (omega (arith, head-length p, whole-length p, Led p .before .before .before .pre))
+  abbrev behindIt : List ℕ
+  behindIt = changed St (take (length W - 2) (drop 2 W))
 
-inside : (p : tie.After-put) → p .put .result ≤ length (p .put .last .1 .0)
-inside p = omega (arith, p .put .ensures .0, middle-length p, head-length p, whole-length p, Led p .before .before .before .pre)
+  behind-same : behindIt ≡ changed St (drop 2 W)
+  behind-same = ap (changed St) (rest W 2)
 
-up-to-oblique-requires : tie.Need-up-to-oblique-requires
-up-to-oblique-requires c κs = search needs
+  whole-length : length (rewrite St W) ≡ 2 + length behindIt
+  whole-length = rewrite-length St W 2 two within ∙ ap (λ (v : List ℕ). 2 + length v) (sym behind-same)
 
-slice-aggregate-put : tie.Need-slice-aggregate-put
-slice-aggregate-put c = sym (length-take-le _ _ (omega arith))
+  roomy : 2 + length behindIt ≤ length Out
+  roomy = omega (arith, whole-length, Start .pre .1)
 
-put-requires : tie.Need-put-requires
-put-requires c κs =
-    let led = c .before .before in
-    let a = led .before .before .before in
-    let w = a .args .w .now in
-    let o = led .up-to-oblique .result in
-    let e = led .up-to-oblique .ensures in
-    let h : length (take o w) ≤ length (a .args .out .now)
-    = omega (arith, length-take-le o w (e .1), rewrite-length (a .args .stage) w o (e .0) (e .1), a .pre) in
-    h
+  abbrev led : List ℕ
+  led = set (set Out 0 (getD W 0 0)) 1 47
 
-sub-put-changed : tie.Need-sub-put-changed
-sub-put-changed c = search needs
+  led-length : length led ≡ length Out
+  led-length = length-set (set Out 0 (getD W 0 0)) 1 47 ∙ length-set Out 0 (getD W 0 0)
 
-part-put-changed-start : tie.Need-part-put-changed-start
-part-put-changed-start c = search needs
-
-part-put-changed-end : tie.Need-part-put-changed-end
-part-put-changed-end c = search needs
-
-sub-put-changed-2 : tie.Need-sub-put-changed-2
-sub-put-changed-2 c = inside (c .before .before .before)
-
-part-put-changed-start-2 : tie.Need-part-put-changed-start-2
-part-put-changed-start-2 c = inside (c .before .before .before)
-
-part-put-changed-end-2 : tie.Need-part-put-changed-end-2
-part-put-changed-end-2 c = search needs
+has-key-requires : tie.Need-has-key-requires
+has-key-requires c κs = search needs
 
 put-changed-requires : tie.Need-put-changed-requires
-put-changed-requires c κs =
-    let p = c .before .before .before .before in
-    let mid = p .put .last .1 .0 in
-    let n = p .put .result in
-    let h : length (changed (St p) (take (length (W p) - O p) (drop (O p) (W p)))) ≤ length (take (length mid - n) (drop n mid))
-    = omega (
-      arith,
-      ap length (behind-same p),
-      ap length (rest mid n),
-      length-drop n mid,
-      p .put .ensures .0,
-      middle-length p,
-      head-length p,
-      whole-length p,
-      Led p .before .before .before .pre,
-    ) in
-    h
-
-add-result : tie.Need-add-result
-add-result c =
-    let written = c .before .before .before in
-    let p = written .before .before .before .before in
-    let s = rewrite-shorter (St p) (W p) (O p) (Led p .up-to-oblique .ensures .0) (Led p .up-to-oblique .ensures .1) in
-    omega (arith, c .before .before .put-changed .ensures .0, ap length (behind-same p), p .put .ensures .0, head-length p, whole-length p, s)
+put-changed-requires c κs = let t = c .before in room-same (start t .args .out .now) (plain t) (start t .pre .1)
 
 same-length : tie.Need-same-length
 same-length c = search needs
 
 returns : tie.Need-returns
 returns c =
-    let written = c .before .before .before in
-    let p = written .before .before .before .before in
-    let mid = p .put .last .1 .0 in
-    let n = p .put .result in
-    let second = changed (St p) (take (length (W p) - O p) (drop (O p) (W p))) in (
-      omega (arith, c .before .before .put-changed .ensures .0, ap length (behind-same p), p .put .ensures .0, head-length p, whole-length p),
-      lent mid second n _ (c .before .before .put-changed .ensures .1)
-          ∙ halves (take (O p) (W p)) second (Out p) mid n (p .put .ensures .0) (p .put .ensures .1)
-          ∙ ap (λ (v : List ℕ). front (take (O p) (W p) ++ v) (Out p)) (behind-same p)
-          ∙ ap (λ (v : List ℕ). front v (Out p)) (sym (rewrite-parts (St p) (W p) (O p) (Led p .up-to-oblique .ensures .0) (Led p .up-to-oblique .ensures .1))),
+    let p = c .before .before in
+    let t = p .before .before in
+    put-same (start t .args .out .now) (sym (plain t)) (p .put-changed .ensures)
+
+shared-slice-read-out : tie.Need-shared-slice-read-out
+shared-slice-read-out c = omega (arith, inside (c .before))
+
+slice-write-out : tie.Need-slice-write-out
+slice-write-out c = omega (arith, roomy (c .before))
+
+slice-write-out-2 : tie.Need-slice-write-out-2
+slice-write-out-2 c = simp length-set (omega (arith, roomy (c .before)))
+
+sub-put-changed : tie.Need-sub-put-changed
+sub-put-changed c = within (c .before)
+
+part-put-changed-start : tie.Need-part-put-changed-start
+part-put-changed-start c = within (c .before)
+
+part-put-changed-end : tie.Need-part-put-changed-end
+part-put-changed-end c = search needs
+
+sub-put-changed-2 : tie.Need-sub-put-changed-2
+sub-put-changed-2 c = let e = c .before .before in omega (arith, roomy e, led-length e)
+
+part-put-changed-start-2 : tie.Need-part-put-changed-start-2
+part-put-changed-start-2 c = let e = c .before .before in omega (arith, roomy e, led-length e)
+
+part-put-changed-end-2 : tie.Need-part-put-changed-end-2
+part-put-changed-end-2 c = search needs
+
+put-changed-requires-2 : tie.Need-put-changed-requires-2
+put-changed-requires-2 c κs =
+    let e = c .before .before .before in
+    let h : length (behindIt e) ≤ length (take (length (led e) - 2) (drop 2 (led e)))
+    = omega (arith, ap length (rest (led e) 2), length-drop 2 (led e), led-length e, roomy e) in
+    h
+
+add-result : tie.Need-add-result
+add-result c =
+    let p = c .before .before in
+    let e = p .before .before .before .before in
+    omega (arith, p .put-changed2 .ensures .0, whole-length e, rewrite-shorter (St e) (W e) 2 (two e) (within e))
+
+same-length-2 : tie.Need-same-length-2
+same-length-2 c = c .before .out2 .given .1 ∙ led-length (c .before .before .before .before .before .before)
+
+returns-2 : tie.Need-returns-2
+returns-2 c =
+    let p = c .before .before in
+    let e = p .before .before .before .before in
+    let a = getD (W e) 0 0 in (
+      omega (arith, p .put-changed2 .ensures .0, whole-length e),
+      lent (led e) (behindIt e) 2 _ (p .put-changed2 .ensures .1)
+          ∙ halves (a ∷ (47 ∷ [])) (behindIt e) (Out e) (led e) 2 refl (stored-two (Out e) a 47 (omega (arith, roomy e)))
+          ∙ ap₂ (λ (u v : List ℕ). front (u ++ v) (Out e)) (sym (two-bytes (W e) (second e))) (behind-same e)
+          ∙ ap (λ (v : List ℕ). front v (Out e)) (sym (rewrite-parts (St e) (W e) 2 (two e) (within e))),
     )
 
 pub put-word-spec : {M : Type 1} → statement M
 put-word-spec =
     tie.close
     (tie.spec
-    up-to-oblique-requires
-    slice-aggregate-put
-    put-requires
+    has-key-requires
+    put-changed-requires
+    same-length
+    returns
+    shared-slice-read-out
+    slice-write-out
+    slice-write-out-2
     sub-put-changed
     part-put-changed-start
     part-put-changed-end
     sub-put-changed-2
     part-put-changed-start-2
     part-put-changed-end-2
-    put-changed-requires
+    put-changed-requires-2
     add-result
-    same-length
-    returns)
+    same-length-2
+    returns-2)

@@ -6,24 +6,29 @@ use lib.ListN.{length, drop, length-set}
 use Rattle.text.specs.Words.{cells}
 use Rattle.text.proofs.Index.{drop-end}
 use Rattle.codes.specs.Codes.{codes, codesFit}
+use Rattle.codes.proofs.Pairs.{code-alone}
 use Rattle.codes.proofs.Marks.{rest, rest-starts, not-listed, seen-before, marked, comes-again, comes-once}
 use borrow.Author.Needs.{needs}
 use Rattle.codes.proofs.codes_fit.Statement.{statement}
 use Rattle.codes.proofs.codes_fit.Tie as tie
 
 abbrev Inv-loop : tie.InvT-loop
-Inv-loop list s seen₀ at₀ seen at = (at ≤ length s) × (length seen ≡ 64) × (codesFit (cells 2 list) (codes s) ≡ rest seen (cells 2 list) (codes (drop at s)))
+Inv-loop list s first seen₀ at₀ seen at =
+    (at ≤ length s) × (length seen ≡ 64) × (codesFit (cells 2 list) (codes s) ≡ rest seen (cells 2 list) (codes (drop at s)))
 
 abbrev μ-loop : tie.MeasureT-loop
-μ-loop list s seen₀ at₀ seen at = length s - at
+μ-loop list s first seen₀ at₀ seen at = length s - at
 
 -- where a code's rank is known
-module _ (c : tie.After-rank-in-cells Inv-loop μ-loop) where
+module _ (c : tie.After-rank-by Inv-loop μ-loop) where
   abbrev ended : tie.After-code-end Inv-loop μ-loop
-  ended = c .before .before
+  ended = c .before .before .before
 
   abbrev looped : tie.At-loop Inv-loop μ-loop
   looped = ended .before .before
+
+index-cells-requires : tie.Need-index-cells-requires Inv-loop μ-loop
+index-cells-requires c κs = (refl, refl)
 
 loop-holds : tie.Need-loop-holds Inv-loop μ-loop
 loop-holds c = (search needs, refl, rest-starts _ refl _ _)
@@ -40,14 +45,19 @@ part-w-start c = search needs
 part-w-end : tie.Need-part-w-end Inv-loop μ-loop
 part-w-end c = search needs
 
-rank-in-cells-requires : tie.Need-rank-in-cells-requires Inv-loop μ-loop
-rank-in-cells-requires c κs = search needs
+rank-by-requires : tie.Need-rank-by-requires Inv-loop μ-loop
+rank-by-requires c κs =
+    let e = c .before .before in
+    let l = e .before .before in
+    let n = l .before in
+    let s = n .before .before .before .before .args .s .now in
+    (code-alone (drop (l .loop .at) s) _ _ (e .code-end .ensures .0), n .index-cells .ensures)
 
 returns : tie.Need-returns Inv-loop μ-loop
 returns c =
     let r = c .before in
     let l = looped r .loop in
-    not-listed _ (l .seen) _ _ _ _ _ (l .inv .2) (ended r .code-end .ensures .0) (r .rank-in-cells .ensures) (c .if1 .taken)
+    not-listed _ (l .seen) _ _ _ _ _ (l .inv .2) (ended r .code-end .ensures .0) (r .rank-by .ensures) (c .if1 .taken)
 
 array-read-if3 : tie.Need-array-read-if3 Inv-loop μ-loop
 array-read-if3 c = search needs
@@ -56,7 +66,7 @@ returns-2 : tie.Need-returns-2 Inv-loop μ-loop
 returns-2 c =
     let r = c .before .before .before in
     let l = looped r .loop in
-    seen-before _ (l .seen) _ _ _ _ _ (l .inv .2) (ended r .code-end .ensures .0) (r .rank-in-cells .ensures) (c .if3 .taken)
+    seen-before _ (l .seen) _ _ _ _ _ (l .inv .2) (ended r .code-end .ensures .0) (r .rank-by .ensures) (c .if3 .taken)
 
 array-write-seen : tie.Need-array-write-seen Inv-loop μ-loop
 array-write-seen c = search needs
@@ -70,8 +80,8 @@ loop-again c =
     let r = n .before in
     let l = looped r .loop in (
       search needs,
-      length-set (l .seen) (r .rank-in-cells .result) _ ∙ l .inv .1,
-      marked _ (l .seen) _ _ _ _ _ (l .inv .2) (ended r .code-end .ensures .0) (r .rank-in-cells .ensures) (n .if1 .left) (omega arith) (c .if3 .left),
+      length-set (l .seen) (r .rank-by .result) _ ∙ l .inv .1,
+      marked _ (l .seen) _ _ _ _ _ (l .inv .2) (ended r .code-end .ensures .0) (r .rank-by .ensures) (n .if1 .left) (omega arith) (c .if3 .left),
     )
 
 comes-requires : tie.Need-comes-requires Inv-loop μ-loop
@@ -83,7 +93,7 @@ returns-3 c =
     let r = n .before in
     let l = looped r .loop in
     let e = sym (c .before .comes .ensures) ∙ c .if4 .taken in
-    comes-again _ (l .seen) _ _ _ _ _ (l .inv .2) (ended r .code-end .ensures .0) (r .rank-in-cells .ensures) (n .if1 .left) e
+    comes-again _ (l .seen) _ _ _ _ _ (l .inv .2) (ended r .code-end .ensures .0) (r .rank-by .ensures) (n .if1 .left) e
 
 loop-less-2 : tie.Need-loop-less-2 Inv-loop μ-loop
 loop-less-2 c = search needs
@@ -96,7 +106,7 @@ loop-again-2 c =
     let e = sym (c .before .comes .ensures) ∙ c .if4 .left in (
       search needs,
       l .inv .1,
-      comes-once _ (l .seen) _ _ _ _ _ (l .inv .2) (ended r .code-end .ensures .0) (r .rank-in-cells .ensures) (n .if1 .left) (omega arith) e,
+      comes-once _ (l .seen) _ _ _ _ _ (l .inv .2) (ended r .code-end .ensures .0) (r .rank-by .ensures) (n .if1 .left) (omega arith) e,
     )
 
 returns-4 : tie.Need-returns-4 Inv-loop μ-loop
@@ -109,12 +119,13 @@ codes-fit-spec =
     (tie.spec
     Inv-loop
     μ-loop
+    index-cells-requires
     loop-holds
     code-end-requires
     sub-w
     part-w-start
     part-w-end
-    rank-in-cells-requires
+    rank-by-requires
     returns
     array-read-if3
     returns-2

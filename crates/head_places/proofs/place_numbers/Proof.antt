@@ -4,8 +4,8 @@ use native.Mathlib.Omega.{arith}
 use lib.ListN.{length}
 use borrow.Author.Tests.{not-true, not-false}
 use Rattle.alphabet.specs.Alphabet.{digit}
-use Rattle.text.specs.Words.{Word}
-use Rattle.places.specs.Parts.{front, noMore}
+use Rattle.text.specs.Words.{Word, leading}
+use Rattle.places.specs.Parts.{noMore}
 use Rattle.places.proofs.Leaves.{front-le}
 use Rattle.places.proofs.Index.{behind-within}
 use Rattle.head_places.specs.Places.{numberThen}
@@ -32,7 +32,7 @@ module _ (c : tie.After-front-of) where
   letters = on .before .before
 
   inside : n letters + c .front-of .result ≤ length (w letters)
-  inside = behind-within (front digit) (front-le digit) (w letters) (n letters) (c .front-of .result) (letters .to-digits .ensures .0) (c .front-of .ensures .0)
+  inside = behind-within (leading digit) (front-le digit) (w letters) (n letters) (c .front-of .result) (letters .to-digits .ensures .0) (c .front-of .ensures .0)
 
 to-digits-requires : tie.Need-to-digits-requires
 to-digits-requires c κs = search needs

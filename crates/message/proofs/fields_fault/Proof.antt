@@ -1,18 +1,39 @@
 -- `message::fields_fault` meets its contract. Assumes nothing.
-use Prim.Native.Nat.{_-_}
-use mathlib.Core.Path.{refl}
-use lib.ListN.{length}
-use Rattle.message.proofs.Walk.{Walked, walk-starts, walk-found, walk-clear, walk-next}
-use borrow.Author.Needs.{needs}
+use Prim.Native.Nat.{ℕ, _-_, _<_}
+use mathlib.Core.Path.{_≡_, refl}
+use mathlib.Core.List.{List}
 use native.Mathlib.Omega.{arith}
+use lib.ListN.{length, getD}
+use Rattle.message.specs.Ends.{startIn, EndAt}
+use Rattle.message.proofs.Walk.{Walked, walk-starts, walk-found, walk-clear, walk-next}
+use Rattle.message.proofs.Ends.{inside-ends, end-known, start-next}
+use borrow.Author.Needs.{needs}
 use Rattle.message.proofs.fields_fault.Statement.{statement}
 use Rattle.message.proofs.fields_fault.Tie as tie
 
 abbrev Inv-loop : tie.InvT-loop
-Inv-loop t count s seen₀ at₀ j₀ seen at j = Walked t count s seen at j
+Inv-loop t count s ends seen₀ at₀ j₀ seen at j = Walked t count s seen at j × (at ≡ startIn ends j)
 
 abbrev μ-loop : tie.MeasureT-loop
-μ-loop t count s seen₀ at₀ j₀ seen at j = length s - at
+μ-loop t count s ends seen₀ at₀ j₀ seen at j = length s - at
+
+-- at a field: its end is known
+module _ (c : tie.At-loop Inv-loop μ-loop) where
+  abbrev start : tie.Start Inv-loop μ-loop
+  start = c .before .before
+
+  abbrev ends : List ℕ
+  ends = start .args .ends .now
+
+  inside : c .loop .j < 13
+  inside =
+      inside-ends (start .args .t) (start .args .count) (start .args .s .now) ends (start .pre .0) (start .pre .1) (c .loop .at) (c .loop .j)
+      (c .loop .inv .0 .even)
+
+  end-here : EndAt (start .args .s .now) (c .loop .at) (getD ends (c .loop .j) 0)
+  end-here =
+      end-known (start .args .t) (start .args .count) (start .args .s .now) ends (start .pre .0) (start .pre .1) (c .loop .at) (c .loop .j)
+      (c .loop .inv .0 .even) (c .loop .inv .1)
 
 -- where a field's fault is known
 module _ (c : tie.After-fault-of Inv-loop μ-loop) where
@@ -22,29 +43,29 @@ module _ (c : tie.After-fault-of Inv-loop μ-loop) where
   abbrev formed : tie.After-form-at Inv-loop μ-loop
   formed = ranked .before .before
 
-  abbrev ended : tie.After-find Inv-loop μ-loop
-  ended = formed .before
-
   abbrev so-far : tie.At-loop Inv-loop μ-loop
-  so-far = ended .before
+  so-far = formed .before .before
 
 loop-holds : tie.Need-loop-holds Inv-loop μ-loop
-loop-holds c = let a = c .before in walk-starts (a .args .t) (a .args .count) (a .args .s .now) _ refl refl (a .pre)
+loop-holds c = let a = c .before in (walk-starts (a .args .t) (a .args .count) (a .args .s .now) _ refl refl (a .pre .1), refl)
 
-find-requires : tie.Need-find-requires Inv-loop μ-loop
-find-requires c κs = search needs
+mul-e : tie.Need-mul-e Inv-loop μ-loop
+mul-e c = omega (arith, inside c)
+
+element-copy-out-e : tie.Need-element-copy-out-e Inv-loop μ-loop
+element-copy-out-e c = omega (arith, inside c)
 
 form-at-requires : tie.Need-form-at-requires Inv-loop μ-loop
 form-at-requires c κs = search needs
 
 sub-rank-in : tie.Need-sub-rank-in Inv-loop μ-loop
-sub-rank-in c = search needs
+sub-rank-in c = omega (arith, end-here (c .before .before) .end)
 
 part-rank-in-start : tie.Need-part-rank-in-start Inv-loop μ-loop
-part-rank-in-start c = search needs
+part-rank-in-start c = omega (arith, end-here (c .before .before) .end)
 
 part-rank-in-end : tie.Need-part-rank-in-end Inv-loop μ-loop
-part-rank-in-end c = search needs
+part-rank-in-end c = omega (arith, end-here (c .before .before) .inside)
 
 rank-in-requires : tie.Need-rank-in-requires Inv-loop μ-loop
 rank-in-requires c κs = search needs
@@ -53,13 +74,13 @@ array-read-fault-of : tie.Need-array-read-fault-of Inv-loop μ-loop
 array-read-fault-of c = search needs
 
 sub-fault-of : tie.Need-sub-fault-of Inv-loop μ-loop
-sub-fault-of c = search needs
+sub-fault-of c = omega (arith, end-here (c .before .before .before .before) .end)
 
 part-fault-of-start : tie.Need-part-fault-of-start Inv-loop μ-loop
-part-fault-of-start c = search needs
+part-fault-of-start c = omega (arith, end-here (c .before .before .before .before) .end)
 
 part-fault-of-end : tie.Need-part-fault-of-end Inv-loop μ-loop
-part-fault-of-end c = search needs
+part-fault-of-end c = omega (arith, end-here (c .before .before .before .before) .inside)
 
 fault-of-requires : tie.Need-fault-of-requires Inv-loop μ-loop
 fault-of-requires c κs = search needs
@@ -67,35 +88,39 @@ fault-of-requires c κs = search needs
 returns : tie.Need-returns Inv-loop μ-loop
 returns c =
     let d = c .before in
+    let w = so-far d in
     let r = ranked d .rank-in .ensures in
-    walk-found _ _ _ _ _ _ _ (so-far d .loop .inv) (ended d .find .ensures .0) _ _ _ (formed d .form-at .ensures) (r .0) (r .1) (d .fault-of .ensures)
-    (c .if1 .taken)
+    walk-found _ _ _ _ _ _ _ (w .loop .inv .0) (end-here w .end) _ _ _ (formed d .form-at .ensures) (r .0) (r .1) (d .fault-of .ensures) (c .if1 .taken)
 
 returns-2 : tie.Need-returns-2 Inv-loop μ-loop
 returns-2 c =
     let d = c .before .before in
+    let w = so-far d in
     let r = ranked d .rank-in .ensures in
-    walk-clear _ _ _ _ _ _ _ (so-far d .loop .inv) (ended d .find .ensures .0) _ _ _ (formed d .form-at .ensures) (r .0) (r .1) (d .fault-of .ensures)
+    walk-clear _ _ _ _ _ _ _ (w .loop .inv .0) (end-here w .end) _ _ _ (formed d .form-at .ensures) (r .0) (r .1) (d .fault-of .ensures)
     (c .before .if1 .left) (omega arith)
 
 array-write-seen : tie.Need-array-write-seen Inv-loop μ-loop
 array-write-seen c = search needs
 
 add-at : tie.Need-add-at Inv-loop μ-loop
-add-at c = search needs
+add-at c = omega (arith, end-here (so-far (c .before .before)) .inside)
 
 add-j : tie.Need-add-j Inv-loop μ-loop
-add-j c = search needs
+add-j c = omega (arith, inside (so-far (c .before .before)))
 
 loop-less : tie.Need-loop-less Inv-loop μ-loop
-loop-less c = search needs
+loop-less c = let e = end-here (so-far (c .before .before)) in omega (arith, e .end, e .inside)
 
 loop-again : tie.Need-loop-again Inv-loop μ-loop
 loop-again c =
     let d = c .before .before in
-    let r = ranked d .rank-in .ensures in
-    walk-next _ _ _ _ _ _ _ (so-far d .loop .inv) (ended d .find .ensures .0) _ _ _ (formed d .form-at .ensures) (r .0) (r .1) (d .fault-of .ensures)
-    (c .before .if1 .left) (omega arith)
+    let w = so-far d in
+    let r = ranked d .rank-in .ensures in (
+      walk-next _ _ _ _ _ _ _ (w .loop .inv .0) (end-here w .end) _ _ _ (formed d .form-at .ensures) (r .0) (r .1) (d .fault-of .ensures)
+          (c .before .if1 .left) (omega (arith, end-here w .inside)),
+      start-next (ends w) (w .loop .j),
+    )
 
 pub fields-fault-spec : {M : Type 1} → statement M
 fields-fault-spec =
@@ -104,7 +129,8 @@ fields-fault-spec =
     Inv-loop
     μ-loop
     loop-holds
-    find-requires
+    mul-e
+    element-copy-out-e
     form-at-requires
     sub-rank-in
     part-rank-in-start

@@ -3,6 +3,7 @@ use Prim.Native.Nat.{ℕ}
 use mathlib.Core.Path.{refl, sym, _∙_}
 use lib.ListN.{length}
 use Rattle.message.proofs.Steps.{left-unexplained, none-unexplained, no-plan}
+use Rattle.message.proofs.Plans.{nine-contents}
 use borrow.Author.Needs.{needs}
 use Rattle.message.proofs.read_explained.Statement.{statement}
 use Rattle.message.proofs.read_explained.Tie as tie
@@ -18,8 +19,12 @@ module _ (c : tie.After-is-plan) where
 is-plan-requires : tie.Need-is-plan-requires
 is-plan-requires c κs = search needs
 
-unexplained-in-requires : tie.Need-unexplained-in-requires
-unexplained-in-requires c κs = search needs
+unexplained-by-requires : tie.Need-unexplained-by-requires
+unexplained-by-requires c κs =
+    let d = c .before in
+    let a = start d .args in
+    let k = start d .pre in
+    (k .1, nine-contents (a .t) (a .count) (a .s .now) (sym (d .is-plan .ensures) ∙ c .if1 .taken) (k .0 .even))
 
 place-in-plan-requires : tie.Need-place-in-plan-requires
 place-in-plan-requires c κs = search needs
@@ -34,7 +39,7 @@ returns c =
     let d = p .before in
     let plan = sym (d .is-plan .ensures) ∙ p .if1 .taken in
     rw (
-      left-unexplained _ _ _ _ (start d .pre) (room d) _ plan (u .unexplained-in .ensures) (c .before .before .if2 .taken),
+      left-unexplained _ _ _ _ (start d .pre .0) (room d) _ plan (u .unexplained-by .ensures) (c .before .before .if2 .taken),
       ← c .before .place-in-plan .ensures,
       ← c .place-of-hyphen .ensures,
     ) (refl, refl)
@@ -52,7 +57,7 @@ returns-2 c =
     let p = u .before in
     let d = p .before in
     let plan = sym (d .is-plan .ensures) ∙ p .if1 .taken in
-    rw (none-unexplained _ _ _ _ (start d .pre) (room d) _ plan (u .unexplained-in .ensures) (e .if2 .left)) (c .before .before .read-room .ensures)
+    rw (none-unexplained _ _ _ _ (start d .pre .0) (room d) _ plan (u .unexplained-by .ensures) (e .if2 .left)) (c .before .before .read-room .ensures)
 
 read-room-requires-2 : tie.Need-read-room-requires-2
 read-room-requires-2 c κs = start (c .before .before) .pre
@@ -64,14 +69,14 @@ returns-3 : tie.Need-returns-3
 returns-3 c =
     let p = c .before .before .before .before in
     let d = p .before in
-    rw (no-plan _ _ _ _ (start d .pre) (room d) (sym (d .is-plan .ensures) ∙ p .if1 .left)) (c .before .before .read-room2 .ensures)
+    rw (no-plan _ _ _ _ (start d .pre .0) (room d) (sym (d .is-plan .ensures) ∙ p .if1 .left)) (c .before .before .read-room2 .ensures)
 
 pub read-explained-spec : {M : Type 1} → statement M
 read-explained-spec =
     tie.close
     (tie.spec
     is-plan-requires
-    unexplained-in-requires
+    unexplained-by-requires
     place-in-plan-requires
     place-of-hyphen-requires
     returns

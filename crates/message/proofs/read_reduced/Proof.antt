@@ -1,71 +1,79 @@
 -- `message::read_reduced` meets its contract. Assumes nothing.
-use Prim.Native.Nat.{ℕ, _-_, _≤_}
-use mathlib.Core.Path.{ap, _∙_}
+use Prim.Native.Nat.{ℕ, _≤_}
+use mathlib.Core.Path.{_≡_, refl, sym, _∙_}
 use mathlib.Core.List.{List, []}
-use lib.ListN.{take, drop}
-use Rattle.outer.proofs.Good.{good-short}
-use Rattle.message.proofs.Steps.{counted, reduced-two, reduced-short, text-in}
+use lib.ListN.{length}
+use Rattle.text.proofs.Tests.{same-eq}
+use Rattle.space.specs.Reduced.{reduced}
+use Rattle.message.proofs.Steps.{counted, few-fields, two-bytes, text-itself}
 use native.Mathlib.Omega.{arith}
 use borrow.Author.Needs.{needs}
 use Rattle.message.proofs.read_reduced.Statement.{statement}
 use Rattle.message.proofs.read_reduced.Tie as tie
 
--- where the message stands reduced in the scratch
-module _ (c : tie.After-reduce) where
+-- where the message is its own reduction
+module _ (c : tie.Then1) where
   abbrev start : tie.Start
   start = c .before .before .before .before
 
   abbrev msg : List ℕ
   msg = start .args .msg .now
 
-  two : 2 ≤ c .reduce .result
-  two = reduced-two msg [] _ (start .pre .0) (c .reduce .ensures .0)
+  itself : reduced msg ≡ msg
+  itself = same-eq (reduced msg) msg (sym (c .before .is-reduced .ensures) ∙ c .if1 .taken)
 
-  short : c .reduce .result ≤ 1800
-  short = reduced-short msg [] _ (start .pre .0) (c .reduce .ensures .0)
+  two : 2 ≤ length msg
+  two = two-bytes msg (start .pre .0)
 
-slice-aggregate-reduce : tie.Need-slice-aggregate-reduce
-slice-aggregate-reduce c = search needs
+is-reduced-requires : tie.Need-is-reduced-requires
+is-reduced-requires c κs = search needs
 
-reduce-requires : tie.Need-reduce-requires
-reduce-requires c κs = good-short (c .before .before .before .args .msg .now) (c .before .before .before .pre .0)
-
-sub-e : tie.Need-sub-e
-sub-e c = omega (arith, two (c .before))
+sub-last : tie.Need-sub-last
+sub-last c = omega (arith, two c)
 
 sub-read-text : tie.Need-sub-read-text
-sub-read-text c = omega (arith, two (c .before))
+sub-read-text c = omega (arith, two c)
 
 part-read-text-start : tie.Need-part-read-text-start
-part-read-text-start c = omega (arith, two (c .before .before))
+part-read-text-start c = omega (arith, two c)
 
 part-read-text-end : tie.Need-part-read-text-end
-part-read-text-end c = let d = c .before .before in omega (arith, short d, d .reduce .kept .1 .0)
+part-read-text-end c = omega (arith, two c)
 
 read-text-requires : tie.Need-read-text-requires
 read-text-requires c κs =
-    let d = c .before .before .before .before in
+    let d = c .before .before in
     let s = start d in
-    let u = d .reduce in
-    counted (msg d) [] (u .result) (s .pre .0) (u .ensures .0) (s .args .t) (s .args .count) (s .pre .1) (s .pre .2) (s .pre .3) _
-    (ap (λ (l : List ℕ). take (u .result - 1 - 1) (drop 1 l)) (u .ensures .1) ∙ text-in (msg d) _ (u .result) (s .pre .0) (u .ensures .0))
+    let k = counted (msg d) [] _ (s .pre .0) refl (s .args .t) (s .args .count) (s .pre .1) (s .pre .2) (s .pre .3) _ (text-itself (msg d) (itself d)) in
+    (k, few-fields (s .args .t) (msg d) (s .args .count) _ k (s .pre .2) (s .pre .3))
 
 same-length : tie.Need-same-length
 same-length c = search needs
 
 returns : tie.Need-returns
-returns c = search needs
+returns c = c .before .before .read-text .ensures
+
+read-scratch-requires : tie.Need-read-scratch-requires
+read-scratch-requires c κs = c .before .before .before .before .before .pre
+
+same-length-2 : tie.Need-same-length-2
+same-length-2 c = search needs
+
+returns-2 : tie.Need-returns-2
+returns-2 c = c .before .before .read-scratch .ensures
 
 pub read-reduced-spec : {M : Type 1} → statement M
 read-reduced-spec =
     tie.close
     (tie.spec
-    slice-aggregate-reduce
-    reduce-requires
-    sub-e
+    is-reduced-requires
+    sub-last
     sub-read-text
     part-read-text-start
     part-read-text-end
     read-text-requires
     same-length
-    returns)
+    returns
+    read-scratch-requires
+    same-length-2
+    returns-2)

@@ -24,18 +24,18 @@ module _ (c : tie.After-has-room) where
   long = length (spelledFrom 40 (formsOf (start .args .t) (start .args .count)) (split 45 (start .args .s .now)))
 
 has-room-requires : tie.Need-has-room-requires
-has-room-requires c κs = (c .before .before .before .pre .short, c .before .before .before .pre .even)
+has-room-requires c κs = (c .before .before .before .pre .0 .short, c .before .before .before .pre .0 .even)
 
 returns : tie.Need-returns
 returns c =
     let d = c .before in
     let h = leb-false (long d) (room d) (sym (d .has-room .ensures) ∙ not-true _ (c .if1 .taken)) in
-    rw (room-short _ _ _ _ (start d .pre) (room d) (long d) refl h) (refl, refl)
+    rw (room-short _ _ _ _ (start d .pre .0) (room d) (long d) refl h) (refl, refl)
 
 write-fields-requires : tie.Need-write-fields-requires
 write-fields-requires c κs =
     let d = c .before .before in
-    (leb-true _ _ (sym (d .has-room .ensures) ∙ not-false _ (c .before .if1 .left)), start d .pre .even)
+    (start d .pre .1, leb-true _ _ (sym (d .has-room .ensures) ∙ not-false _ (c .before .if1 .left)), start d .pre .0 .even)
 
 same-length : tie.Need-same-length
 same-length c = search needs
@@ -45,7 +45,7 @@ returns-2 c =
     let w = c .before .before in
     let e = w .before .before in
     let d = e .before in
-    let k = start d .pre in
+    let k = start d .pre .0 in
     let n = w .write-fields .ensures in
     let h = leb-true (long d) (room d) (sym (d .has-room .ensures) ∙ not-false _ (e .if1 .left)) in
     rw (room-enough _ _ _ _ k (room d) _ (n .0) (omega (arith, n .0)), ← spelling-is _ _ _ _ k) (refl, n .1)

@@ -8,11 +8,19 @@ use Rattle.message.proofs.read_text.Tie as tie
 
 -- where the fields' fault is known
 module _ (c : tie.After-fields-fault) where
+  abbrev ended : tie.After-field-ends
+  ended = c .before .before
+
   abbrev start : tie.Start
-  start = c .before .before .before .before
+  start = ended .before .before .before .before
+
+field-ends-requires : tie.Need-field-ends-requires
+field-ends-requires c κs = c .before .before .before .pre .1
 
 fields-fault-requires : tie.Need-fields-fault-requires
-fields-fault-requires c κs = c .before .before .before .pre .even
+fields-fault-requires c κs =
+    let e = c .before in
+    (e .field-ends .ensures, e .before .before .before .before .pre .0 .even)
 
 enum-known-number : tie.Need-enum-known-number
 enum-known-number c = search needs
@@ -26,20 +34,22 @@ number-requires c κs = search needs
 fault-place-requires : tie.Need-fault-place-requires
 fault-place-requires c κs =
     let n = c .before .before .before in
-    start (n .before .before) .pre
+    start (n .before .before) .pre .0
 
 enum-told : tie.Need-enum-told
 enum-told c = search needs
 
 read-explained-requires : tie.Need-read-explained-requires
-read-explained-requires c κs = start (c .before .before .before) .pre
+read-explained-requires c κs =
+    let d = c .before .before .before .before in
+    (start d .pre .0, ended d .field-ends .ensures)
 
 returns : tie.Need-returns
 returns c =
     let n = c .before .before .before .before in
     let d = n .before .before in
     rw (
-      field-fault _ _ _ _ (start d .pre) (length (start d .args .out .now)) _ _ (sym (d .fields-fault .ensures) ∙ n .number .given .1),
+      field-fault _ _ _ _ (start d .pre .0) (length (start d .args .out .now)) _ _ (sym (d .fields-fault .ensures) ∙ n .number .given .1),
       ← c .before .before .form-at .ensures,
       ← c .before .number2 .ensures,
       ← c .fault-place .ensures,
@@ -51,15 +61,16 @@ same-length c = search needs
 returns-2 : tie.Need-returns-2
 returns-2 c =
     let r = c .before .before in
-    let t = r .before .before in
+    let t = r .before .before .before in
     let d = t .before .before in
-    let clear = fields-clear _ _ _ _ (start d .pre) (length (start d .args .out .now)) (sym (d .fields-fault .ensures) ∙ t .enum-told .given .1) in
+    let clear = fields-clear _ _ _ _ (start d .pre .0) (length (start d .args .out .now)) (sym (d .fields-fault .ensures) ∙ t .enum-told .given .1) in
     rw clear (r .read-explained .ensures)
 
 pub read-text-spec : {M : Type 1} → statement M
 read-text-spec =
     tie.close
     (tie.spec
+    field-ends-requires
     fields-fault-requires
     enum-known-number
     form-at-requires

@@ -3,16 +3,16 @@ use Prim.Native.Nat.{_+_, _-_, _≤_}
 use mathlib.Core.Path.{_≡_, sym, _∙_}
 use lib.ListN.{length, drop}
 use borrow.Author.Tests.{not-true, not-false}
+use Rattle.text.specs.Words.{leading}
 use Rattle.alphabet.specs.Alphabet.{oneOf}
-use Rattle.places.specs.Parts.{front}
-use Rattle.places.proofs.Index.{front-stop, front-next, front-end}
+use Rattle.text.proofs.Index.{leading-here, leading-next, leading-end}
 use borrow.Author.Needs.{needs}
 use native.Mathlib.Omega.{arith}
 use Rattle.other_places.proofs.front_in.Statement.{statement}
 use Rattle.other_places.proofs.front_in.Tie as tie
 
 abbrev Inv-loop : tie.InvT-loop
-Inv-loop w set i₀ i = (i ≤ length w) × (front (λ b. oneOf b set) w ≡ i + front (λ b. oneOf b set) (drop i w))
+Inv-loop w set i₀ i = (i ≤ length w) × (leading (λ b. oneOf b set) w ≡ i + leading (λ b. oneOf b set) (drop i w))
 
 abbrev μ-loop : tie.MeasureT-loop
 μ-loop w set i₀ i = length w - i
@@ -37,7 +37,7 @@ returns c =
     let l = turn .before in
     let a = start l .args in
     let off = sym (c .before .one-of .ensures) ∙ not-true _ (c .if1 .taken) in
-    omega (arith, front-stop (λ b. oneOf b (a .set .now)) (a .w .now) (l .loop .i) (turn .loop-test .taken) off)
+    omega (arith, leading-here (λ b. oneOf b (a .set .now)) (a .w .now) (l .loop .i) (turn .loop-test .taken) off)
 
 add-i : tie.Need-add-i Inv-loop μ-loop
 add-i c = search needs
@@ -51,13 +51,13 @@ loop-again c =
     let l = turn .before in
     let a = start l .args in
     let on = sym (c .before .one-of .ensures) ∙ not-false _ (c .if1 .left) in
-    omega (arith, front-next (λ b. oneOf b (a .set .now)) (a .w .now) (l .loop .i) (turn .loop-test .taken) on)
+    omega (arith, leading-next (λ b. oneOf b (a .set .now)) (a .w .now) (l .loop .i) (turn .loop-test .taken) on)
 
 returns-2 : tie.Need-returns-2 Inv-loop μ-loop
 returns-2 c =
     let l = c .before in
     let a = start l .args in
-    omega (arith, front-end (λ b. oneOf b (a .set .now)) (a .w .now) (l .loop .i) (c .loop-test .left))
+    omega (arith, leading-end (λ b. oneOf b (a .set .now)) (a .w .now) (l .loop .i) (c .loop-test .left))
 
 pub front-in-spec : {M : Type 1} → statement M
 front-in-spec =

@@ -8,24 +8,22 @@ use borrow.Author.Needs.{needs}
 use Rattle.route.proofs.out_of_range.Statement.{statement}
 use Rattle.route.proofs.out_of_range.Tie as tie
 
-slice-aggregate-fits : tie.Need-slice-aggregate-fits
-slice-aggregate-fits c = search needs
-
-fits-requires : tie.Need-fits-requires
-fits-requires c κs = search needs
+is-coordinate-requires : tie.Need-is-coordinate-requires
+is-coordinate-requires c κs = search needs
 
 returns : tie.Need-returns
 unfolding outOfRange
-returns c = rw (sym (c .before .fits2 .ensures) ∙ not-true _ (c .if1 .taken))
+returns c = rw (sym (c .before .is-coordinate .ensures) ∙ not-true _ (c .if1 .taken))
 
 in-degrees-requires : tie.Need-in-degrees-requires
 in-degrees-requires c κs =
-    fits-lengths (wide short) (c .before .before .before .before .args .w .now) (sym (c .before .fits2 .ensures) ∙ not-false _ (c .if1 .left))
+    let w = c .before .before .before .args .w .now in
+    fits-lengths (wide short) w (sym (c .before .is-coordinate .ensures) ∙ not-false _ (c .if1 .left))
 
 returns-2 : tie.Need-returns-2
 unfolding outOfRange
-returns-2 c = rw (sym (c .before .before .fits2 .ensures) ∙ not-false _ (c .before .if1 .left), c .in-degrees .ensures)
+returns-2 c = rw (sym (c .before .before .is-coordinate .ensures) ∙ not-false _ (c .before .if1 .left), c .in-degrees .ensures)
 
 pub out-of-range-spec : {M : Type 1} → statement M
 out-of-range-spec =
-    tie.close (tie.spec slice-aggregate-fits fits-requires returns in-degrees-requires returns-2)
+    tie.close (tie.spec is-coordinate-requires returns in-degrees-requires returns-2)

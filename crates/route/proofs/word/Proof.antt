@@ -21,13 +21,14 @@ returns-2 c =
     let k = c .before .before in
     rw (sym (k .before .same-bytes .ensures) ∙ k .if1 .left, sym (c .before .is-indicator .ensures) ∙ c .if2 .taken)
 
-point-requires : tie.Need-point-requires
-point-requires c κs = search needs
+point-of-signs-requires : tie.Need-point-of-signs-requires
+point-of-signs-requires c κs = search needs
 
 returns-3 : tie.Need-returns-3
 returns-3 c =
     let k = c .before .before .before in
-    rw (sym (k .before .same-bytes .ensures) ∙ k .if1 .left, sym (c .before .before .is-indicator .ensures) ∙ c .before .if2 .left) (c .point .ensures)
+    rw (sym (k .before .same-bytes .ensures) ∙ k .if1 .left, sym (c .before .before .is-indicator .ensures) ∙ c .before .if2 .left)
+    (c .point-of-signs .ensures)
 
 pub word-spec : {M : Type 1} → statement M
 word-spec =
@@ -38,5 +39,5 @@ word-spec =
     returns
     is-indicator-requires
     returns-2
-    point-requires
+    point-of-signs-requires
     returns-3)

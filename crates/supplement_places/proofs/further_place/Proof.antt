@@ -1,8 +1,8 @@
 -- `supplement_places::further_place` meets its contract. Assumes nothing.
 use mathlib.Core.Path.{refl, sym, ap, _∙_}
 use mathlib.Core.List.{[], _∷_}
+use Rattle.text.specs.Words.{leading}
 use Rattle.alphabet.specs.Alphabet.{letter, text}
-use Rattle.places.specs.Parts.{front}
 use Rattle.supplement.specs.declared.Stage.the-variants.{Start, Endurance, Persons, Radio, Survival, JacketRadio, Capacity, Colours}
 use Rattle.supplement.specs.declared.Stage.the-variants.{Aircraft, Remarks, Pilot, Refused}
 use Rattle.supplement.proofs.Stages.{among}
@@ -49,14 +49,14 @@ returns-3 c =
     let m = c .before in
     let a = m .before .before .args in
     c .front-of .ensures .0
-    ∙ sym (among (λ r. furtherPlace r (a .w .now)) (λ r. front letter (a .w .now)) (Capacity ∷ (Colours ∷ [])) (a .stage) (m .match .keys3) refl)
+    ∙ sym (among (λ r. furtherPlace r (a .w .now)) (λ r. leading letter (a .w .now)) (Capacity ∷ (Colours ∷ [])) (a .stage) (m .match .keys3) refl)
 
 returns-4 : tie.Need-returns-4
 returns-4 c =
     let m = c .before in
     let a = m .before .before .args in
     c .front-of2 .ensures .0
-    ∙ sym (among (λ r. furtherPlace r (a .w .now)) (λ r. front text (a .w .now)) (Aircraft ∷ (Remarks ∷ (Pilot ∷ []))) (a .stage) (m .match .keys4) refl)
+    ∙ sym (among (λ r. furtherPlace r (a .w .now)) (λ r. leading text (a .w .now)) (Aircraft ∷ (Remarks ∷ (Pilot ∷ []))) (a .stage) (m .match .keys4) refl)
 
 returns-5 : tie.Need-returns-5
 returns-5 c =

@@ -1,24 +1,24 @@
--- `places::front_of` meets its contract. Assumes nothing.
+-- `text::end_of` meets its contract. Assumes nothing.
 use Prim.Native.Nat.{_+_, _-_, _≤_}
 use mathlib.Core.Path.{_≡_, sym, _∙_}
 use native.Mathlib.Omega.{arith}
 use lib.ListN.{length, drop}
 use borrow.Author.Tests.{not-true, not-false}
+use Rattle.text.specs.Words.{leading}
 use Rattle.text.specs.Kinds.{ofKind}
-use Rattle.places.specs.Parts.{front}
-use Rattle.places.proofs.Index.{front-stop, front-next, front-end}
+use Rattle.text.proofs.Index.{leading-here, leading-next, leading-end}
 use borrow.Author.Needs.{needs}
-use Rattle.places.proofs.front_of.Statement.{statement}
-use Rattle.places.proofs.front_of.Tie as tie
+use Rattle.text.proofs.end_of.Statement.{statement}
+use Rattle.text.proofs.end_of.Tie as tie
 
 abbrev Inv-loop : tie.InvT-loop
-Inv-loop k s i₀ i = (i ≤ length s) × (front (ofKind k) s ≡ i + front (ofKind k) (drop i s))
+Inv-loop k s from i₀ i = (from ≤ i) × (i ≤ length s) × (from + leading (ofKind k) (drop from s) ≡ i + leading (ofKind k) (drop i s))
 
 abbrev μ-loop : tie.MeasureT-loop
-μ-loop k s i₀ i = length s - i
+μ-loop k s from i₀ i = length s - i
 
 loop-holds : tie.Need-loop-holds Inv-loop μ-loop
-loop-holds c = (search needs, search needs)
+loop-holds c = omega arith
 
 shared-slice-read-is-kind : tie.Need-shared-slice-read-is-kind Inv-loop μ-loop
 shared-slice-read-is-kind c = search needs
@@ -28,11 +28,10 @@ is-kind-requires c κs = search needs
 
 returns : tie.Need-returns Inv-loop μ-loop
 returns c =
-    let turn = c .before .before .before .before in
-    let start = turn .before .before in
-    let a = start .args in
+    let l = c .before .before .before .before in
+    let a = l .before .before .args in
     let e = sym (c .before .is-kind .ensures) ∙ not-true _ (c .if1 .taken) in
-    omega (arith, front-stop (ofKind (a .k)) (a .s .now) (turn .loop .i) (c .before .before .before .loop-test .taken) e)
+    omega (arith, leading-here (ofKind (a .k)) (a .s .now) (l .loop .i) (c .before .before .before .loop-test .taken) e)
 
 add-i : tie.Need-add-i Inv-loop μ-loop
 add-i c = search needs
@@ -42,17 +41,18 @@ loop-less c = search needs
 
 loop-again : tie.Need-loop-again Inv-loop μ-loop
 loop-again c =
-    let turn = c .before .before .before .before in
-    let start = turn .before .before in
-    let a = start .args in
+    let l = c .before .before .before .before in
+    let a = l .before .before .args in
     let e = sym (c .before .is-kind .ensures) ∙ not-false _ (c .if1 .left) in
-    omega (arith, front-next (ofKind (a .k)) (a .s .now) (turn .loop .i) (c .before .before .before .loop-test .taken) e)
+    omega (arith, leading-next (ofKind (a .k)) (a .s .now) (l .loop .i) (c .before .before .before .loop-test .taken) e)
 
 returns-2 : tie.Need-returns-2 Inv-loop μ-loop
-returns-2 c = let a = c .before .before .before .args in omega (arith, front-end (ofKind (a .k)) (a .s .now) (c .before .loop .i) (c .loop-test .left))
+returns-2 c =
+    let a = c .before .before .before .args in
+    omega (arith, leading-end (ofKind (a .k)) (a .s .now) (c .before .loop .i) (c .loop-test .left))
 
-pub front-of-spec : {M : Type 1} → statement M
-front-of-spec =
+pub end-of-spec : {M : Type 1} → statement M
+end-of-spec =
     tie.close
     (tie.spec
     Inv-loop
