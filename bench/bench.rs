@@ -1,23 +1,28 @@
-//! The proved reader and the second reader on the same inputs, turn by turn in one run: how long each takes, and how many times as long.
+//! The proved reader, the second reader and the yardstick on the same inputs.
 //!
-//! Of each set of inputs both readers' answers are compared first; the times of a set are those of the round whose ratio is the median.
+//! `bench check` compares their answers. `bench times` measures the first two, turn by turn in one run: how long each takes, and how many times as long.
+//! `bench sets` writes the inputs whose instructions are counted, for count.rs.
 #![cfg_attr(emulated, no_main)]
 
 #[path = "../examples/beechdoublet.rs"]
 mod beechdoublet;
+mod input;
 mod inputs;
+mod readers;
 
-use std::hint::black_box;
 use std::time::{Duration, Instant};
 
-use beechdoublet::{read, update, MOST};
-use inputs::{Offer, Set};
+use beechdoublet::MOST;
+use input::Input;
+use inputs::Table;
+use readers::{Answer, Reader};
 
 /// So many rounds at least, and for so long.
 const ROUNDS: usize = 15;
 const AT_LEAST: Duration = Duration::from_secs(2);
 
 /// The time of one round of each reader, in nanoseconds.
+#[derive(Default)]
 struct Times {
     proved: f64,
     second: f64,
@@ -29,76 +34,23 @@ impl Times {
     }
 }
 
-fn timed(round: &mut dyn FnMut()) -> f64 {
+fn timed(reader: Reader, inputs: &[Input]) -> f64 {
+    let mut out = [0; MOST];
     let start = Instant::now();
-    round();
+    reader.read_all(inputs, &mut out);
     start.elapsed().as_nanos() as f64
 }
 
 /// The round whose ratio is the median. In a round the two readers run right behind one another, at the same speed of the machine for the most part;
 /// the least times of each, from different rounds, may be of different speeds where others use the machine too.
-fn measured(mut proved: impl FnMut(), mut second: impl FnMut()) -> Times {
+fn measured(inputs: &[Input]) -> Times {
     let start = Instant::now();
     let mut rounds = Vec::new();
     while rounds.len() < ROUNDS || start.elapsed() < AT_LEAST {
-        rounds.push(Times { proved: timed(&mut proved), second: timed(&mut second) });
+        rounds.push(Times { proved: timed(Reader::Proved, inputs), second: timed(Reader::Second, inputs) });
     }
     rounds.sort_by(|a, b| a.ratio().total_cmp(&b.ratio()));
     rounds.swap_remove(rounds.len() / 2)
-}
-
-/// Whether both readers give the same answer to a message.
-fn agree(message: &[u8]) -> bool {
-    let mut out = [0; MOST];
-    match (read(message, &mut out), second::read(message, MOST)) {
-        (Ok((_, spelling)), Ok(accepted)) => spelling == accepted.spelling,
-        (Err(a), Err(b)) => (a.number, a.field, a.place) == (b.number, u64::from(b.field), b.place),
-        _ => false,
-    }
-}
-
-fn agree_on_offer(offer: &Offer) -> bool {
-    let mut out = [0; MOST];
-    let mut state = inputs::numbers(offer.state);
-    let proved = update(&offer.strip, &mut state, &offer.message, &mut out);
-    match (proved, second::update(&offer.strip, offer.state, &offer.message, MOST)) {
-        (Ok(strip), Ok(updated)) => strip == updated.strip && state == inputs::numbers(updated.state),
-        (Err(a), Err(b)) => (a.number, a.field, a.place) == (b.number, u64::from(b.field), b.place),
-        _ => false,
-    }
-}
-
-fn measure_reading(messages: &[Vec<u8>]) -> Times {
-    let mut out = [0; MOST];
-    measured(
-        || {
-            for message in messages {
-                black_box(read(black_box(message), &mut out).is_ok());
-            }
-        },
-        || {
-            for message in messages {
-                black_box(second::read(black_box(message), MOST).is_ok());
-            }
-        },
-    )
-}
-
-fn measure_updates(offers: &[Offer]) -> Times {
-    let mut out = [0; MOST];
-    measured(
-        || {
-            for offer in offers {
-                let mut state = inputs::numbers(offer.state);
-                black_box(update(black_box(&offer.strip), &mut state, &offer.message, &mut out).is_ok());
-            }
-        },
-        || {
-            for offer in offers {
-                black_box(second::update(black_box(&offer.strip), offer.state, &offer.message, MOST).is_ok());
-            }
-        },
-    )
 }
 
 /// A row: how many bytes, then for each reader nanoseconds a message and a byte, then the ratio.
@@ -115,13 +67,6 @@ fn row(name: &str, count: usize, bytes: usize, times: &Times) {
     );
 }
 
-fn header(of: &str) {
-    println!(
-        "\n{of:<22} {:>6} {:>10} {:>8} {:>10} {:>8} {:>6}",
-        "bytes", "proved ns", "a byte", "second ns", "a byte", "ratio"
-    );
-}
-
 fn speeds(reader: &str, count: usize, bytes: usize, nanoseconds: f64) {
     let a_second = 1e9 / nanoseconds;
     println!(
@@ -131,49 +76,91 @@ fn speeds(reader: &str, count: usize, bytes: usize, nanoseconds: f64) {
     );
 }
 
-/// Measures sets of messages; the last row is of all of them.
-fn show_sets(of: &str, sets: &[Set]) -> bool {
-    header(of);
-    let mut all = Times { proved: 0.0, second: 0.0 };
-    let (mut count, mut bytes) = (0, 0);
-    for set in sets {
-        if !set.messages.iter().all(|message| agree(message)) {
-            println!("{}: the readers do not agree", set.name);
-            return false;
-        }
-        let times = measure_reading(&set.messages);
-        row(&set.name, set.messages.len(), set.bytes(), &times);
+/// Measures each set of a table; the last row of several is of all of them.
+fn show_times(table: &Table) {
+    println!(
+        "\n{:<22} {:>6} {:>10} {:>8} {:>10} {:>8} {:>6}",
+        table.name, "bytes", "proved ns", "a byte", "second ns", "a byte", "ratio"
+    );
+    let (mut all, mut count, mut bytes) = (Times::default(), 0, 0);
+    for set in &table.sets {
+        let times = measured(&set.inputs);
+        let set_bytes = set.inputs.iter().map(Input::bytes).sum();
+        row(&set.name, set.inputs.len(), set_bytes, &times);
         all.proved += times.proved;
         all.second += times.second;
-        count += set.messages.len();
-        bytes += set.bytes();
+        count += set.inputs.len();
+        bytes += set_bytes;
     }
-    row("all", count, bytes, &all);
+    if table.sets.len() > 1 {
+        row("all", count, bytes, &all);
+    }
     speeds("proved", count, bytes, all.proved);
     speeds("second", count, bytes, all.second);
+}
+
+/// The yardstick does not work out the place of a 7.
+fn without_place_of_7(answer: Answer) -> Answer {
+    answer.map_err(|(number, field, place)| (number, field, if number == 7 { 0 } else { place }))
+}
+
+/// Whether the readers give the same answer; the yardstick is asked for a plan alone.
+fn agree(input: &Input) -> bool {
+    let second = Reader::Second.answer(input);
+    let same = Reader::Proved.answer(input) == second
+        && (!input.is_plan() || Reader::Yardstick.answer(input) == without_place_of_7(second));
+    if !same {
+        println!("the readers do not agree: {}", input.message.escape_ascii());
+    }
+    same
+}
+
+fn check() -> bool {
+    let plans = inputs::plans();
+    let tables = inputs::tables();
+    let sets = tables.iter().flat_map(|table| &table.sets);
+    let measured: Vec<&Input> = sets.flat_map(|set| &set.inputs).collect();
+    let agreed = plans.iter().chain(measured.iter().copied()).all(agree);
+    if agreed {
+        let accepted = plans.iter().filter(|plan| Reader::Second.answer(plan).is_ok()).count();
+        println!(
+            "the readers agree on {} inputs, and on {} further plans, {accepted} of them accepted",
+            measured.len(),
+            plans.len()
+        );
+    }
+    agreed
+}
+
+fn times() -> bool {
+    inputs::tables().iter().for_each(show_times);
     true
 }
 
-fn show_updates(of: &str, offers: &[Offer]) -> bool {
-    header(of);
-    if !offers.iter().all(agree_on_offer) {
-        println!("the updates do not agree");
-        return false;
+/// The inputs to count, as Rust has them: each row with its table's name and its own.
+fn write_sets() -> bool {
+    println!("static ROWS: &[(&str, &str, &[Input])] = &[");
+    for table in inputs::tables() {
+        for set in &table.sets {
+            println!("    ({:?}, {:?}, &[", table.name, set.name);
+            for Input { strip, state, message } in set.counted() {
+                let (strip, message) = (strip.escape_ascii(), message.escape_ascii());
+                println!("        Input {{ strip: b\"{strip}\", state: {state:?}, message: b\"{message}\" }},");
+            }
+            println!("    ]),");
+        }
     }
-    let times = measure_updates(offers);
-    let bytes = offers.iter().map(|offer| offer.strip.len() + offer.message.len()).sum();
-    row("strip and message", offers.len(), bytes, &times);
-    speeds("proved", offers.len(), bytes, times.proved);
-    speeds("second", offers.len(), bytes, times.second);
+    println!("];");
     true
 }
 
 fn run() -> bool {
-    show_sets("accepted, by type", &inputs::by_type())
-        && show_sets("accepted and refused", &[inputs::mixed()])
-        && show_sets("FPL, a longer route", &inputs::by_length(inputs::plan_with_route))
-        && show_sets("FPL, a longer remark", &inputs::by_length(inputs::plan_with_remark))
-        && show_updates("offers to a strip", &inputs::offers())
+    match std::env::args().nth(1).as_deref() {
+        Some("check") => check(),
+        Some("times") => times(),
+        Some("sets") => write_sets(),
+        _ => false,
+    }
 }
 
 #[cfg(not(emulated))]
