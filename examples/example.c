@@ -1,6 +1,7 @@
 /*
  * Beechdoublet from C: reads messages, files a strip, keeps it up to date, says why it is not, asks for a field in force, shows fields and the parts of
- * plans, keeps a board for two firms, and shows what is not a call. Every line that it writes stands in examples/expected.txt, and of the last in examples/expected-c.txt.
+ * plans, keeps a board for two firms, and shows what is not a call. Every line that it writes stands in examples/expected.txt, and of the last in
+ * examples/expected-c.txt.
  */
 #include <inttypes.h>
 #include <stdio.h>

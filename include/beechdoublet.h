@@ -13,8 +13,8 @@
  * all, only the caller knows. Nothing else is asked: any bytes, any numbers and any lengths have an answer. Nothing is kept between calls and
  * nothing is allocated, so calls in several threads do not disturb one another.
  *
- * Leave 32 KB of stack to a call. The most that was measured is 14 KB, for a strip and a CHG with all keys of field 18. That is a measurement and
- * not proved.
+ * Leave 32 KB of stack to a call. The most that was measured is 17 KB, for an update on a board, of a strip by a CHG, both with all keys of field 18. That
+ * is a measurement and not proved. A board itself has 37,600 bytes: keep it elsewhere.
  */
 #ifndef BEECHDOUBLET_H
 #define BEECHDOUBLET_H
@@ -77,8 +77,8 @@ extern "C" {
 
 /*
  * Every answer begins with number, field and place. The number is 0 where the message was accepted (or the field was found), and then field and
- * place are 0 too; otherwise it says why not (1 to 17, document 01's numbers, 18 to 20 of a board, or 255), and what follows the place is 0. The place of a 7 is that of
- * the first byte, counted from 0, at which no field that fits could go on, or of the one just behind a field that stops too soon.
+ * place are 0 too; otherwise it says why not (1 to 17, document 01's numbers, 18 to 20 of a board, or 255), and what follows the place is 0. The place
+ * of a 7 is that of the first byte, counted from 0, at which no field that fits could go on, or of the one just behind a field that stops too soon.
  */
 
 /* The answer to reading. */
@@ -194,7 +194,8 @@ typedef struct {
 
 /*
  * Reads a message. As many bytes of out as the message has are always enough. Accepted: its spelling stands at the front of out, and the bytes behind
- * it are as they were. Refused (1 to 11): every byte of out is as it was. Gives the number back; 255, not a call, where a pointer is null or out or answer overlaps something else.
+ * it are as they were. Refused (1 to 11): every byte of out is as it was. Gives the number back; 255, not a call, where a pointer is null or out or answer
+ * overlaps something else.
  */
 static inline uint8_t beechdoublet_read(const uint8_t *message, size_t message_length, uint8_t *out, size_t out_length,
                                         beechdoublet_reading *answer) __asm__("beechdoublet_seen_read");
