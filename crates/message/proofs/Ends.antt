@@ -2,7 +2,7 @@
 use Prim.Native.Nat.{ℕ, zero, suc, _+_, _-_, _≤_, _<_}
 use mathlib.Core.Path.{_≡_, refl, sym, ap, ap₂, subst, _∙_}
 use mathlib.Core.Bool.{Bool, true, false}
-use mathlib.Core.List.{List, [], _∷_}
+use mathlib.Core.List.{List, []}
 use native.Mathlib.Omega.{arith}
 use native.Mathlib.Nat.{add-zero}
 use native.Mathlib.Numerals.{add-one}
@@ -15,7 +15,7 @@ use Rattle.text.specs.Words.{Word, split, upTo, after}
 use Rattle.text.proofs.Index.{split-at, split-cut, after-here, after-end}
 use Rattle.kinds.specs.declared.MessageType.{MessageType}
 use Rattle.kinds.specs.Kinds.{formsOf}
-use Rattle.message.specs.Ends.{startIn, EndAt, Ends}
+use Rattle.message.specs.Ends.{mostFields, startIn, EndAt, Ends}
 use Rattle.message.proofs.Walk.{Even}
 
 -- A TEXT has one field at least
@@ -81,7 +81,7 @@ module _ (t : MessageType) (n : ℕ) (s ends : List ℕ) (k : Ends s ends) (whol
   pub one-more : j < length (split 45 s)
   one-more = omega (arith, length-drop j (formsOf t n), some-field (drop at s))
 
-  pub inside-ends : j < 13
+  pub inside-ends : j < mostFields
   inside-ends = omega (arith, one-more, k .few)
 
   pub end-known : at ≡ startIn ends j → EndAt s at (getD ends j 0)
@@ -98,18 +98,18 @@ start-set ends j e (suc i) h = ap (λ (x : ℕ). x + 1) (getD-set-other ends j i
 
 pub record Gathered (s ends : List ℕ) (at j : ℕ) : Type 0 where
   pub inside : at ≤ length s
-  pub long : length ends ≡ 13
-  pub few : length (split 45 s) ≤ 13
+  pub long : length ends ≡ mostFields
+  pub few : length (split 45 s) ≤ mostFields
   pub start : at ≡ startIn ends j
   pub left : length (split 45 s) ≡ j + length (split 45 (drop at s))
   pub known : (i : ℕ) → i < j → EndAt s (startIn ends i) (getD ends i 0)
 
-pub gather-starts : (s ends : List ℕ) → length ends ≡ 13 → length (split 45 s) ≤ 13 → Gathered s ends 0 0
+pub gather-starts : (s ends : List ℕ) → length ends ≡ mostFields → length (split 45 s) ≤ mostFields → Gathered s ends 0 0
 gather-starts s ends long few =
     record { inside = omega arith; long = long; few = few; start = refl; left = omega arith; known = λ i h. absurd (omega arith) }
 
 module _ (s ends : List ℕ) (at j : ℕ) (g : Gathered s ends at j) where
-  pub gather-room : j < 13
+  pub gather-room : j < mostFields
   gather-room = omega (arith, g .left, g .few, some-field (drop at s))
 
   module _ (e : ℕ) (end : e ≡ at + upTo 45 (drop at s)) (within : e ≤ length s) where

@@ -1,5 +1,6 @@
 -- Messages and their answers, computed: document 01's listing, a message of each type, and a refusal of each number. Assumes nothing.
 use mathlib.Core.Path.{_≡_, refl}
+use mathlib.Core.Bool.{true, false}
 use mathlib.Core.List.{_++_}
 use lib.ListN.{replicate}
 use Rattle.alphabet.specs.Text.{bytes}
@@ -35,7 +36,7 @@ use Rattle.kinds.specs.Kinds.{typesRead, typeRanked, typeNamed}
 use Rattle.forms.specs.Field22.{labels, fits22, fault22}
 use Rattle.plan.specs.Unexplained.{unexplained}
 use Rattle.message.specs.declared.Answer.the-variants.{Accepted, Refused}
-use Rattle.message.specs.Reading.{placeOf7, spellingOf, faultIn, countAs, answerOf, outAfter}
+use Rattle.message.specs.Reading.{placeOf7, spellingOf, faultIn, countAs, answerOf, outAfter, planItself}
 
 -- THE LISTING of document 01
 
@@ -124,3 +125,14 @@ unfolding answerOf placeOf7 sentPlace sentFrom behindHyphen timePlace place7 let
     reduced reducedFrom standsForRun opens closes hyphens upToHyphen placeOfHyphen typeNamed typeRanked typesRead types formsOf briefForms formAt
     fits3 numbersFit fits7 fourLetters joined timeFits
 pointed = (refl, refl, refl, refl)
+
+-- A PLAN AS IT IS WRITTEN: accepted as a plan, and its own reduction
+pub itself :
+    (planItself (bytes "(FPL-ABC12-IS-B738/M-SDFG/S-EHAM0930-N0440F310 DCT PAM DCT-EDDF0100 EDDK-0)") ≡ true)
+    × (planItself (bytes "(FPL-ABC12 -IS-B738/M-SDFG/S-EHAM0930-N0440F310 DCT PAM DCT-EDDF0100 EDDK-0)") ≡ false)
+    × (planItself (bytes "(DLA-ABC12-EHAM0930-EDDF-0)") ≡ false)
+unfolding planItself answerOf countAs faultIn spellingOf outer parens parensFrom lettersFrom inAlphabet white reduced reducedFrom standsForRun opens closes
+    hyphens typeNamed typeRanked typesRead types formsOf planForms briefForms fits3 numbersFit fits7 fits8 fits9 countFits aircraftFits fits10 valid10
+    present fits16plan fits15 starts speeds levels speedDigits levelDigits elementFits letters within radialFits indicators nameFits pointFits
+    fourLetters joined timeFits fitsIn unexplained hasKey
+itself = (refl, refl, refl)

@@ -7,7 +7,7 @@ use native.Mathlib.Omega.{arith}
 use lib.Dec.{eqb, ltb}
 use lib.ListN.{length, take, drop, length-take, length-drop}
 use borrow.Author.Tests.{eqb-true, eqb-false}
-use Rattle.text.specs.Words.{Word, split, same, all}
+use Rattle.text.specs.Words.{split, all}
 use Rattle.space.specs.Reduced.{reduced}
 use Rattle.space.specs.Hyphens.{placeOfHyphen}
 use Rattle.sent.specs.Sent.{messageOf, contents}
@@ -25,7 +25,7 @@ use Rattle.message.specs.declared.Answer.the-variants.{Accepted, Refused
 use Rattle.message.specs.Reading.{countOf, spelledFrom, spellingOf, isClear, faultIn, isPlan, unexplainedIn, placeInPlan, Counted}
 use Rattle.message.specs.Reading.{roomAs, explainedAs, faultAs, fieldsAs, countAs, plans}
 use Rattle.message.proofs.Plans.{plan-type}
-use Rattle.message.proofs.Written.{writtenAll, spelled-message, all-stay}
+use Rattle.message.proofs.Written.{spelled-message, all-stay}
 use Rattle.message.proofs.Reached.{Reached}
 use Rattle.message.proofs.Walk.{spelled-short}
 use Rattle.message.proofs.Steps.{two-bytes, room-enough, left-unexplained, none-unexplained, field-fault, fields-clear}

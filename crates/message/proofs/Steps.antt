@@ -27,6 +27,7 @@ use Rattle.kinds.proofs.Names.{each}
 use Rattle.message.specs.declared.Fault.{Fault}
 use Rattle.message.specs.declared.Fault.the-variants.{Clear, At}
 use Rattle.message.specs.declared.Answer.the-variants.{Accepted, Refused}
+use Rattle.message.specs.Ends.{mostFields}
 use Rattle.message.specs.Reading.{textOf, countOf, spelledFrom, spellingOf, faultIn, isPlan, unexplainedIn, placeInPlan, placeOfFault, Counted}
 use Rattle.message.specs.Reading.{roomAs, faultAs, fieldsAs, countAs}
 
@@ -115,13 +116,13 @@ two-bytes m g = good-passed m g .framed .long
 pub text-itself : (m : List ℕ) → reduced m ≡ m → take (length m - 1 - 1) (drop 1 m) ≡ textOf m
 text-itself m e = let z : length m - 1 - 1 ≡ length m - 2 = omega arith in ap (λ (k : ℕ). take k (drop 1 m)) z ∙ ap inner (sym e)
 
--- no type has more than 13 fields
-most-fields : (t : MessageType) → greatestOf t ≤ 13
+-- a text has no more fields than any type allows
+most-fields : (t : MessageType) → greatestOf t ≤ mostFields
 unfolding typesRead
-most-fields t = leb-true (greatestOf t) 13 (each (λ u. leb (greatestOf u) 13) refl t)
+most-fields t = leb-true (greatestOf t) mostFields (each (λ u. leb (greatestOf u) mostFields) refl t)
 
 pub few-fields : (t : MessageType) (m : List ℕ) (count : ℕ) (s : List ℕ) → Counted t m count s → leastOf t ≤ count → count ≤ greatestOf t
-    → length (split 45 s) ≤ 13
+    → length (split 45 s) ≤ mostFields
 few-fields t m count s k l u = omega (arith, k .even, forms-length t count l u, most-fields t)
 
 -- NUMBER 6

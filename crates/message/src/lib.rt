@@ -13,7 +13,7 @@ ghost use Rattle.outer.specs.declared.Outer as Outer;
 ghost use Rattle.outer.specs.Outer.{most, outer};
 ghost use Rattle.kinds.specs.Kinds.{formsOf, leastOf, greatestOf};
 ghost use Rattle.forms.specs.Forms.{writtenOf};
-ghost use Rattle.message.specs.Ends.{Ends};
+ghost use Rattle.message.specs.Ends.{mostFields, Ends};
 ghost use Rattle.message.specs.Reading.{
   isClear,
   faultIn,
@@ -67,7 +67,7 @@ type FieldEnds = [usize; MessageType::MOST_FIELDS];
 
 // Where each field of a text ends: at its hyphen, or at the end of the text.
 fn field_ends(s: &[u8]) -> FieldEnds
-    requires { ⌜ length (split 45 (now s)) ≤ 13 ⌝ }
+    requires { ⌜ length (split 45 (now s)) ≤ mostFields ⌝ }
     ensures { λ r. ⌜ Ends (now (s .entry)) r ⌝ }
 {
     let mut ends = [0usize; MessageType::MOST_FIELDS];
@@ -325,7 +325,7 @@ fn fault_place(number: u8, t: MessageType, count: usize, j: usize, msg: &[u8], s
 
 // Numbers 7 to 11, for the text of a message whose fields are as many as its type allows.
 fn read_text(t: MessageType, count: usize, msg: &[u8], s: &[u8], out: &mut [u8]) -> Answer
-    requires { ⌜ Counted t (now msg) count (now s) × (length (split 45 (now s)) ≤ 13) ⌝ }
+    requires { ⌜ Counted t (now msg) count (now s) × (length (split 45 (now s)) ≤ mostFields) ⌝ }
     ensures { λ a. ⌜ (a ≡ fieldsAs t (now (msg .entry)) (length (now (out .entry))))
         × (now (out .exit) ≡ writtenAs (fieldsAs t (now (msg .entry)) (length (now (out .entry)))) (now (msg .entry)) (now (out .entry))) ⌝ }
 {

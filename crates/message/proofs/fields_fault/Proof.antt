@@ -4,7 +4,7 @@ use mathlib.Core.Path.{_≡_, refl}
 use mathlib.Core.List.{List}
 use native.Mathlib.Omega.{arith}
 use lib.ListN.{length, getD}
-use Rattle.message.specs.Ends.{startIn, EndAt}
+use Rattle.message.specs.Ends.{mostFields, startIn, EndAt}
 use Rattle.message.proofs.Walk.{Walked, walk-starts, walk-found, walk-clear, walk-next}
 use Rattle.message.proofs.Ends.{inside-ends, end-known, start-next}
 use borrow.Author.Needs.{needs}
@@ -25,7 +25,7 @@ module _ (c : tie.At-loop Inv-loop μ-loop) where
   abbrev ends : List ℕ
   ends = start .args .ends .now
 
-  inside : c .loop .j < 13
+  inside : c .loop .j < mostFields
   inside =
       inside-ends (start .args .t) (start .args .count) (start .args .s .now) ends (start .pre .0) (start .pre .1) (c .loop .at) (c .loop .j)
       (c .loop .inv .0 .even)

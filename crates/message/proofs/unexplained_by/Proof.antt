@@ -1,5 +1,4 @@
 -- `message::unexplained_by` meets its contract. Assumes nothing.
-
 use borrow.Author.Needs.{needs}
 use Rattle.message.proofs.unexplained_by.Statement.{statement}
 use Rattle.message.proofs.unexplained_by.Tie as tie
