@@ -15,13 +15,27 @@ use Rattle.amending.proofs.put_changed.Tie as tie
 given-by : (k : ℕ) (own : Word) {o v : Option Word} → o ≡ v → changedBy k v own ≡ changedBy k o own
 given-by k own e = sym (ap (λ (o : Option Word). changedBy k o own) e)
 
--- where it stands in the text
-module _ (c : tie.After-known-told) where
+-- once it was looked for in the text
+module _ (c : tie.After-named-from) where
   abbrev start : tie.Start
-  start = c .before .before .before .before .before .before .before
+  start = c .before .before .before .before
 
-  found : FoundIn (start .args .said .now) (start .args .k) (At (c .before .from .given .0 .0) (c .before .from .given .0 .1 .0))
-  found = as-found _ _ (c .before .before .before .named-from .ensures) (c .before .from .given .1)
+-- where it stands there
+module _ (c : tie.After-known-told) where
+  abbrev looked : tie.After-named-from
+  looked = c .before .before .before
+
+  found : FoundIn (start looked .args .said .now) (start looked .args .k) (At (c .before .from .given .0 .0) (c .before .from .given .0 .1 .0))
+  found = as-found _ _ (looked .named-from .ensures) (c .before .from .given .1)
+
+module _ (c : tie.After-put-entry) where
+  abbrev told : tie.After-known-told
+  told = c .before .before .before
+
+-- where it does not
+module _ (c : tie.After-put-arg) where
+  abbrev missed : tie.After-named-from
+  missed = c .before .before .before
 
 named-from-requires : tie.Need-named-from-requires
 named-from-requires c κs = c .before .before .before .pre .0
@@ -41,16 +55,16 @@ part-put-entry-end c = found c .1
 put-entry-requires : tie.Need-put-entry-requires
 put-entry-requires c κs =
     let d = c .before .before in
-    let a = start d .args in
-    room-same (a .out .now) (sym (given-by (a .k) (a .own .now) (found d .2))) (start d .pre .1)
+    let s = start (looked d) in
+    room-same (s .args .out .now) (sym (given-by (s .args .k) (s .args .own .now) (found d .2))) (s .pre .1)
 
 enum-told : tie.Need-enum-told
 enum-told c = search needs
 
 put-requires : tie.Need-put-requires
 put-requires c κs =
-    let s = c .before .before .before .before .before .before .before in
-    let nowhere = as-found _ _ (c .before .before .before .named-from .ensures) (c .before .enum-told .given .1) .0 in
+    let s = start (missed c) in
+    let nowhere = as-found _ _ (missed c .named-from .ensures) (c .before .enum-told .given .1) .0 in
     room-same (s .args .out .now) (sym (given-by (s .args .k) (s .args .own .now) nowhere)) (s .pre .1)
 
 same-length : tie.Need-same-length
@@ -58,9 +72,10 @@ same-length c = search needs
 
 returns : tie.Need-returns
 returns c =
-    let d = c .before .before .before .before .before in
-    let a = start d .args in
-    put-same (a .out .now) (given-by (a .k) (a .own .now) (found d .2)) (c .before .before .put-entry .ensures)
+    let w = c .before .before in
+    let d = told w in
+    let a = start (looked d) .args in
+    put-same (a .out .now) (given-by (a .k) (a .own .now) (found d .2)) (w .put-entry .ensures)
 
 same-length-2 : tie.Need-same-length-2
 same-length-2 c = search needs
@@ -68,8 +83,8 @@ same-length-2 c = search needs
 returns-2 : tie.Need-returns-2
 returns-2 c =
     let p = c .before .before .before in
-    let s = p .before .before .before .before .before .before .before in
-    let nowhere = as-found _ _ (p .before .before .before .named-from .ensures) (p .before .enum-told .given .1) .0 in
+    let s = start (missed p) in
+    let nowhere = as-found _ _ (missed p .named-from .ensures) (p .before .enum-told .given .1) .0 in
     put-same (s .args .out .now) (given-by (s .args .k) (s .args .own .now) nowhere) (c .before .before .put .ensures)
 
 pub put-changed-spec : {M : Type 1} → statement M

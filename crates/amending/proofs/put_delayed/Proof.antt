@@ -36,13 +36,18 @@ module _ (c : tie.After-aerodrome-of) where
       ap₂ (λ (v w : Word). v ++ w) (c .aerodrome-of .ensures) (c .before .behind-aerodrome .ensures ∙ ap (drop 4) (c .before .before .field .ensures))
       ∙ retimed (start .args .own .now) (start .args .said .now) (start .args .k) (c .before .before .before .if1 .taken)
 
+-- any field but 13
+module _ (c : tie.Else1) where
+  abbrev opened : tie.Start
+  opened = c .before .before .before .before
+
 -- field 18 with the date
 module _ (c : tie.After-date-word) where
   abbrev tested : tie.Then2
   tested = c .before .before
 
   abbrev begun : tie.Start
-  begun = tested .before .before .before .before .before
+  begun = opened (tested .before)
 
   with-date : datedBy (c .date-word .result .now) (begun .args .own .now)
       ≡ contentIn Delays (begun .args .own .now) (begun .args .said .now) (begun .args .k)
@@ -53,7 +58,7 @@ module _ (c : tie.After-date-word) where
 -- any other field
 module _ (c : tie.Else2) where
   abbrev other : tie.Start
-  other = c .before .before .before .before .before
+  other = opened (c .before)
 
   as-own : other .args .own .now ≡ contentIn Delays (other .args .own .now) (other .args .said .now) (other .args .k)
   as-own = kept (other .args .own .now) (other .args .said .now) (other .args .k) (c .before .if1 .left) (c .if2 .left)

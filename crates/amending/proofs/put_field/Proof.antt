@@ -13,6 +13,11 @@ use borrow.Author.Needs.{needs}
 use Rattle.amending.proofs.put_field.Statement.{statement}
 use Rattle.amending.proofs.put_field.Tie as tie
 
+-- once the lead is known
+module _ (c : tie.After-lead-of) where
+  abbrev start : tie.Start
+  start = c .before .before .before .before
+
 lead-of-requires : tie.Need-lead-of-requires
 lead-of-requires c κs = search needs
 
@@ -20,17 +25,17 @@ slice-write-out : tie.Need-slice-write-out
 slice-write-out c = search needs
 
 sub-put-content : tie.Need-sub-put-content
-sub-put-content c = simp length-set (omega (arith, c .before .before .before .before .pre .1))
+sub-put-content c = simp length-set (omega (arith, start c .pre .1))
 
 part-put-content-start : tie.Need-part-put-content-start
-part-put-content-start c = simp length-set (omega (arith, c .before .before .before .before .pre .1))
+part-put-content-start c = simp length-set (omega (arith, start c .pre .1))
 
 part-put-content-end : tie.Need-part-put-content-end
 part-put-content-end c = search needs
 
 put-content-requires : tie.Need-put-content-requires
 put-content-requires c κs =
-    let d = c .before .before .before .before .before in
+    let d = start (c .before) in
     let lead = c .before .lead-of .result in
     let out = set (d .args .out .now) 0 lead in
     (d .pre .0, omega (arith, ap length (rest out 1), length-drop 1 out, length-set (d .args .out .now) 0 lead, d .pre .1))
@@ -44,7 +49,7 @@ same-length c = c .before .out .given .1 ∙ simp length-set
 returns : tie.Need-returns
 returns c =
     let l = c .before .before .before .before in
-    let d = l .before .before .before .before in
+    let d = start l in
     let a = d .args in
     let lead = l .lead-of .result in
     let w = contentIn (a .role) (a .own .now) (a .said .now) (a .k) in

@@ -16,13 +16,18 @@ Inv-loop role plan said out₀ first o₀ c₀ k₀ out o c k = Amending role pl
 abbrev μ-loop : tie.MeasureT-loop
 μ-loop role plan said out₀ first o₀ c₀ k₀ out o c k = 9 - k
 
+-- once the first entry is found
+module _ (c : tie.After-first-entry Inv-loop μ-loop) where
+  abbrev begun : tie.Start Inv-loop μ-loop
+  begun = c .before .before .before .before
+
 -- a turn of the loop, once the field's end is known
 module _ (c : tie.After-end Inv-loop μ-loop) where
   abbrev looped : tie.At-loop Inv-loop μ-loop
   looped = c .before .before
 
   abbrev start : tie.Start Inv-loop μ-loop
-  start = looped .before .before .before .before .before
+  start = begun (looped .before)
 
   abbrev own : List ℕ
   own = take (c .end .result - looped .loop .c .at) (drop (looped .loop .c .at) (start .args .plan .now))
@@ -37,12 +42,17 @@ module _ (c : tie.After-end Inv-loop μ-loop) where
         is-content = content-to (a .role) (a .plan .now) (a .said .now) (looped .loop .inv .1) (c .end .ensures .0);
       }
 
+-- and once the field is written
+module _ (c : tie.After-put-field Inv-loop μ-loop) where
+  abbrev ended : tie.After-end Inv-loop μ-loop
+  ended = c .before .before .before
+
 first-entry-requires : tie.Need-first-entry-requires Inv-loop μ-loop
 first-entry-requires c κs = search needs
 
 loop-holds : tie.Need-loop-holds Inv-loop μ-loop
 loop-holds c =
-    let s = c .before .before .before .before in
+    let s = begun c in
     let a = s .args in
     (amending-starts (a .role) (a .plan .now) (a .said .now) (a .out .now) (s .pre), first-field _)
 
@@ -72,11 +82,12 @@ put-field-requires c κs = (looped (c .before .before) .before .first-entry .ens
 
 add-o : tie.Need-add-o Inv-loop μ-loop
 add-o c =
-    let d = c .before .before .before .before .before in
-    omega (arith, turn-room (turn d), c .before .before .put-field .ensures .0, looped d .loop .inv .0 .enough, start d .good)
+    let w = c .before .before in
+    let d = ended w in
+    omega (arith, turn-room (turn d), w .put-field .ensures .0, looped d .loop .inv .0 .enough, start d .good)
 
 behind-requires : tie.Need-behind-requires Inv-loop μ-loop
-behind-requires c κs = c .before .before .before .before .before .end .ensures .1 .1
+behind-requires c κs = ended (c .before .before) .end .ensures .1 .1
 
 add-k : tie.Need-add-k Inv-loop μ-loop
 add-k c = search needs
@@ -86,8 +97,9 @@ loop-less c = search needs
 
 loop-again : tie.Need-loop-again Inv-loop μ-loop
 loop-again c =
-    let d = c .before .before .before .before .before .before in
-    let p = c .before .before .before .put-field in
+    let w = c .before .before .before in
+    let d = ended w in
+    let p = w .put-field in
     let next = turn-next (turn d) (p .ensures .1) (c .before .before .out .given .1) in
     (rw (p .ensures .0) next, behind-field _ (looped d .loop .inv .1) (d .end .ensures .0) (c .behind .ensures))
 
@@ -97,7 +109,7 @@ slice-write-out c = last-room (c .before .loop .inv .0) (c .loop-test .left)
 add-result : tie.Need-add-result Inv-loop μ-loop
 add-result c =
     let l = c .before .loop .inv .0 in
-    omega (arith, last-long l (c .loop-test .left), l .enough, c .before .before .before .before .before .before .good)
+    omega (arith, last-long l (c .loop-test .left), l .enough, begun (c .before .before) .good)
 
 same-length : tie.Need-same-length Inv-loop μ-loop
 same-length c = simp length-set (c .before .loop .inv .0 .long)

@@ -11,15 +11,27 @@ use Rattle.causes.proofs.offered_cause.Statement.{statement}
 use Rattle.causes.proofs.offered_cause.Tie as tie
 
 -- WHAT THE MESSAGE SAYS of the state
+module _ (c : tie.After-event-of) where
+  abbrev begun : tie.Start
+  begun = c .before .before .before
+
 module _ (c : tie.After-known-told) where
+  abbrev asked : tie.After-event-of
+  asked = c .before .before .before
+
   abbrev start : tie.Start
-  start = c .before .before .before .before .before .before
+  start = begun asked
 
   abbrev event : Event
   event = c .before .e .given .0 .0
 
   says : eventOf (start .args .role) (split 45 (start .args .said .now)) ≡ Says event
-  says = sym (c .before .before .before .event-of .ensures) ∙ c .before .e .given .1
+  says = sym (asked .event-of .ensures) ∙ c .before .e .given .1
+
+-- where nothing differs
+module _ (c : tie.Else1) where
+  abbrev told : tie.After-known-told
+  told = c .before .before .before
 
 event-of-requires : tie.Need-event-of-requires
 event-of-requires c κs = search needs
@@ -58,12 +70,13 @@ returns-2 c =
     (sym (c .before .allows .ensures) ∙ not-true _ (c .if2 .taken))
 
 amended-cause-requires : tie.Need-amended-cause-requires
-amended-cause-requires c κs = start (c .before .before .before .before .before) .pre
+amended-cause-requires c κs = start (told (c .before .before)) .pre
 
 returns-3 : tie.Need-returns-3
 returns-3 c =
-    let a = c .before .before .before .before .before .args in
-    unfit (a .role) (a .plan .now) (a .held) (a .said .now) (sym (c .before .before .event-of .ensures) ∙ c .enum-told .given .1)
+    let e = c .before .before in
+    let a = begun e .args in
+    unfit (a .role) (a .plan .now) (a .held) (a .said .now) (sym (e .event-of .ensures) ∙ c .enum-told .given .1)
 
 returns-4 : tie.Need-returns-4
 returns-4 c =

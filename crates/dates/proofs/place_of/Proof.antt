@@ -29,8 +29,11 @@ module _ (c : tie.After-same-bytes2 Inv-loop μ-loop) where
   abbrev looped : tie.At-loop Inv-loop μ-loop
   looped = ended .before
 
+  abbrev begun : tie.Else1 Inv-loop μ-loop
+  begun = looped .before
+
   abbrev content : List ℕ
-  content = looped .before .before .before .before .before .args .s .now
+  content = begun .before .before .before .before .args .s .now
 
   abbrev at : ℕ
   at = looped .loop .at

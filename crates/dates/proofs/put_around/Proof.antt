@@ -21,10 +21,18 @@ module _ (s : tie.Start) where
   so-far : length (led ++ s .args .date .now) ≤ length (s .args .out .now)
   so-far = omega (arith, length-append (led ++ s .args .date .now) behind, s .pre)
 
--- once that is written
+-- before anything is written
+module _ (c : tie.After-put-two-arg) where
+  abbrev opened : tie.After-shared-slice-known3
+  opened = c .before .before .before .before
+
+  abbrev entry : tie.Start
+  entry = opened .before .before .before
+
+-- once what is first is written
 module _ (c : tie.After-put-two) where
   abbrev start : tie.Start
-  start = c .before .before .before .before .before .before .before .before
+  start = entry (c .before)
 
   in-room : c .put-two .result + length (start .args .date .now) ≤ length (c .put-two .last .1 .1 .0)
   in-room = inside (led start) (start .args .date .now) (start .args .out .now) (c .put-two .ensures) (so-far start)
@@ -51,9 +59,14 @@ module _ (c : tie.After-put) where
       ≤ length (take so-long mid ++ (c .put .last .1 .0 ++ drop (length mid - so-long) (drop so-long mid)))
   in-room-2 = inside (led begun ++ begun .args .date .now) (behind begun) (begun .args .out .now) dated-out (begun .pre)
 
+-- and what is behind it
+module _ (c : tie.After-put-two2) where
+  abbrev dated : tie.After-put
+  dated = c .before .before .before .before
+
 put-two-requires : tie.Need-put-two-requires
 put-two-requires c κs =
-    let s = c .before .before .before .before .before .before .before in
+    let s = entry c in
     omega (arith, length-append (led s) (s .args .date .now), so-far s)
 
 sub-put : tie.Need-sub-put
@@ -94,18 +107,20 @@ put-two-requires-2 c κs =
 
 add-result : tie.Need-add-result
 add-result c =
-    let p = c .before .before .before .before .before .before in
+    let whole = c .before .before in
+    let p = dated whole in
     let s = begun p in
-    omega (arith, dated-out p .0, c .before .before .put-two2 .ensures .0, length-append (led s ++ s .args .date .now) (behind s), s .pre)
+    omega (arith, dated-out p .0, whole .put-two2 .ensures .0, length-append (led s ++ s .args .date .now) (behind s), s .pre)
 
 same-length : tie.Need-same-length
 same-length c = search needs
 
 returns : tie.Need-returns
 returns c =
-    let p = c .before .before .before .before .before .before in
+    let whole = c .before .before in
+    let p = dated whole in
     let s = begun p in
-    put-behind (led s ++ s .args .date .now) (behind s) (s .args .out .now) (dated-out p) (s .pre) _ _ (c .before .before .put-two2 .ensures)
+    put-behind (led s ++ s .args .date .now) (behind s) (s .args .out .now) (dated-out p) (s .pre) _ _ (whole .put-two2 .ensures)
 
 pub put-around-spec : {M : Type 1} → statement M
 put-around-spec =

@@ -54,6 +54,25 @@ module _ (c : tie.After-at) where
   before-it : DatePlace (own found-at) (Before at)
   before-it = at-place found-at (Before at) (c .at .given .1)
 
+-- where the parts are handed over, in each case
+module _ (c : tie.After-put-around-arg5) where
+  abbrev cut : tie.After-put-around-arg
+  cut = c .before .before .before .before
+
+  abbrev taken-out : tie.After-from
+  taken-out = cut .before .before
+
+module _ (c : tie.After-put-around-arg10) where
+  abbrev cut-at : tie.After-put-around-arg6
+  cut-at = c .before .before .before .before
+
+  abbrev put-in : tie.After-at
+  put-in = cut-at .before .before
+
+module _ (c : tie.After-put-around-arg14) where
+  abbrev put-last : tie.After-enum-told
+  put-last = c .before .before .before .before
+
 place-of-requires : tie.Need-place-of-requires
 place-of-requires c κs = search needs
 
@@ -80,7 +99,7 @@ part-put-around-end c = search needs
 
 put-around-requires : tie.Need-put-around-requires
 put-around-requires c κs =
-    let f = c .before .before .before .before .before .before in
+    let f = taken-out c in
     let p = found f in
     room-same (out p) (sym (written-instead (own p) (date p) (from f) (to f) (instead f))) (start p .pre)
 
@@ -107,7 +126,7 @@ part-put-around-end-2 c = search needs
 
 put-around-requires-2 : tie.Need-put-around-requires-2
 put-around-requires-2 c κs =
-    let f = c .before .before .before .before .before .before in
+    let f = put-in c in
     let p = found-at f in
     room-same (out p) (sym (written-before (own p) (date p) (at f) (before-it f))) (start p .pre)
 
@@ -125,7 +144,7 @@ slice-aggregate-put-around-9 c = search needs
 
 put-around-requires-3 : tie.Need-put-around-requires-3
 put-around-requires-3 c κs =
-    let told = c .before .before .before .before in
+    let told = put-last c in
     let p = told .before .before in
     room-same (out p) (sym (written-last (own p) (date p) (at-place p Last (told .enum-told .given .1)))) (start p .pre)
 
@@ -135,7 +154,7 @@ same-length c = search needs
 returns : tie.Need-returns
 returns c =
     let w = c .before .before in
-    let f = w .before .before .before .before .before .before .before in
+    let f = taken-out (w .before) in
     let p = found f in
     put-same (out p) (written-instead (own p) (date p) (from f) (to f) (instead f)) (w .put-around .ensures)
 
@@ -145,7 +164,7 @@ same-length-2 c = search needs
 returns-2 : tie.Need-returns-2
 returns-2 c =
     let w = c .before .before in
-    let f = w .before .before .before .before .before .before .before in
+    let f = put-in (w .before) in
     let p = found-at f in
     put-same (out p) (written-before (own p) (date p) (at f) (before-it f)) (w .put-around2 .ensures)
 
@@ -155,7 +174,7 @@ same-length-3 c = search needs
 returns-3 : tie.Need-returns-3
 returns-3 c =
     let w = c .before .before in
-    let told = w .before .before .before .before .before in
+    let told = put-last (w .before) in
     let p = told .before .before in
     put-same (out p) (written-last (own p) (date p) (at-place p Last (told .enum-told .given .1))) (w .put-around3 .ensures)
 

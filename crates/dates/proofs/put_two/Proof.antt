@@ -7,17 +7,27 @@ use borrow.Author.Needs.{needs}
 use Rattle.dates.proofs.put_two.Statement.{statement}
 use Rattle.dates.proofs.put_two.Tie as tie
 
+-- before anything is written
+module _ (c : tie.After-put-arg) where
+  abbrev begun : tie.Start
+  begun = c .before .before .before .before
+
 -- once the first is written
 module _ (c : tie.After-put) where
   abbrev start : tie.Start
-  start = c .before .before .before .before .before
+  start = begun (c .before)
 
   in-room : c .put .result ≤ length (c .put .last .1 .0)
   in-room = let a = start .args in omega (arith, inside (a .first .now) (a .second .now) (a .out .now) (c .put .ensures) (start .pre))
 
+-- and the second
+module _ (c : tie.After-put2) where
+  abbrev first : tie.After-put
+  first = c .before .before .before .before
+
 put-requires : tie.Need-put-requires
 put-requires c κs =
-    let s = c .before .before .before .before in
+    let s = begun c in
     omega (arith, length-append (s .args .first .now) (s .args .second .now), s .pre)
 
 sub-put : tie.Need-sub-put
@@ -43,9 +53,10 @@ same-length c = search needs
 
 returns : tie.Need-returns
 returns c =
-    let p = c .before .before .before .before .before .before in
+    let both = c .before .before in
+    let p = first both in
     let a = start p .args in
-    put-behind (a .first .now) (a .second .now) (a .out .now) (p .put .ensures) (start p .pre) _ _ (c .before .before .put2 .ensures)
+    put-behind (a .first .now) (a .second .now) (a .out .now) (p .put .ensures) (start p .pre) _ _ (both .put2 .ensures)
 
 pub put-two-spec : {M : Type 1} → statement M
 put-two-spec =

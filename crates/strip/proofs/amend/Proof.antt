@@ -16,10 +16,15 @@ use borrow.Author.Needs.{needs}
 use Rattle.strip.proofs.amend.Statement.{statement}
 use Rattle.strip.proofs.amend.Tie as tie
 
--- THE SCRATCH, once the amended plan stands there
+-- THE SCRATCH, before the amended plan stands there
+module _ (c : tie.After-new) where
+  abbrev begun : tie.Start
+  begun = c .before .before .before .before
+
+-- and once it does
 module _ (c : tie.After-write-amended) where
   abbrev start : tie.Start
-  start = c .before .before .before .before .before
+  start = begun (c .before)
 
   abbrev new : List ℕ
   new = newStrip (start .args .role) (start .args .plan .now) (start .args .said .now)
@@ -58,12 +63,17 @@ module _ (c : tie.After-unexplained-in) where
   field-is : c .unexplained-in .result ≡ unexplainedIn (amended (start written .args .role) (start written .args .plan .now) (start written .args .said .now))
   field-is = c .unexplained-in .ensures ∙ ap unexplainedIn (text-there written)
 
+-- where the room is enough
+module _ (c : tie.Else3) where
+  abbrev explained : tie.After-unexplained-in
+  explained = c .before .before .before
+
 slice-aggregate-write-amended : tie.Need-slice-aggregate-write-amended
 slice-aggregate-write-amended c = search needs
 
 write-amended-requires : tie.Need-write-amended-requires
 write-amended-requires c κs =
-    let s = c .before .before .before .before in
+    let s = begun c in
     omega (arith, new-room (s .args .plan .now) (s .args .said .now) (s .args .role) (s .pre .0), s .pre .1, s .pre .2)
 
 sub-e : tie.Need-sub-e
@@ -101,15 +111,16 @@ returns-3 c =
     (omega (arith, c .before .if2 .left)) (c .if3 .taken)
 
 array-share-prefix-new : tie.Need-array-share-prefix-new
-array-share-prefix-new c = inside (written (c .before .before .before))
+array-share-prefix-new c = inside (written (explained c))
 
 slice-aggregate-put : tie.Need-slice-aggregate-put
-slice-aggregate-put c = sym (length-take-le _ _ (inside (written (c .before .before .before .before))))
+slice-aggregate-put c = sym (length-take-le _ _ (inside (written (explained (c .before)))))
 
 put-requires : tie.Need-put-requires
 put-requires c κs =
-    let d = written (c .before .before .before .before .before) in
-    omega (arith, ap length (whole-there d), long d, c .before .before .if3 .left)
+    let fits = c .before .before in
+    let d = written (explained fits) in
+    omega (arith, ap length (whole-there d), long d, fits .if3 .left)
 
 same-length : tie.Need-same-length
 same-length c = search needs
@@ -118,7 +129,7 @@ returns-4 : tie.Need-returns-4
 returns-4 c =
     let p = c .before .before in
     let fits = p .before .before .before in
-    let d = fits .before .before .before in
+    let d = explained fits in
     let a = start (written d) .args in
     let put = put-same (a .out .now) (whole-there (written d)) (p .put .ensures) in
     fits-room (a .role) (a .plan .now) (a .said .now) (a .next) (a .out .now) _ (field-is d) (fits .before .before .if1 .left)

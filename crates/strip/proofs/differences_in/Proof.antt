@@ -21,8 +21,11 @@ module _ (c : tie.After-field2) where
   theirs = split 45 (c .before .before .before .before .args .said .now)
 
 module _ (c : tie.After-same-bytes) where
+  abbrev named : tie.After-field3
+  named = c .before .before .before .before
+
   abbrev at-identification : tie.After-field2
-  at-identification = c .before .before .before .before .before
+  at-identification = named .before
 
   identification : c .same-bytes .result
       ≡ same (before 47 (getD (ours at-identification) 1 [])) (before 47 (getD (theirs at-identification) 1 []))
@@ -32,12 +35,12 @@ module _ (c : tie.After-same-bytes) where
         c .before .identification2 .ensures,
         c .before .before .field4 .ensures,
         c .before .before .before .identification .ensures,
-        c .before .before .before .before .field3 .ensures,
+        named .field3 .ensures,
       )
 
 module _ (c : tie.After-same-bytes2) where
   abbrev at-aerodrome : tie.After-field2
-  at-aerodrome = c .before .before .before .before .before .before .before .before
+  at-aerodrome = at-identification (c .before .before .before)
 
   aerodrome : c .same-bytes2 .result ≡ same (take 4 (getD (ours at-aerodrome) 5 [])) (take 4 (getD (theirs at-aerodrome) 2 []))
   aerodrome =
@@ -50,8 +53,14 @@ module _ (c : tie.After-same-bytes2) where
       )
 
 module _ (c : tie.After-same-bytes3) where
+  abbrev bound : tie.After-field5
+  bound = c .before .before .before .before
+
+  abbrev timed : tie.After-time-differs
+  timed = bound .before
+
   abbrev at-destination : tie.After-field2
-  at-destination = c .before .before .before .before .before .before .before .before .before .before .before .before .before .before
+  at-destination = at-aerodrome (timed .before)
 
   destination : c .same-bytes3 .result ≡ same (take 4 (getD (ours at-destination) 7 [])) (take 4 (getD (theirs at-destination) 3 []))
   destination =
@@ -60,7 +69,7 @@ module _ (c : tie.After-same-bytes3) where
         c .before .aerodrome-of4 .ensures,
         c .before .before .field6 .ensures,
         c .before .before .before .aerodrome-of3 .ensures,
-        c .before .before .before .before .field5 .ensures,
+        bound .field5 .ensures,
       )
 
 module _ (c : tie.After-date-differs) where
@@ -139,11 +148,11 @@ returns : tie.Need-returns
 returns c =
     let d = at-last c in
     let fields = at-destination d in
-    let timed = d .before .before .before .before .before in
+    let t = timed d in
     cc (
-      identification (timed .before .before .before .before),
-      aerodrome (timed .before),
-      timed .time-differs .ensures,
+      identification (t .before .before .before .before),
+      aerodrome (t .before),
+      t .time-differs .ensures,
       fields .field2 .ensures,
       fields .before .field .ensures,
       destination d,

@@ -33,9 +33,11 @@ part-result-end c = search needs
 
 returns : tie.Need-returns Inv-loop μ-loop
 returns c =
-    let f = c .before .before .find in
-    let l = c .before .before .before .loop in
-    last-here (c .before .before .before .before .before .args .s .now) (l .at) (f .result) (f .ensures .0) _ (l .inv .1) (c .before .if1 .taken)
+    let found = c .before .before in
+    let f = found .find in
+    let looped = found .before in
+    let l = looped .loop in
+    last-here (looped .before .before .args .s .now) (l .at) (f .result) (f .ensures .0) _ (l .inv .1) (c .before .if1 .taken)
 
 add-at : tie.Need-add-at Inv-loop μ-loop
 add-at c = search needs

@@ -12,15 +12,22 @@ use Rattle.strip.proofs.offer.Tie as tie
 
 -- THE WAY TO AN ANSWER: what the message says, and whether it is of the same flight
 
+module _ (c : tie.After-event-of) where
+  abbrev entered : tie.Start
+  entered = c .before .before .before .before
+
 module _ (c : tie.After-known-told) where
+  abbrev asked : tie.After-event-of
+  asked = c .before .before .before
+
   abbrev start : tie.Start
-  start = c .before .before .before .before .before .before .before
+  start = entered asked
 
   abbrev event : Event
   event = c .before .e .given .0 .0
 
   says : eventOf (start .args .role) (split 45 (start .args .said .now)) ≡ Says event
-  says = sym (c .before .before .before .event-of .ensures) ∙ c .before .e .given .1
+  says = sym (asked .event-of .ensures) ∙ c .before .e .given .1
 
 module _ (c : tie.After-any) where
   abbrev told-there : tie.After-known-told
@@ -68,12 +75,16 @@ next-requires : tie.Need-next-requires
 next-requires c κs = search needs
 
 amend-requires : tie.Need-amend-requires
-amend-requires c κs = start (c .before .before .before .before .before .before .before) .pre
+amend-requires c κs =
+    let may = c .before .before in
+    let same = may .before .before in
+    begun (same .before) .pre
 
 returns-3 : tie.Need-returns-3
 returns-3 c =
-    let a = c .before .before .before .before .before .before .args in
-    unfit (a .role) (a .plan .now) (a .held) (a .said .now) (a .out .now) (sym (c .before .before .event-of .ensures) ∙ c .enum-told .given .1)
+    let e = c .before .before in
+    let a = entered e .args in
+    unfit (a .role) (a .plan .now) (a .held) (a .said .now) (a .out .now) (sym (e .event-of .ensures) ∙ c .enum-told .given .1)
 
 same-length : tie.Need-same-length
 same-length c = search needs

@@ -16,12 +16,16 @@ use Rattle.strip.proofs.update.Statement.{statement}
 use Rattle.strip.proofs.update.Tie as tie
 
 -- WHERE THE STRIP WAS OPENED for the message
+module _ (c : tie.After-scratch) where
+  abbrev begun : tie.Start
+  begun = c .before .before .before .before
+
 module _ (c : tie.After-known-told2) where
   abbrev at-opening : tie.After-open-strip
   at-opening = c .before .before .before
 
   abbrev start : tie.Start
-  start = at-opening .before .before .before .before .before
+  start = begun (at-opening .before)
 
   abbrev type-read : MessageType
   type-read = c .before .t .given .0 .0
@@ -45,6 +49,11 @@ module _ (c : tie.After-known-told2) where
 
   said-there : take (size - 1 - 1) (drop 1 scratch) ≡ textSaid type-read (start .args .msg .now)
   said-there = text-there (start .args .strip .now) (start .args .held) (start .args .msg .now) _ _ is-open _ _ (at-opening .open-strip .ensures .1)
+
+-- and the two texts are handed over
+module _ (c : tie.After-offer-arg3) where
+  abbrev asked : tie.After-role
+  asked = c .before .before .before .before
 
 open-strip-requires : tie.Need-open-strip-requires
 open-strip-requires c κs = search needs
@@ -84,7 +93,7 @@ part-offer-end-2 c = let d = c .before .before .before in omega (arith, facts d 
 
 offer-requires : tie.Need-offer-requires
 offer-requires c κs =
-    let d = c .before .before .before .before .before in
+    let d = asked c .before in
     let s = start d .args .strip .now in
     let p = facts d .plan in (
       ap (λ (w : List ℕ). length (split 45 w)) (inner-slice s) ∙ p .nine,
@@ -95,7 +104,7 @@ offer-requires c κs =
 returns : tie.Need-returns
 returns c =
     let o = c .before .before .before in
-    let a = o .before .before .before .before .before .args in
+    let a = begun (o .before) .args in
     not-opened (a .strip .now) (a .held) (a .msg .now) (a .out .now) _ _ _ (sym (o .open-strip .ensures .0) ∙ c .before .number .given .1)
 
 same-length : tie.Need-same-length
@@ -103,11 +112,12 @@ same-length c = search needs
 
 returns-2 : tie.Need-returns-2
 returns-2 c =
-    let r = c .before .before .before .before .before .before .before in
+    let w = c .before .before in
+    let r = asked (w .before) in
     let d = r .before in
     let a = start d .args in
     was-opened (a .strip .now) (a .held) (a .msg .now) (a .out .now) _ _ (is-open d) _ (r .role .ensures) _ _ (inner-slice (a .strip .now)) (said-there d)
-    _ _ (c .before .before .offer .ensures)
+    _ _ (w .offer .ensures)
 
 pub update-spec : {M : Type 1} → statement M
 update-spec =
