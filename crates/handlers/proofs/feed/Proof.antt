@@ -4,9 +4,9 @@ use mathlib.Core.Path.{_∙_}
 use native.Mathlib.Omega.{arith}
 use lib.ListN.{length, take}
 use Rattle.racks.specs.Places.{boardIn}
-use Rattle.handlers.specs.Walk.{waitsIn, keeps, Fed, Seated}
-use Rattle.handlers.specs.Walk.Fed.{nothing}
-use Rattle.handlers.proofs.Walk.{fed-line, fed-byte, fed-all}
+use Rattle.journal.specs.Walk.{waitsIn, keeps, Fed, Seated}
+use Rattle.journal.specs.Walk.Fed.{nothing}
+use Rattle.journal.proofs.Walk.{fed-line, fed-byte, fed-all}
 use borrow.Author.Needs.{needs}
 use Rattle.handlers.proofs.feed.Statement.{statement}
 use Rattle.handlers.proofs.feed.Tie as tie
@@ -19,6 +19,14 @@ Inv-loop journal chunk line₀ bytes₀ board₀ w₀ i₀ line bytes board w i 
 abbrev μ-loop : tie.MeasureT-loop
 μ-loop journal chunk line₀ bytes₀ board₀ w₀ i₀ line bytes board w i = length chunk - i
 
+-- A BYTE of the chunk
+module _ (c : tie.After-shared-slice-known2 Inv-loop μ-loop) where
+  abbrev turn : tie.At-loop Inv-loop μ-loop
+  turn = c .before .before
+
+  seated : Seated (turn .loop .w) (turn .loop .line) (turn .loop .board .places) (turn .loop .bytes)
+  seated = turn .loop .inv .1
+
 loop-holds : tie.Need-loop-holds Inv-loop μ-loop
 loop-holds c = (omega arith, c .before .before .before .before .pre, nothing)
 
@@ -30,7 +38,7 @@ add-i c = search needs
 
 end-line-requires : tie.Need-end-line-requires Inv-loop μ-loop
 end-line-requires c κs =
-    let k = c .before .before .before .before .before .loop .inv .1 in
+    let k = seated (c .before .before .before) in
     (omega (arith, k .room, k .inside), k .sized)
 
 loop-less : tie.Need-loop-less Inv-loop μ-loop
@@ -39,16 +47,17 @@ loop-less c = search needs
 loop-again : tie.Need-loop-again Inv-loop μ-loop
 loop-again c =
     let d = c .before .before .before in
-    let l = d .before .before .before in
-    let less = d .before .before .loop-test .taken in (
+    let b = d .before in
+    let l = turn b in
+    let less = b .before .loop-test .taken in (
       omega (arith, less),
-      record { room = l .loop .inv .1 .room; inside = omega arith; sized = c .end-line .ensures .sized },
+      record { room = seated b .room; inside = omega arith; sized = c .end-line .ensures .sized },
       fed-line _ _ _ _ (l .loop .i) less _ _ (l .loop .inv .2) _ (d .if1 .taken) (c .end-line .ensures .board-is),
     )
 
 push-requires : tie.Need-push-requires Inv-loop μ-loop
 push-requires c κs =
-    let k = c .before .before .before .before .loop .inv .1 in
+    let k = seated (c .before .before) in
     (k .inside, k .room)
 
 loop-less-2 : tie.Need-loop-less-2 Inv-loop μ-loop
@@ -58,10 +67,11 @@ loop-again-2 : tie.Need-loop-again-2 Inv-loop μ-loop
 loop-again-2 c =
     let p = c .before .before in
     let d = p .before .before in
-    let l = d .before .before .before in
-    let less = d .before .before .loop-test .taken in (
+    let b = d .before in
+    let l = turn b in
+    let less = b .before .loop-test .taken in (
       omega (arith, less),
-      record { room = p .push .kept .1 .1 .0 ∙ l .loop .inv .1 .room; inside = p .push .ensures .1; sized = l .loop .inv .1 .sized },
+      record { room = p .push .kept .1 .1 .0 ∙ seated b .room; inside = p .push .ensures .1; sized = seated b .sized },
       fed-byte _ _ _ _ (l .loop .i) less _ _ (l .loop .inv .2) _ (d .if1 .left) (p .push .ensures .0),
     )
 

@@ -1,9 +1,17 @@
 -- `handlers::make` meets its contract. Assumes nothing.
 use borrow.Author.Tests.{not-true}
-use Rattle.handlers.proofs.Walk.{lost-journal, makes, makes-not}
+use Rattle.journal.proofs.Walk.{lost-journal, makes, makes-not}
 use borrow.Author.Needs.{needs}
 use Rattle.handlers.proofs.make.Statement.{statement}
 use Rattle.handlers.proofs.make.Tie as tie
+
+-- the call, made on the copy and found to be accepted or not
+module _ (c : tie.After-is-accepted) where
+  abbrev made : tie.After-play
+  made = c .before .before
+
+  abbrev start : tie.Start
+  start = made .before .before .before .before
 
 play-requires : tie.Need-play-requires
 play-requires c κs = search needs
@@ -23,8 +31,7 @@ print-requires c κs = search needs
 returns : tie.Need-returns
 returns c =
     let k = c .before .before .before in
-    let p = k .before .before .before .before in
-    let s = p .before .before .before .before in
+    let s = start (k .before .before) in
     makes-not (s .args .journal) (s .args .line .now) (s .args .board .places) (s .args .bytes .now) (s .pre) (s .args .call)
     (lost-journal (s .args .journal) _ (k .keep .ensures) (not-true _ (c .before .before .if2 .taken)))
 
@@ -33,9 +40,9 @@ tell-requires c κs = search needs
 
 returns-2 : tie.Need-returns-2
 returns-2 c =
-    let p = c .before .before .before .before .before in
-    let s = p .before .before .before .before in
-    makes (s .args .journal) (s .args .line .now) (s .args .board .places) (s .args .bytes .now) (s .pre) (s .args .call) _ _ (p .play .ensures)
+    let a = c .before .before .before in
+    let s = start a in
+    makes (s .args .journal) (s .args .line .now) (s .args .board .places) (s .args .bytes .now) (s .pre) (s .args .call) _ _ (made a .play .ensures)
 
 pub make-spec : {M : Type 1} → statement M
 make-spec =

@@ -1,7 +1,7 @@
--- `handlers::go_back` is safe and ends. Assumes nothing.
+-- `journal::go_back` is safe and ends. Assumes nothing.
 use borrow.Author.Needs.{needs}
-use Rattle.handlers.proofs.go_back.Statement.{statement}
-use Rattle.handlers.proofs.go_back.Tie as tie
+use Rattle.journal.proofs.go_back.Statement.{statement}
+use Rattle.journal.proofs.go_back.Tie as tie
 
 abbrev Inv-loop : tie.InvT-loop
 Inv-loop fd n left₀ left = Unit

@@ -1,10 +1,10 @@
--- `handlers::keep` meets its contract. Assumes nothing.
+-- `journal::keep` meets its contract. Assumes nothing.
 use mathlib.Core.Path.{ap}
-use Rattle.handlers.specs.Walk.{keeps}
-use Rattle.handlers.proofs.Walk.{answers-nowhere, answers-file}
+use Rattle.journal.specs.Walk.{keeps}
+use Rattle.journal.proofs.Walk.{answers-nowhere, answers-file}
 use borrow.Author.Needs.{needs}
-use Rattle.handlers.proofs.keep.Statement.{statement}
-use Rattle.handlers.proofs.keep.Tie as tie
+use Rattle.journal.proofs.keep.Statement.{statement}
+use Rattle.journal.proofs.keep.Tie as tie
 
 enum-told : tie.Need-enum-told
 enum-told c = search needs

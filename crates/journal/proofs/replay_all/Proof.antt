@@ -1,15 +1,15 @@
--- `handlers::replay_all` meets its contract. Assumes nothing.
+-- `journal::replay_all` meets its contract. Assumes nothing.
 use mathlib.Core.Path.{ap, _∙_}
-use native.Mathlib.Omega.{arith}
 use lib.ListN.{length, length-replicate}
 use Rattle.racks.specs.Places.{vacant}
-use Rattle.handlers.specs.Walk.{Seated}
+use Rattle.journal.specs.Walk.{PlaysAgain}
+use Rattle.journal.proofs.Walk.{plays-first, plays-next}
 use borrow.Author.Needs.{needs}
-use Rattle.handlers.proofs.replay_all.Statement.{statement}
-use Rattle.handlers.proofs.replay_all.Tie as tie
+use Rattle.journal.proofs.replay_all.Statement.{statement}
+use Rattle.journal.proofs.replay_all.Tie as tie
 
 abbrev Inv-loop : tie.InvT-loop
-Inv-loop fd line₀ bytes₀ s₀ turns₀ line bytes s turns = Seated (s .waiting) line (s .board .places) bytes
+Inv-loop fd line₀ bytes₀ s₀ turns₀ line bytes s turns = PlaysAgain s line bytes
 
 abbrev μ-loop : tie.MeasureT-loop
 μ-loop fd line₀ bytes₀ s₀ turns₀ line bytes s turns = turns
@@ -20,14 +20,14 @@ empty-requires c κs = tt
 loop-holds : tie.Need-loop-holds Inv-loop μ-loop
 loop-holds c =
     let s = c .before .before in
-    record {
-      room = s .pre .0;
-      inside = omega arith;
-      sized = record { places = ap length (c .empty .ensures) ∙ length-replicate 20 vacant; room = s .pre .1 };
-    }
+    plays-first _ _ _ (c .empty .ensures) (s .pre .0)
+    (record { places = ap length (c .empty .ensures) ∙ length-replicate 20 vacant; room = s .pre .1 })
 
 replay-some-requires : tie.Need-replay-some-requires Inv-loop μ-loop
-replay-some-requires c κs = c .before .before .before .before .loop .inv
+replay-some-requires c κs =
+    let g = c .before .before in
+    let l = g .before .before .loop .inv in
+    (l .seated, l .goes-on (g .if1 .taken))
 
 sub-turns : tie.Need-sub-turns Inv-loop μ-loop
 sub-turns c = search needs
@@ -36,7 +36,11 @@ loop-less : tie.Need-loop-less Inv-loop μ-loop
 loop-less c = search needs
 
 loop-again : tie.Need-loop-again Inv-loop μ-loop
-loop-again c = c .before .before .replay-some .ensures
+loop-again c =
+    let r = c .before .before in
+    let g = r .before .before .before in
+    let l = g .before .before .loop .inv in
+    plays-next _ _ _ _ _ _ l (g .if1 .taken) (r .replay-some .ensures)
 
 same-length : tie.Need-same-length Inv-loop μ-loop
 same-length c = search needs

@@ -1,8 +1,8 @@
--- `handlers::show_entries` meets its contract. Assumes nothing.
+-- `say_board::show_entries` meets its contract. Assumes nothing.
 use native.Mathlib.Omega.{arith}
 use Prim.Native.Nat.{_-_, _≤_}
-use Rattle.handlers.proofs.show_entries.Statement.{statement}
-use Rattle.handlers.proofs.show_entries.Tie as tie
+use Rattle.say_board.proofs.show_entries.Statement.{statement}
+use Rattle.say_board.proofs.show_entries.Tie as tie
 
 abbrev Inv-loop : tie.InvT-loop
 Inv-loop board firm bytes slot₀ slot = slot ≤ 10

@@ -1,8 +1,16 @@
--- `handlers::replay_some` meets its contract. Assumes nothing.
-use Rattle.handlers.proofs.Walk.{seated-stopped}
+-- `journal::replay_some` meets its contract. Assumes nothing.
+use Rattle.journal.proofs.Walk.{reads-stopped, reads-nothing, reads-some}
 use borrow.Author.Needs.{needs}
-use Rattle.handlers.proofs.replay_some.Statement.{statement}
-use Rattle.handlers.proofs.replay_some.Tie as tie
+use Rattle.journal.proofs.replay_some.Statement.{statement}
+use Rattle.journal.proofs.replay_some.Tie as tie
+
+-- once something was read, or nothing
+module _ (c : tie.After-board) where
+  abbrev got : tie.After-read
+  got = c .before .before
+
+  abbrev start : tie.Start
+  start = got .before .before .before
 
 slice-aggregate-read : tie.Need-slice-aggregate-read
 slice-aggregate-read c = search needs
@@ -10,19 +18,13 @@ slice-aggregate-read c = search needs
 read-requires : tie.Need-read-requires
 read-requires c κs = search needs
 
-slice-aggregate-complain : tie.Need-slice-aggregate-complain
-slice-aggregate-complain c = search needs
-
-complain-requires : tie.Need-complain-requires
-complain-requires c κs = search needs
-
-stuck-requires : tie.Need-stuck-requires
-stuck-requires c κs = search needs
+unread-requires : tie.Need-unread-requires
+unread-requires c κs = tt
 
 returns : tie.Need-returns
 returns c =
-    let s = c .before .before .before .before .before .before .before .before .before .before in
-    seated-stopped _ _ (c .stuck .ensures) (s .args .line .now) (s .args .bytes .now) (s .pre .room) (s .pre .sized)
+    let s = start (c .before .before) in
+    reads-stopped _ _ (c .unread .ensures) (s .args .s) (s .args .line .now) (s .args .bytes .now) (s .pre .0 .room) (s .pre .0 .sized)
 
 slice-aggregate-count : tie.Need-slice-aggregate-count
 slice-aggregate-count c = search needs
@@ -31,7 +33,10 @@ count-requires : tie.Need-count-requires
 count-requires c κs = search needs
 
 returns-2 : tie.Need-returns-2
-returns-2 c = search needs
+returns-2 c =
+    let k = c .before .before .before in
+    let s = start (k .before .before) in
+    reads-nothing (s .args .s) (s .args .line .now) (s .args .bytes .now) (s .pre .0)
 
 array-share-prefix-chunk : tie.Need-array-share-prefix-chunk
 array-share-prefix-chunk c = search needs
@@ -46,7 +51,7 @@ same-length : tie.Need-same-length
 same-length c = search needs
 
 returns-3 : tie.Need-returns-3
-returns-3 c = search needs
+returns-3 c = reads-some _ _ _ _ _ _ _ (c .before .before .replay .ensures)
 
 pub replay-some-spec : {M : Type 1} → statement M
 replay-some-spec =
@@ -54,9 +59,7 @@ replay-some-spec =
     (tie.spec
     slice-aggregate-read
     read-requires
-    slice-aggregate-complain
-    complain-requires
-    stuck-requires
+    unread-requires
     returns
     slice-aggregate-count
     count-requires

@@ -1,9 +1,9 @@
--- `handlers::push` meets its contract. Assumes nothing.
+-- `journal::push` meets its contract. Assumes nothing.
 use native.Mathlib.Omega.{arith}
-use Rattle.handlers.proofs.Walk.{pushed-over, pushed-full, pushed-on}
+use Rattle.journal.proofs.Walk.{pushed-over, pushed-full, pushed-on}
 use borrow.Author.Needs.{needs}
-use Rattle.handlers.proofs.push.Statement.{statement}
-use Rattle.handlers.proofs.push.Tie as tie
+use Rattle.journal.proofs.push.Statement.{statement}
+use Rattle.journal.proofs.push.Tie as tie
 
 returns : tie.Need-returns
 returns c =

@@ -1,13 +1,13 @@
--- The walk of the program `handlers` over its input: how bytes become lines, and the board after each. Where there is a journal, an accepted call that
--- cannot be kept leaves the board as it was. Assumes nothing.
+-- The walk of the program `handlers` over its input and over its journal: how bytes become lines, and the board after each. Where there is a journal, an
+-- accepted call that cannot be kept leaves the board as it was. Assumes nothing.
 use Prim.Native.Nat.{ℕ, _≤_}
 use mathlib.Core.Path.{_≡_, refl}
-use mathlib.Core.Bool.{Bool, true, false, cond}
+use mathlib.Core.Bool.{Bool, true, false, _&&_, not, cond}
 use mathlib.Core.List.{List, [], _∷_, _++_}
 use lib.Dec.{eqb, ltb}
 use lib.ListN.{length, take}
 use Rattle.alphabet.specs.Text.{bytes}
-use Rattle.rooms.specs.Rooms.{Board, said, after}
+use Rattle.rooms.specs.Rooms.{Board, empty, said, after}
 use Rattle.racks.specs.declared.Place.{Place}
 use Rattle.racks.specs.Places.{boardIn, Sized}
 use Rattle.board.specs.House.{house}
@@ -18,10 +18,10 @@ use Rattle.calls.specs.declared.Call.{Call}
 use Rattle.calls.specs.declared.Ask.{Ask}
 use Rattle.calls.specs.declared.Ask.the-variants.{Calls, Look, List as Lists, NoCall}
 use Rattle.calls.specs.Lines.{asked, callOf}
-use Rattle.handlers.specs.declared.Journal.{Journal}
-use Rattle.handlers.specs.declared.Journal.the-variants.{Nowhere, At}
-use Rattle.handlers.specs.declared.Waiting.{Waiting}
-use Rattle.handlers.specs.declared.Sitting.{Sitting}
+use Rattle.journal.specs.declared.Journal.{Journal}
+use Rattle.journal.specs.declared.Journal.the-variants.{Nowhere, At}
+use Rattle.journal.specs.declared.Waiting.{Waiting}
+use Rattle.journal.specs.declared.Sitting.{Sitting}
 
 abbrev pub acceptedAs : Verdict → Bool
 acceptedAs (Filed k) = true
@@ -110,6 +110,21 @@ pub data Replayed (b : Board house) (w : Waits) : List ℕ → Board house → W
   played : {s : List ℕ} {c d : Board house} {v u : Waits} (x : ℕ) → Replayed b w s c v → Step false c v x d u → (x ≡ 10 → accepts c v ≡ true)
       → Replayed b w (s ++ (x ∷ [])) d u
 
+-- bytes that do not replay: behind some that do, a line ends that is no call that is accepted, or one is too long
+pub data Sticks (b : Board house) (w : Waits) : List ℕ → Type 0 where
+  bad-line : {s : List ℕ} {c : Board house} {v : Waits} (t : List ℕ) → Replayed b w s c v → accepts c v ≡ false → Sticks b w (s ++ (10 ∷ t))
+  long-line : {s : List ℕ} {c : Board house} {v : Waits} (t : List ℕ) → Replayed b w s c v → v .over ≡ true → Sticks b w (s ++ t)
+
+-- SEVERAL READS. What a read gives no contract says, so that there are bytes is all that can be said of them: those of all reads, one behind the other
+
+pub record FedBy (j : Bool) (b : Board house) (w : Waits) (c : Board house) (v : Waits) : Type 0 where
+  pub bytes : List ℕ
+  pub fed : Fed j b w bytes c v
+
+pub record ReplayedBy (b : Board house) (w : Waits) (c : Board house) (v : Waits) : Type 0 where
+  pub bytes : List ℕ
+  pub replayed : Replayed b w bytes c v
+
 -- WHAT THE CODE MUST DO, from places and bytes to places and bytes
 
 pub record Makes (j : Journal) (call : Call) (line : List ℕ) (ps : List Place) (lent : List ℕ) (qs : List Place) (left : List ℕ) : Type 0 where
@@ -143,10 +158,30 @@ pub record EndsAgain (w : Waits) (ps : List Place) (lent : List ℕ) (r : Sittin
   pub ends : Ends Nowhere w ps lent (r .board .places) left
   pub going-is : r .going ≡ accepts (boardIn ps lent) w
 
--- the journal, played again: where it goes on, all that was read is played
+-- one read of the journal: where it goes on, all of it is played; where it does not, it cannot be
 pub record Replays (chunk : List ℕ) (s : Sitting) (line lent : List ℕ) (r : Sitting) (line′ left : List ℕ) : Type 0 where
   pub replayed : r .going ≡ true
       → Replayed (boardIn (s .board .places) lent) (waitsIn (s .waiting) line) chunk (boardIn (r .board .places) left) (waitsIn (r .waiting) line′)
+  pub sticks : r .going ≡ false → Sticks (boardIn (s .board .places) lent) (waitsIn (s .waiting) line) chunk
+  pub over-is : r .waiting .over ≡ not (r .going)
+  pub seated : Seated (r .waiting) line′ (r .board .places) left
+
+-- reads of the journal, as long as none fails and all can be played
+pub record ReadsOn (s : Sitting) (line lent : List ℕ) (r : Sitting) (line′ left : List ℕ) : Type 0 where
+  pub replayed : r .waiting .over ≡ false
+      → ReplayedBy (boardIn (s .board .places) lent) (waitsIn (s .waiting) line) (boardIn (r .board .places) left) (waitsIn (r .waiting) line′)
+  pub goes-on : r .going ≡ true → r .waiting .over ≡ false
+  pub seated : Seated (r .waiting) line′ (r .board .places) left
+
+-- all of them, from the empty board
+pub record PlaysAgain (r : Sitting) (line left : List ℕ) : Type 0 where
+  pub replayed : r .waiting .over ≡ false → ReplayedBy (empty house) fresh (boardIn (r .board .places) left) (waitsIn (r .waiting) line)
+  pub goes-on : r .going ≡ true → r .waiting .over ≡ false
+  pub seated : Seated (r .waiting) line (r .board .places) left
+
+-- reads of standard input
+pub record ServesOn (j : Journal) (s : Sitting) (line lent : List ℕ) (r : Sitting) (line′ left : List ℕ) : Type 0 where
+  pub fed : FedBy (keeps j) (boardIn (s .board .places) lent) (waitsIn (s .waiting) line) (boardIn (r .board .places) left) (waitsIn (r .waiting) line′)
   pub seated : Seated (r .waiting) line′ (r .board .places) left
 
 -- THE LINES OF AN INPUT, each as it waited when it ended
@@ -165,9 +200,15 @@ afterLines b (w ∷ ws) = afterLines (afterWaits b w) ws
 abbrev pub ByLines : Type 0
 ByLines = (b : Board house) (w : Waits) (s : List ℕ) (c : Board house) (v : Waits) → Fed false b w s c v → c ≡ afterLines b (linesFrom w s)
 
--- and so is the board after a journal
+-- each a call that is accepted, on the board as it then stands
+abbrev pub allAccepted : Board house → List Waits → Bool
+allAccepted b [] = true
+allAccepted b (w ∷ ws) = accepts b w && allAccepted (afterWaits b w) ws
+
+-- and so is the board after a journal, whose lines are all accepted calls
 abbrev pub AgainByLines : Type 0
-AgainByLines = (b : Board house) (w : Waits) (s : List ℕ) (c : Board house) (v : Waits) → Replayed b w s c v → c ≡ afterLines b (linesFrom w s)
+AgainByLines = (b : Board house) (w : Waits) (s : List ℕ) (c : Board house) (v : Waits) → Replayed b w s c v
+    → (c ≡ afterLines b (linesFrom w s)) × (allAccepted b (linesFrom w s) ≡ true)
 
 -- EXAMPLES, computed: two lines, and a third that has not ended
 two-lines : linesFrom fresh (bytes "1 LIST" ++ 10 ∷ 10 ∷ bytes "2 L") ≡ record { pending = bytes "1 LIST"; over = false } ∷ fresh ∷ []
