@@ -251,14 +251,3 @@ pub fn write_fitting19(s: &[u8], out: &mut [u8]) -> usize
 {
     put_words(s, out)
 }
-
-// Writes a content at the front of `out`: its canonical spelling where it fits, else itself. The bytes behind it stay.
-pub fn write_field19(s: &[u8], out: &mut [u8]) -> usize
-    requires { ⌜ length (written19 (now s)) ≤ length (now out) ⌝ }
-    ensures { λ r. ⌜ (r ≡ length (written19 (now (s .entry)))) × (now (out .exit) ≡ front (written19 (now (s .entry))) (now (out .entry))) ⌝ }
-{
-    if !supplement::fits_field19(s) {
-        return text::put(s, out);
-    }
-    write_fitting19(s, out)
-}

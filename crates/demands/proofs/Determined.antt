@@ -99,11 +99,11 @@ put-one part out = front-one part out
 pub reduce-one : (m buf : List ℕ) → Determines (ℕ × List ℕ) (λ r. (r .0 ≡ length (reduced m)) × (r .1 ≡ front (reduced m) buf))
 reduce-one m buf = front-one (reduced m) buf
 
-pub write-field19-one : (s out : List ℕ) → Determines (ℕ × List ℕ) (λ r. (r .0 ≡ length (written19 s)) × (r .1 ≡ front (written19 s) out))
-write-field19-one s out = front-one (written19 s) out
+pub write-fitting19-one : (s out : List ℕ) → Determines (ℕ × List ℕ) (λ r. (r .0 ≡ length (written19 s)) × (r .1 ≡ front (written19 s) out))
+write-fitting19-one s out = front-one (written19 s) out
 
-pub write-form-one : (f : Form) (s out : List ℕ) → Determines (ℕ × List ℕ) (λ r. (r .0 ≡ length (writtenOf f s)) × (r .1 ≡ front (writtenOf f s) out))
-write-form-one f s out = front-one (writtenOf f s) out
+pub write-fitting-one : (f : Form) (s out : List ℕ) → Determines (ℕ × List ℕ) (λ r. (r .0 ≡ length (writtenOf f s)) × (r .1 ≡ front (writtenOf f s) out))
+write-fitting-one f s out = front-one (writtenOf f s) out
 
 pub put-dated-one : (d s out : List ℕ) → Determines (ℕ × List ℕ) (λ r. Puts (withDate d s) (r .0) out (r .1))
 put-dated-one d s out = front-one (withDate d s) out

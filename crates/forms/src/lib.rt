@@ -135,17 +135,6 @@ pub fn spelled_length(f: Form, s: &[u8]) -> usize
     s.len()
 }
 
-// Writes a content at the front of `out`, in its canonical spelling; the bytes behind it stay.
-pub fn write_form(f: Form, s: &[u8], out: &mut [u8]) -> usize
-    requires { ⌜ length (writtenOf f (now s)) ≤ length (now out) ⌝ }
-    ensures { λ r. ⌜ (r ≡ length (writtenOf f (now (s .entry)))) × (now (out .exit) ≡ front (writtenOf f (now (s .entry))) (now (out .entry))) ⌝ }
-{
-    if f.number() != 19 {
-        return text::put(s, out);
-    }
-    canonical::write_field19(s, out)
-}
-
 // Writes a content that fits its form at the front of `out`, in its canonical spelling; the bytes behind it stay.
 pub fn write_fitting(f: Form, s: &[u8], out: &mut [u8]) -> usize
     requires { ⌜ (fieldOf f .fits (now s) ≡ true) × (length (writtenOf f (now s)) ≤ length (now out)) ⌝ }

@@ -3,7 +3,7 @@
 use Prim.Native.Nat.{ℕ, zero, suc, _+_, _-_, _<_, _≤_}
 use mathlib.Core.Path.{_≡_, refl, sym, ap, _∙_}
 use mathlib.Core.Bool.{Bool, true, false, cond, not}
-use mathlib.Core.List.{List, [], _∷_, _++_}
+use mathlib.Core.List.{List, [], _∷_, _++_, map}
 use native.Mathlib.Omega.{arith}
 use native.Mathlib.Numerals.{add-one}
 use lib.Dec.{eqb}
@@ -22,7 +22,8 @@ use Rattle.kinds.specs.declared.MessageType.{MessageType}
 use Rattle.kinds.specs.declared.Form.{Form}
 use Rattle.kinds.specs.declared.Form.the-variants.{Field22}
 use Rattle.kinds.specs.Kinds.{formsOf, formAt}
-use Rattle.forms.specs.Forms.{rankIn, faultOf, writtenOf}
+use Rattle.records.specs.Records.{fitAll}
+use Rattle.forms.specs.Forms.{fieldOf, rankIn, faultOf, writtenOf}
 use Rattle.forms.proofs.Forms.{written-short}
 use Rattle.message.specs.declared.Fault.the-variants.{Clear, At}
 use Rattle.message.specs.Reading.{faultFrom, faultIn, spelledFrom, leadOf}
@@ -82,6 +83,19 @@ module _ (t : MessageType) (n : ℕ) (s : List ℕ) (at j e : ℕ) (end : e ≡ 
         → faultFrom earlier j (drop j (formsOf t n)) (split 45 (drop at s))
         ≡ faultFrom (k ∷ earlier) (j + 1) (drop (j + 1) (formsOf t n)) (split 45 (drop (e + 1) s))
     fault-next z h = fault-turn earlier ∙ rw (number-is, eq-eqb number 0 z, rank-is, after-here 45 s e h, add-one j)
+
+  -- WHAT FITS
+
+  module _ (fit : fitAll (map fieldOf (drop j (formsOf t n))) (split 45 (drop at s)) ≡ true) where
+    fits-turn : (fieldOf (formAt t n j) .fits (take (e - at) (drop at s)) ≡ true)
+        × (fitAll (map fieldOf (drop (j + 1) (formsOf t n))) (after 45 (drop e s)) ≡ true)
+    fits-turn = both (fieldOf (formAt t n j) .fits (take (e - at) (drop at s))) _ (rw (forms-here, parts-here) at fit)
+
+    pub fits-here : fieldOf (formAt t n j) .fits (take (e - at) (drop at s)) ≡ true
+    fits-here = fits-turn .0
+
+    pub fits-next : e < length s → fitAll (map fieldOf (drop (j + 1) (formsOf t n))) (split 45 (drop (e + 1) s)) ≡ true
+    fits-next h = sym (ap (fitAll (map fieldOf (drop (j + 1) (formsOf t n)))) (after-here 45 s e h)) ∙ fits-turn .1
 
   -- THE SPELLING
 

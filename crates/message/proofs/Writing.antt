@@ -1,7 +1,8 @@
 -- The writer, turn by turn: each field goes behind the last one, in the rest of the output that is lent to it. Assumes nothing.
 use Prim.Native.Nat.{ℕ, _+_, _-_, _<_, _≤_}
 use mathlib.Core.Path.{_≡_, refl, sym, ap, ap₂, _∙_}
-use mathlib.Core.List.{List, [], _∷_, _++_}
+use mathlib.Core.Bool.{true}
+use mathlib.Core.List.{List, [], _∷_, _++_, map}
 use native.Mathlib.Omega.{arith}
 use lib.ListN.{length, take, drop, set, length-drop}
 use Rattle.text.specs.Words.{split, after, upTo}
@@ -11,9 +12,12 @@ use Rattle.text.proofs.Lent.{store, lent, next-out, next-rest, next-fits, whole
 use Rattle.kinds.specs.declared.MessageType.{MessageType}
 use Rattle.kinds.specs.declared.Form.{Form}
 use Rattle.kinds.specs.Kinds.{formsOf, formAt}
-use Rattle.forms.specs.Forms.{writtenOf}
-use Rattle.message.specs.Reading.{spelledFrom, leadOf}
-use Rattle.message.proofs.Walk.{Even, even-next, spelled-turn, spelled-last, spelled-next}
+use Rattle.records.specs.Records.{fitAll}
+use Rattle.forms.specs.Forms.{fieldOf, writtenOf}
+use Rattle.message.specs.declared.Fault.the-variants.{Clear}
+use Rattle.message.specs.Reading.{faultIn, spelledFrom, leadOf}
+use Rattle.message.proofs.Faults.{clear-faultless}
+use Rattle.message.proofs.Walk.{Even, even-next, fits-here, fits-next, spelled-turn, spelled-last, spelled-next}
 
 -- the whole that is to be written
 abbrev pub whole : MessageType → ℕ → List ℕ → List ℕ
@@ -24,6 +28,7 @@ pub record Writing (t : MessageType) (n : ℕ) (s out₀ out : List ℕ) (o at j
   pub inside : at ≤ length s
   pub few : j ≤ at
   pub even : Even t n s at j
+  pub fit : fitAll (map fieldOf (drop j (formsOf t n))) (split 45 (drop at s)) ≡ true
   pub room : length (whole t n s) ≤ length out₀
   pub long : length out ≡ length out₀
   pub within : o ≤ length (whole t n s)
@@ -31,9 +36,20 @@ pub record Writing (t : MessageType) (n : ℕ) (s out₀ out : List ℕ) (o at j
   pub written : out ≡ take o (whole t n s) ++ drop o out₀
 
 pub writing-starts : (t : MessageType) (n : ℕ) (s out : List ℕ) → length (whole t n s) ≤ length out
-    → length (formsOf t n) ≡ length (split 45 s) → Writing t n s out out 0 0 0
-writing-starts t n s out room even =
-    record { inside = omega arith; few = omega arith; even = even; room = room; long = refl; within = omega arith; left = refl; written = refl }
+    → length (formsOf t n) ≡ length (split 45 s) → faultIn t n (split 45 s) ≡ Clear → Writing t n s out out 0 0 0
+unfolding faultIn
+writing-starts t n s out room even clear =
+    record {
+      inside = omega arith;
+      few = omega arith;
+      even = even;
+      fit = clear-faultless [] 0 (formsOf t n) (split 45 s) even clear .fit;
+      room = room;
+      long = refl;
+      within = omega arith;
+      left = refl;
+      written = refl;
+    }
 
 -- a turn: the field ends at e, and the byte `lead` and what is written of its content by form f are due
 pub record Turn (t : MessageType) (n : ℕ) (s out₀ out : List ℕ) (o at j e lead : ℕ) (f : Form) : Type 0 where
@@ -57,7 +73,11 @@ module _ {t : MessageType} {n : ℕ} {s out₀ out : List ℕ} {o at j e lead : 
   pub turn-room : o + length due + length behind-due ≡ length (whole t n s)
   turn-room = next-fits (whole t n s) out₀ out o (u .so-far .written) (u .so-far .within) due behind-due cut
 
-  -- the rest that is lent has room for it
+  -- the content fits its form, and the rest that is lent has room for what is due
+  pub turn-content : fieldOf f .fits (take (e - at) (drop at s)) ≡ true
+  turn-content =
+      ap (λ (g : Form). fieldOf g .fits (take (e - at) (drop at s))) (u .is-form) ∙ fits-here t n s at j e (u .end) (u .so-far .even) (u .so-far .fit)
+
   pub turn-fits : length due ≤ length (take (length out - o) (drop o out))
   turn-fits = omega (arith, turn-room, ap length (rest out o), length-drop o out, u .so-far .long, u .so-far .room)
 
@@ -77,6 +97,7 @@ module _ {t : MessageType} {n : ℕ} {s out₀ out : List ℕ} {o at j e lead : 
           inside = omega arith;
           few = omega (arith, u .so-far .few);
           even = even-next t n s at j e (u .end) (u .so-far .even) h;
+          fit = fits-next t n s at j e (u .end) (u .so-far .even) (u .so-far .fit) h;
           room = u .so-far .room;
           long = l ∙ u .so-far .long;
           within = omega (arith, turn-room);

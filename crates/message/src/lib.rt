@@ -12,7 +12,7 @@ ghost use Rattle.space.specs.Hyphens.{behindHyphen};
 ghost use Rattle.outer.specs.declared.Outer as Outer;
 ghost use Rattle.outer.specs.Outer.{most, outer};
 ghost use Rattle.kinds.specs.Kinds.{formsOf, leastOf, greatestOf};
-ghost use Rattle.forms.specs.Forms.{writtenOf};
+ghost use Rattle.forms.specs.Forms.{fieldOf, writtenOf};
 ghost use Rattle.message.specs.Ends.{mostFields, Ends};
 ghost use Rattle.message.specs.Reading.{
   isClear,
@@ -141,21 +141,21 @@ fn spelled_length(t: MessageType, count: usize, s: &[u8]) -> usize
     }
 }
 
-// Writes a field behind the byte that leads to it, at the front of `out`.
+// Writes a field that fits its form behind the byte that leads to it, at the front of `out`.
 fn write_field(lead: u8, form: Form, part: &[u8], out: &mut [u8]) -> usize
-    requires { ⌜ length (lead ∷ writtenOf form (now part)) ≤ length (now out) ⌝ }
+    requires { ⌜ (fieldOf form .fits (now part) ≡ true) × (length (lead ∷ writtenOf form (now part)) ≤ length (now out)) ⌝ }
     ensures { λ r. ⌜ (r ≡ length (lead ∷ writtenOf form (now (part .entry))))
         × (now (out .exit) ≡ front (lead ∷ writtenOf form (now (part .entry))) (now (out .entry))) ⌝ }
 {
     out[0] = lead;
-    let n = forms::write_form(form, part, &mut out[1..]);
+    let n = forms::write_fitting(form, part, &mut out[1..]);
     n + 1
 }
 
 // Writes the spelling of a text's fields at the front of `out`: each field goes behind the last one, in the rest that is lent to it.
 fn write_fields(t: MessageType, count: usize, s: &[u8], ends: &FieldEnds, out: &mut [u8]) -> usize
     requires { ⌜ Ends (now s) (now ends) × (length (spelledFrom 40 (formsOf t count) (split 45 (now s))) ≤ length (now out))
-        × (length (formsOf t count) ≡ length (split 45 (now s))) ⌝ }
+        × (length (formsOf t count) ≡ length (split 45 (now s))) × (faultIn t count (split 45 (now s)) ≡ Fault.Clear) ⌝ }
     ensures { λ r. ⌜ (r ≡ length (spelledFrom 40 (formsOf t count) (split 45 (now (s .entry)))))
         × (now (out .exit) ≡ front (spelledFrom 40 (formsOf t count) (split 45 (now (s .entry)))) (now (out .entry))) ⌝ }
 {
@@ -268,7 +268,7 @@ fn read_room(
     ends: &FieldEnds,
     out: &mut [u8],
 ) -> Answer
-    requires { ⌜ Counted t (now msg) count (now s) × Ends (now s) (now ends) ⌝ }
+    requires { ⌜ Counted t (now msg) count (now s) × Ends (now s) (now ends) × (faultIn t count (split 45 (now s)) ≡ Fault.Clear) ⌝ }
     ensures { λ a. ⌜ (a ≡ roomAs t (now (msg .entry)) (length (now (out .entry))))
         × (now (out .exit) ≡ writtenAs (roomAs t (now (msg .entry)) (length (now (out .entry)))) (now (msg .entry)) (now (out .entry))) ⌝ }
 {
@@ -292,7 +292,7 @@ fn read_explained(
     ends: &FieldEnds,
     out: &mut [u8],
 ) -> Answer
-    requires { ⌜ Counted t (now msg) count (now s) × Ends (now s) (now ends) ⌝ }
+    requires { ⌜ Counted t (now msg) count (now s) × Ends (now s) (now ends) × (faultIn t count (split 45 (now s)) ≡ Fault.Clear) ⌝ }
     ensures { λ a. ⌜ (a ≡ faultAs Fault.Clear t (now (msg .entry)) (length (now (out .entry))))
         × (now (out .exit) ≡ writtenAs (faultAs Fault.Clear t (now (msg .entry)) (length (now (out .entry)))) (now (msg .entry)) (now (out .entry))) ⌝ }
 {

@@ -72,7 +72,9 @@ cover-within [] = refl
 cover-within (b ∷ s) = go (eqb 67 b) refl
   where
     go : (x : Bool) → eqb 67 b ≡ x → larger (cond x 1 0) (leading letter (b ∷ s)) ≡ leading letter (b ∷ s)
-    go true q = subst (λ (c : ℕ). larger 1 (leading letter (c ∷ s)) ≡ leading letter (c ∷ s)) (eqb-true 67 b q) (rw (le-leb 1 (suc (leading letter s)) (omega arith)))
+    go true q =
+        subst (λ (c : ℕ). larger 1 (leading letter (c ∷ s)) ≡ leading letter (c ∷ s)) (eqb-true 67 b q)
+        (rw (le-leb 1 (suc (leading letter s)) (omega arith)))
     go false q = larger-first (leading letter (b ∷ s))
 
 pub shaded-is : (w : Word) → (same cover w || colour w) ≡ stands (shaded w)

@@ -129,7 +129,7 @@ add-result c =
     omega (arith, p .put-changed2 .ensures .0, whole-length e, rewrite-shorter (St e) (W e) 2 (two e) (within e))
 
 same-length-2 : tie.Need-same-length-2
-same-length-2 c = c .before .out2 .given .1 ∙ led-length (c .before .before .before .before .before .before)
+same-length-2 c = let p = c .before .before in c .before .out2 .given .1 ∙ led-length (p .before .before .before .before)
 
 returns-2 : tie.Need-returns-2
 returns-2 c =

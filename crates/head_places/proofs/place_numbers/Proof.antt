@@ -32,7 +32,9 @@ module _ (c : tie.After-front-of) where
   letters = on .before .before
 
   inside : n letters + c .front-of .result ≤ length (w letters)
-  inside = behind-within (leading digit) (front-le digit) (w letters) (n letters) (c .front-of .result) (letters .to-digits .ensures .0) (c .front-of .ensures .0)
+  inside =
+      behind-within (leading digit) (front-le digit) (w letters) (n letters) (c .front-of .result) (letters .to-digits .ensures .0)
+      (c .front-of .ensures .0)
 
 to-digits-requires : tie.Need-to-digits-requires
 to-digits-requires c κs = search needs

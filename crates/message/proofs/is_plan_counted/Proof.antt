@@ -84,7 +84,8 @@ is-reduced-requires c κs = search needs
 
 returns-2 : tie.Need-returns-2
 returns-2 c =
-    let a = c .before .before .before .before .before .args in
+    let typed-so = c .before .before .before in
+    let a = typed-so .before .before .args in
     sym (and-false (plans (countAs (a .t) (a .msg .now) most)) _ (sym (c .before .is-reduced .ensures) ∙ not-true _ (c .if2 .taken)))
 
 count-hyphens-requires : tie.Need-count-hyphens-requires

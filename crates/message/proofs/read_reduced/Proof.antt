@@ -54,7 +54,7 @@ returns : tie.Need-returns
 returns c = c .before .before .read-text .ensures
 
 read-scratch-requires : tie.Need-read-scratch-requires
-read-scratch-requires c κs = c .before .before .before .before .before .pre
+read-scratch-requires c κs = let tested = c .before .before in tested .before .before .before .pre
 
 same-length-2 : tie.Need-same-length-2
 same-length-2 c = search needs

@@ -35,7 +35,7 @@ returns c =
 write-fields-requires : tie.Need-write-fields-requires
 write-fields-requires c κs =
     let d = c .before .before in
-    (start d .pre .1, leb-true _ _ (sym (d .has-room .ensures) ∙ not-false _ (c .before .if1 .left)), start d .pre .0 .even)
+    (start d .pre .1, leb-true _ _ (sym (d .has-room .ensures) ∙ not-false _ (c .before .if1 .left)), start d .pre .0 .even, start d .pre .2)
 
 same-length : tie.Need-same-length
 same-length c = search needs

@@ -41,8 +41,9 @@ enum-told c = search needs
 
 read-explained-requires : tie.Need-read-explained-requires
 read-explained-requires c κs =
-    let d = c .before .before .before .before in
-    (start d .pre .0, ended d .field-ends .ensures)
+    let told = c .before .before in
+    let d = told .before .before in
+    (start d .pre .0, ended d .field-ends .ensures, sym (d .fields-fault .ensures) ∙ told .enum-told .given .1)
 
 returns : tie.Need-returns
 returns c =

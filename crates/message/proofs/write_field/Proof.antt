@@ -13,20 +13,20 @@ use Rattle.message.proofs.write_field.Tie as tie
 slice-write-out : tie.Need-slice-write-out
 slice-write-out c = search needs
 
-sub-write-form : tie.Need-sub-write-form
-sub-write-form c = simp length-set (omega arith)
+sub-write-fitting : tie.Need-sub-write-fitting
+sub-write-fitting c = simp length-set (omega arith)
 
-part-write-form-start : tie.Need-part-write-form-start
-part-write-form-start c = simp length-set (omega arith)
+part-write-fitting-start : tie.Need-part-write-fitting-start
+part-write-fitting-start c = simp length-set (omega arith)
 
-part-write-form-end : tie.Need-part-write-form-end
-part-write-form-end c = search needs
+part-write-fitting-end : tie.Need-part-write-fitting-end
+part-write-fitting-end c = search needs
 
-write-form-requires : tie.Need-write-form-requires
-write-form-requires c κs =
+write-fitting-requires : tie.Need-write-fitting-requires
+write-fitting-requires c κs =
     let d = c .before .before .before in
     let out = set (d .args .out .now) 0 (d .args .lead) in
-    omega (arith, ap length (rest out 1), length-drop 1 out, length-set (d .args .out .now) 0 (d .args .lead), d .pre)
+    (d .pre .0, omega (arith, ap length (rest out 1), length-drop 1 out, length-set (d .args .out .now) 0 (d .args .lead), d .pre .1))
 
 add-result : tie.Need-add-result
 add-result c = search needs
@@ -40,8 +40,8 @@ returns c =
     let d = p .before .before .before .before in
     let a = d .args in
     let w = writtenOf (a .form) (a .part .now) in (
-      omega (arith, p .write-form .ensures .0),
-      lent (set (a .out .now) 0 (a .lead)) w 1 _ (p .write-form .ensures .1) ∙ lead-write (a .out .now) w (a .lead) (omega (arith, d .pre)),
+      omega (arith, p .write-fitting .ensures .0),
+      lent (set (a .out .now) 0 (a .lead)) w 1 _ (p .write-fitting .ensures .1) ∙ lead-write (a .out .now) w (a .lead) (omega (arith, d .pre .1)),
     )
 
 pub write-field-spec : {M : Type 1} → statement M
@@ -49,10 +49,10 @@ write-field-spec =
     tie.close
     (tie.spec
     slice-write-out
-    sub-write-form
-    part-write-form-start
-    part-write-form-end
-    write-form-requires
+    sub-write-fitting
+    part-write-fitting-start
+    part-write-fitting-end
+    write-fitting-requires
     add-result
     same-length
     returns)

@@ -4,7 +4,7 @@ use mathlib.Core.Path.{_≡_, refl, _∙_}
 use mathlib.Core.List.{List}
 use lib.ListN.{length, getD, length-set}
 use Rattle.message.specs.Ends.{mostFields, startIn, EndAt}
-use Rattle.message.proofs.Writing.{Writing, writing-starts, Turn, turn-room, turn-fits, turn-next, last-long, last-room, last-written}
+use Rattle.message.proofs.Writing.{Writing, writing-starts, Turn, turn-room, turn-content, turn-fits, turn-next, last-long, last-room, last-written}
 use Rattle.message.proofs.Ends.{inside-ends, end-known, start-next}
 use borrow.Author.Needs.{needs}
 use native.Mathlib.Omega.{arith}
@@ -59,7 +59,7 @@ module _ (c : tie.After-write-field Inv-loop μ-loop) where
 loop-holds : tie.Need-loop-holds Inv-loop μ-loop
 loop-holds c =
     let a = c .before .before in
-    (writing-starts (a .args .t) (a .args .count) (a .args .s .now) (a .args .out .now) (a .pre .1) (a .pre .2), refl)
+    (writing-starts (a .args .t) (a .args .count) (a .args .s .now) (a .args .out .now) (a .pre .1) (a .pre .2) (a .pre .3), refl)
 
 mul-e : tie.Need-mul-e Inv-loop μ-loop
 mul-e c = omega (arith, inside c)
@@ -92,7 +92,7 @@ part-write-field-end-2 : tie.Need-part-write-field-end-2 Inv-loop μ-loop
 part-write-field-end-2 c = search needs
 
 write-field-requires : tie.Need-write-field-requires Inv-loop μ-loop
-write-field-requires c κs = turn-fits (turn (c .before .before))
+write-field-requires c κs = (turn-content (turn (c .before .before)), turn-fits (turn (c .before .before)))
 
 add-o : tie.Need-add-o Inv-loop μ-loop
 add-o c =
