@@ -69,7 +69,7 @@ fn byte_at(line: &Line, i: usize, n: usize) -> usize
     256 + 16 * hex_digit(line[i + 1]) + low
 }
 
-// Puts the bytes that a line of n bytes stands for from a place on there, and gives where they end; `NONE` where it stands for none.
+// Puts the bytes that the text from a place on stands for in its place, in a line of n bytes, and gives where they end; `NONE` where it stands for none.
 fn decode(line: &mut Line, from: usize, n: usize) -> usize
     requires { ⌜ (from ≤ 10000) × (n ≤ 8192) ⌝ }
     ensures { λ r. ⌜ from ≤ r ⌝ }
@@ -165,7 +165,7 @@ struct Run {
 // What an output holds before a call: no byte of the alphabet.
 const BEFORE: u8 = 255;
 
-// What is written, in n bytes.
+// The n bytes that are written. No answer has more than the room, and if one had, all would be shown.
 fn spelling(out: &Out, n: usize) -> &[u8] {
     let whole = &out[..];
     if MOST_ROOM < n {
@@ -268,7 +268,7 @@ fn fit(word: &[u8], content: &[u8]) {
     }
 }
 
-// The strip held, of n bytes.
+// The n bytes of the strip held. It has no more than a line, so none is left out.
 fn strip_held(plan: &Line, n: usize) -> &[u8] {
     let whole = &plan[..];
     if MOST_LINE < n {
@@ -289,7 +289,7 @@ fn tell<'a>(letter: u8, word: &[u8], msg: &'a [u8], held: Strip, strip: &'a [u8]
     }
 }
 
-// Puts a strip into `plan`, which has room for every line's, and gives how many bytes it has.
+// Puts a strip into `plan`, and gives how many bytes it has. There is room for every line's; one with more would not be held.
 fn keep(strip: &[u8], plan: &mut Line) -> usize {
     if MOST_LINE < strip.len() {
         return 0;
