@@ -1,6 +1,6 @@
 -- What the tests on a line come to: one law for each way out. Assumes nothing.
 use Prim.Native.Nat.{ℕ, suc, _+_, _-_, _≤_, _<_}
-use mathlib.Core.Path.{_≡_, sym, ap, subst, _∙_}
+use mathlib.Core.Path.{_≡_, sym, ap, _∙_}
 use mathlib.Core.Bool.{Bool, true, false}
 use mathlib.Core.List.{List}
 use native.Mathlib.Omega.{arith}
@@ -11,14 +11,9 @@ use Rattle.alphabet.specs.Text.{bytes}
 use Rattle.alphabet.specs.Alphabet.{digit}
 use Rattle.text.specs.Words.{Word, upTo, before, behind, holds, all, same}
 use Rattle.text.proofs.Index.{rest, drop-end}
-use Rattle.rooms.specs.Rooms.{Call}
-use Rattle.racks.specs.declared.Place.{Place}
-use Rattle.board.specs.declared.Turn.{Turn}
-use Rattle.board.specs.Turns.{Turned, filing, updating, clearing}
-use Rattle.calls.specs.declared.Call.{Call as Asked}
 use Rattle.calls.specs.declared.Ask.the-variants.{Calls, Look, List as Lists, NoCall}
 use Rattle.calls.specs.declared.Call.the-variants.{File, Update, Clear}
-use Rattle.calls.specs.Lines.{isNumber, numberIn, placeAs, slotAs, verbAs, asked, callOf}
+use Rattle.calls.specs.Lines.{isNumber, numberIn, placeAs, slotAs, verbAs, asked}
 
 -- NUMBERS
 
@@ -131,20 +126,3 @@ pub with-firm : (line w r : List ℕ) (n : ℕ) → w ≡ before 32 line → isN
 with-firm line w r n q e k p =
     let z : isNumber (before 32 line) ≡ true = sym (ap isNumber q) ∙ e in
     rw z (ap (λ (x : ℕ). verbAs x (length line) r) (k ∙ ap numberIn q) ∙ ap (verbAs (numberIn (before 32 line)) (length line)) p)
-
--- THE CALL ON THE BOARD
-
-module _ (ps : List Place) (lent : List ℕ) (t : Turn) (left : List ℕ) (call : Asked) (line : List ℕ) where
-  as-call : {c : Call (List ℕ)} → c ≡ callOf call line → Turned c ps lent t left → Turned (callOf call line) ps lent t left
-  as-call e k = subst (λ (x : Call (List ℕ)). Turned x ps lent t left) e k
-
-  pub filed : (firm from : ℕ) (m : List ℕ) → call ≡ File firm from → m ≡ drop from line → Turned (filing firm m) ps lent t left
-      → Turned (callOf call line) ps lent t left
-  filed firm from m e q k = as-call (ap (filing firm) q ∙ sym (ap (λ (x : Asked). callOf x line) e)) k
-
-  pub updated : (firm slot from : ℕ) (m : List ℕ) → call ≡ Update firm slot from → m ≡ drop from line → Turned (updating firm slot m) ps lent t left
-      → Turned (callOf call line) ps lent t left
-  updated firm slot from m e q k = as-call (ap (updating firm slot) q ∙ sym (ap (λ (x : Asked). callOf x line) e)) k
-
-  pub cleared : (firm slot : ℕ) → call ≡ Clear firm slot → Turned (clearing firm slot) ps lent t left → Turned (callOf call line) ps lent t left
-  cleared firm slot e k = as-call (sym (ap (λ (x : Asked). callOf x line) e)) k

@@ -1,16 +1,13 @@
--- The lines of the program `handlers` as calls on the board (crate board). Assumes nothing.
+-- The lines of the program `handlers` as calls. Assumes nothing.
 use Prim.Native.Nat.{ℕ, _-_}
 use mathlib.Core.Path.{_≡_, refl}
 use mathlib.Core.Bool.{Bool, _&&_, not, cond}
 use mathlib.Core.List.{List, []}
 use lib.Dec.{eqb, ltb}
-use lib.ListN.{length, drop, getD}
+use lib.ListN.{length, getD}
 use Rattle.alphabet.specs.Text.{bytes}
 use Rattle.alphabet.specs.Alphabet.{digit}
 use Rattle.text.specs.Words.{Word, before, behind, holds, all, same}
-use Rattle.rooms.specs.Rooms.{Call}
-use Rattle.board.specs.Turns.{filing, updating, clearing}
-use Rattle.calls.specs.declared.Call.{Call as Asked}
 use Rattle.calls.specs.declared.Call.the-variants.{File, Update, Clear}
 use Rattle.calls.specs.declared.Ask.{Ask}
 use Rattle.calls.specs.declared.Ask.the-variants.{Calls, Look, List as Lists, NoCall}
@@ -46,20 +43,11 @@ verbAs firm long s =
 abbrev pub asked : List ℕ → Ask
 asked line = cond (isNumber (before 32 line)) (verbAs (numberIn (before 32 line)) (length line) (behind 32 line)) NoCall
 
--- THE CALL ON THE BOARD
-abbrev pub callOf : Asked → List ℕ → Call (List ℕ)
-callOf (File firm from) line = filing firm (drop from line)
-callOf (Update firm slot from) line = updating firm slot (drop from line)
-callOf (Clear firm slot) line = clearing firm slot
-
 -- EXAMPLES, computed
 
 as-calls : (asked (bytes "1 FILE (FPL-A B)") ≡ Calls (File 1 7)) × (asked (bytes "2 UPDATE 3 (CHG)") ≡ Calls (Update 2 3 11))
     × (asked (bytes "1 CLEAR 0") ≡ Calls (Clear 1 0)) × (asked (bytes "2 LOOK 9") ≡ Look 2 9) × (asked (bytes "1 LIST") ≡ Lists 1)
 as-calls = (refl, refl, refl, refl, refl)
-
-message-there : callOf (File 1 7) (bytes "1 FILE (FPL-A B)") ≡ filing 1 (bytes "(FPL-A B)")
-message-there = refl
 
 -- numbers that are no firm and no slot; a message that is empty
 strangers : (asked (bytes "3 LIST") ≡ Lists 3) × (asked (bytes "01 LIST") ≡ Lists 10) × (asked (bytes "1 CLEAR 10") ≡ Calls (Clear 1 10))

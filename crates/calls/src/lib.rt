@@ -1,12 +1,9 @@
-// The lines of the program `handlers` as calls on the board: a firm, what it asks for, a slot; one space between. A message is the rest of its line.
+// The lines of the program `handlers` as calls: a firm, what it asks for, a slot; one space between. A message is the rest of its line.
 ghost use mathlib.Core.Path.{_≡_};
 ghost use Prim.Native.Nat.{_-_};
 ghost use lib.ListN.{drop, length};
 ghost use Rattle.text.specs.Words.{before, behind, holds};
-ghost use Rattle.board.specs.Turns.{Turned};
-ghost use Rattle.calls.specs.Lines.{isNumber, numberIn, placeAs, slotAs, verbAs, asked, callOf};
-use board::Turn;
-use racks::Board;
+ghost use Rattle.calls.specs.Lines.{isNumber, numberIn, placeAs, slotAs, verbAs, asked};
 
 // A call on the board. A message is the line from a place on.
 pub enum Call {
@@ -158,17 +155,4 @@ pub fn message_of<'a>(line: &'a [u8], from: usize) -> &'a [u8]
         return &line[line.len()..];
     }
     &line[from..]
-}
-
-// Makes a call on the board.
-pub fn play(board: Board, call: Call, line: &[u8], bytes: &mut [u8; 36000]) -> Turn
-    ensures { λ r. ⌜ Turned (callOf call (now (line .entry))) (board .places) (now (bytes .entry)) r (now (bytes .exit)) ⌝ }
-{
-    match call {
-        Call::File { firm, from } => board::file(board, firm, message_of(line, from), bytes),
-        Call::Update { firm, slot, from } => {
-            board::update(board, firm, slot, message_of(line, from), bytes)
-        }
-        Call::Clear { firm, slot } => board::clear(board, firm, slot),
-    }
 }

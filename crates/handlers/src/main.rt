@@ -2,18 +2,45 @@
 // `1 LOOK 0`, `1 LIST`. With an argument, the accepted calls are kept in the file that it names, and are played again at the start; without one the board
 // is empty at the start, and gone when the program ends.
 ghost use mathlib.Core.Path.{_≡_};
+ghost use mathlib.Core.Bool.{true, false};
 ghost use Prim.Native.Nat.{_≤_};
 ghost use lib.ListN.{length};
-ghost use Rattle.io.specs.Counts.{Counts};
 ghost use Rattle.racks.specs.Places.{Sized};
-ghost use Rattle.journal.specs.Walk.{waitsIn, Makes, Takes, Ends, Seated, Feeds, ServesOn};
+ghost use Rattle.board.specs.Turns.{Turned};
+ghost use Rattle.journal.specs.Lines.{waitsIn};
+ghost use Rattle.handlers.specs.Walk.{acceptedAs, callOf, Makes, Takes, Ends, TakesAgain, EndsAgain, PlaysAgain, Serves};
+use board::Turn;
+use board::Verdict;
 use calls::Ask;
 use calls::Call;
 use journal::Journal;
-use journal::Sitting;
+use journal::Reader;
 use journal::Waiting;
-use libc::STDIN_FILENO;
 use racks::Board;
+
+fn is_accepted(v: Verdict) -> bool
+    ensures { λ r. ⌜ r ≡ acceptedAs v ⌝ }
+{
+    match v {
+        Verdict::Filed(_) => true,
+        Verdict::Updated(_, _) => true,
+        Verdict::Cleared => true,
+        Verdict::Refused { .. } => false,
+    }
+}
+
+// A call on the board.
+fn play(board: Board, call: Call, line: &[u8], bytes: &mut [u8; 36000]) -> Turn
+    ensures { λ r. ⌜ Turned (callOf call (now (line .entry))) (board .places) (now (bytes .entry)) r (now (bytes .exit)) ⌝ }
+{
+    match call {
+        Call::File { firm, from } => board::file(board, firm, calls::message_of(line, from), bytes),
+        Call::Update { firm, slot, from } => {
+            board::update(board, firm, slot, calls::message_of(line, from), bytes)
+        }
+        Call::Clear { firm, slot } => board::clear(board, firm, slot),
+    }
+}
 
 // Makes a call, on a copy of the strips: the board stays as it was where the call is accepted and cannot be kept.
 fn make(board: Board, journal: Journal, call: Call, line: &[u8], bytes: &mut [u8; 36000]) -> Board
@@ -21,10 +48,10 @@ fn make(board: Board, journal: Journal, call: Call, line: &[u8], bytes: &mut [u8
     ensures { λ r. ⌜ Makes journal call (now (line .entry)) (board .places) (now (bytes .entry)) (r .places) (now (bytes .exit)) ⌝ }
 {
     let mut trial = *bytes;
-    let t = calls::play(board, call, line, &mut trial);
+    let t = play(board, call, line, &mut trial);
     let b = t.board;
     let v = t.verdict;
-    if journal::is_accepted(v) {
+    if is_accepted(v) {
         if !journal::keep(journal, line) {
             say::print(b"NOT KEPT\n");
             return board;
@@ -74,137 +101,137 @@ fn end_line(
     take(board, journal, &line[..w.n], bytes)
 }
 
-// The bytes that one read of standard input gave, each in its turn.
-fn feed(
-    s: Sitting,
-    journal: Journal,
-    chunk: &[u8],
-    line: &mut [u8],
-    bytes: &mut [u8; 36000],
-) -> Sitting
-    requires { ⌜ Seated (s .waiting) (now line) (s .board .places) (now bytes) ⌝ }
-    ensures { λ r. ⌜ Feeds journal (now (chunk .entry)) s (now (line .entry)) (now (bytes .entry)) r (now (line .exit)) (now (bytes .exit)) ⌝ }
-{
-    let mut board = s.board;
-    let mut w = s.waiting;
-    let mut i = 0;
-    while i < chunk.len() {
-        let b = chunk[i];
-        i += 1;
-        if b == b'\n' {
-            board = end_line(board, journal, w, line, bytes);
-            w = Waiting { n: 0, over: false };
-        } else {
-            w = journal::push(w, b, line);
-        }
-    }
-    Sitting {
-        board,
-        waiting: w,
-        going: true,
-    }
-}
-
-// Reads standard input once, and gives the count: 0 where it has ended. A read that fails looks like the end, and is said.
-fn read_some(chunk: &mut [u8]) -> usize
-    ensures { λ r. ⌜ Counts r (now (chunk .exit)) ⌝ }
-{
-    let got = libc::read(STDIN_FILENO, chunk);
-    if got < 0 {
-        say::complain(b"beechdoublet: standard input cannot be read\n");
-    }
-    io::count(got, chunk)
-}
-
-// Reads once and takes what came.
-fn serve_some(s: Sitting, journal: Journal, line: &mut [u8], bytes: &mut [u8; 36000]) -> Sitting
-    requires { ⌜ Seated (s .waiting) (now line) (s .board .places) (now bytes) ⌝ }
-    ensures { λ r. ⌜ ServesOn journal s (now (line .entry)) (now (bytes .entry)) r (now (line .exit)) (now (bytes .exit)) ⌝ }
+// Takes standard input to its end. A loop has to end, so the lines are counted down, from a number that no run uses up.
+fn serve(board: Board, journal: Journal, bytes: &mut [u8; 36000]) -> Board
+    requires { ⌜ Sized (board .places) (now bytes) ⌝ }
+    ensures { λ r. ⌜ Serves journal (board .places) (now (bytes .entry)) (r .places) (now (bytes .exit)) ⌝ }
 {
     let mut chunk = [0u8; 4096];
-    let n = read_some(&mut chunk);
-    if n == 0 {
-        let board = s.board;
-        let waiting = s.waiting;
-        return Sitting {
-            board,
-            waiting,
-            going: false,
-        };
-    }
-    feed(s, journal, &chunk[..n], line, bytes)
-}
-
-// Takes standard input to its end; what has not ended then waits. A loop has to end, so the reads are counted down, from a number that no run uses up.
-fn serve_all(s: Sitting, journal: Journal, line: &mut [u8], bytes: &mut [u8; 36000]) -> Sitting
-    requires { ⌜ Seated (s .waiting) (now line) (s .board .places) (now bytes) ⌝ }
-    ensures { λ r. ⌜ ServesOn journal s (now (line .entry)) (now (bytes .entry)) r (now (line .exit)) (now (bytes .exit)) ⌝ }
-{
-    let mut at = s;
+    let mut line = [0u8; 4096];
+    let mut now = board;
+    let mut reader = Reader { at: 0, got: 0 };
     let mut turns = u64::MAX;
-    while turns > 0 && at.going {
-        at = serve_some(at, journal, line, bytes);
+    while turns > 0 {
         turns -= 1;
+        let t = journal::next_of_input(reader, &mut chunk, &mut line);
+        if !t.ended {
+            return now;
+        }
+        reader = t.reader;
+        let w = t.waiting;
+        now = end_line(now, journal, w, &line, bytes);
     }
-    at
+    now
 }
 
-// Whether something of a line waits.
-fn has_begun(w: Waiting) -> bool {
-    if w.over {
-        return true;
-    }
-    w.n != 0
+// THE JOURNAL, PLAYED AGAIN
+
+// The board after lines of the journal, how many bytes have come of one more, and whether every line is a call that is accepted.
+pub struct Played {
+    pub board: Board,
+    pub torn: usize,
+    pub going: bool,
 }
 
-// Takes standard input. Its last line needs no end.
-fn serve(board: Board, journal: Journal, line: &mut [u8], bytes: &mut [u8; 36000])
-    requires { ⌜ (length (now line) ≡ 4096) × Sized (board .places) (now bytes) ⌝ }
+// A line of the journal: the board after it, and whether it is a call that is accepted.
+fn replay_line(board: Board, line: &[u8], bytes: &mut [u8; 36000]) -> Played
+    requires { ⌜ Sized (board .places) (now bytes) ⌝ }
+    ensures { λ r. ⌜ TakesAgain (now (line .entry)) (board .places) (now (bytes .entry)) r (now (bytes .exit)) ⌝ }
 {
-    let s = Sitting {
-        board,
-        waiting: Waiting { n: 0, over: false },
-        going: true,
-    };
-    let r = serve_all(s, journal, line, bytes);
-    let w = r.waiting;
-    if has_begun(w) {
-        let last = r.board;
-        end_line(last, journal, w, line, bytes);
+    match calls::ask_in(line) {
+        Ask::Calls(call) => {
+            let t = play(board, call, line, bytes);
+            let b = t.board;
+            let v = t.verdict;
+            Played {
+                board: b,
+                torn: 0,
+                going: is_accepted(v),
+            }
+        }
+        Ask::Look { .. } => stuck(board),
+        Ask::List(_) => stuck(board),
+        Ask::NoCall => stuck(board),
     }
+}
+
+// The board as it was, and not to go on.
+fn stuck(board: Board) -> Played
+    ensures { λ r. ⌜ r ≡ record { board = board; torn = 0; going = false } ⌝ }
+{
+    Played {
+        board,
+        torn: 0,
+        going: false,
+    }
+}
+
+// A line of the journal has ended.
+fn replay_end(board: Board, w: Waiting, line: &[u8], bytes: &mut [u8; 36000]) -> Played
+    requires { ⌜ (w .n ≤ length (now line)) × Sized (board .places) (now bytes) ⌝ }
+    ensures { λ r. ⌜ EndsAgain (waitsIn w (now (line .entry))) (board .places) (now (bytes .entry)) r (now (bytes .exit)) ⌝ }
+{
+    if w.over {
+        return stuck(board);
+    }
+    replay_line(board, &line[..w.n], bytes)
+}
+
+// Plays the journal from the empty board to its end. What cannot be played again is said.
+fn replay_all(fd: i32, bytes: &mut [u8; 36000]) -> Played
+    requires { ⌜ length (now bytes) ≡ 36000 ⌝ }
+    ensures { λ r. ⌜ PlaysAgain r (now (bytes .exit)) ⌝ }
+{
+    let mut chunk = [0u8; 4096];
+    let mut line = [0u8; 4096];
+    let mut now = racks::empty();
+    let mut reader = Reader { at: 0, got: 0 };
+    let mut turns = u64::MAX;
+    while turns > 0 {
+        turns -= 1;
+        let t = journal::next_of_journal(fd, reader, &mut chunk, &mut line);
+        let w = t.waiting;
+        if !t.ended {
+            return Played {
+                board: now,
+                torn: w.n,
+                going: !t.failed,
+            };
+        }
+        reader = t.reader;
+        let r = replay_end(now, w, &line, bytes);
+        now = r.board;
+        if !r.going {
+            journal::complain_of_line();
+            return stuck(now);
+        }
+    }
+    stuck(now)
 }
 
 // Plays the journal, then takes standard input.
-fn start(path: &[u8], line: &mut [u8], bytes: &mut [u8; 36000])
-    requires { ⌜ (length (now line) ≡ 4096) × (length (now bytes) ≡ 36000) ⌝ }
+fn start(fd: i32, bytes: &mut [u8; 36000])
+    requires { ⌜ length (now bytes) ≡ 36000 ⌝ }
 {
-    let fd = journal::open(path);
-    if fd < 0 {
+    let s = replay_all(fd, bytes);
+    if !s.going {
         return;
     }
-    let s = journal::replay_all(fd, line, bytes);
-    let w = s.waiting;
-    if w.over {
-        return;
-    }
-    if journal::drop_torn(fd, w.n) {
+    if journal::drop_torn(fd, s.torn) {
         let board = s.board;
-        serve(board, Journal::At(fd), line, bytes);
+        serve(board, Journal::At(fd), bytes);
     }
 }
 
 fn main() {
     let mut bytes = [0u8; 36000];
-    let mut line = [0u8; 4096];
     if os::arg_count() < 2 {
-        serve(racks::empty(), Journal::Nowhere, &mut line, &mut bytes);
+        serve(racks::empty(), Journal::Nowhere, &mut bytes);
         return;
     }
-    let mut path = io::buffer();
-    let n = os::arg(1, &mut path);
-    if os::errno() != 0 {
-        say::complain(b"beechdoublet: the name of the journal cannot be read\n");
+    let fd = journal::open_named();
+    if fd < 0 {
         return;
     }
-    start(&path[..n], &mut line, &mut bytes);
+    start(fd, &mut bytes);
 }

@@ -1,14 +1,12 @@
-// The journal of the program `handlers`: a file with a line for each call that was accepted. Lines are kept in it, and played again from the empty board.
+// Lines of the program `handlers`, read from standard input or from its journal, and the journal: a file with a line for each call that was accepted.
 ghost use mathlib.Core.Path.{_≡_};
 ghost use mathlib.Core.Bool.{true, false};
+ghost use mathlib.Core.List.{[]};
 ghost use Prim.Native.Nat.{_≤_};
 ghost use lib.ListN.{length};
-ghost use Rattle.racks.specs.Places.{Sized};
-ghost use Rattle.journal.specs.Walk.{Answers, acceptedAs, pushed, waitsIn, Seated, TakesAgain, EndsAgain, Replays, ReadsOn, PlaysAgain};
-use board::Verdict;
-use calls::Ask;
+ghost use Rattle.journal.specs.Lines.{Answers, fresh, pushed, waitsIn, leftIn, Lies, Scans, ReadsOn};
 use libc::STDERR_FILENO;
-use racks::Board;
+use libc::STDIN_FILENO;
 
 // The most bytes of a line, its end not counted.
 const MOST_LINE: usize = 4096;
@@ -19,32 +17,31 @@ pub enum Journal {
     At(i32),
 }
 
-// A line that has not ended: how many bytes of it are in the buffer; or that it is too long.
+// A line as far as it has come: how many bytes of it are in the buffer; or that it is too long.
 pub struct Waiting {
     pub n: usize,
     pub over: bool,
 }
 
-// The board, with the line that has not ended, and whether to go on.
-pub struct Sitting {
-    pub board: Board,
-    pub waiting: Waiting,
-    pub going: bool,
+// What was read and is left: the bytes from one place of the buffer to another.
+pub struct Reader {
+    pub at: usize,
+    pub got: usize,
 }
 
-pub fn is_accepted(v: Verdict) -> bool
-    ensures { λ r. ⌜ r ≡ acceptedAs v ⌝ }
-{
-    match v {
-        Verdict::Filed(_) => true,
-        Verdict::Updated(_, _) => true,
-        Verdict::Cleared => true,
-        Verdict::Refused { .. } => false,
-    }
+// A line that was read, and what is left behind it: whether it has ended, whether to read on, and whether the rest of it cannot be had.
+pub struct Taken {
+    pub reader: Reader,
+    pub waiting: Waiting,
+    pub ended: bool,
+    pub going: bool,
+    pub failed: bool,
 }
+
+// READING A LINE
 
 // A further byte of a line that has not ended.
-pub fn push(w: Waiting, b: u8, line: &mut [u8]) -> Waiting
+fn push(w: Waiting, b: u8, line: &mut [u8]) -> Waiting
     requires { ⌜ (w .n ≤ 4096) × (length (now line) ≡ 4096) ⌝ }
     ensures { λ r. ⌜ (waitsIn r (now (line .exit)) ≡ pushed (waitsIn w (now (line .entry))) b) × (r .n ≤ 4096) ⌝ }
 {
@@ -60,6 +57,154 @@ pub fn push(w: Waiting, b: u8, line: &mut [u8]) -> Waiting
         n: n + 1,
         over: false,
     }
+}
+
+// Takes what is left up to the end of a line; or all of it, and the line goes on.
+fn scan(reader: Reader, w: Waiting, chunk: &[u8], line: &mut [u8]) -> Taken
+    requires { ⌜ Lies reader w (now chunk) (now line) ⌝ }
+    ensures { λ r. ⌜ Scans reader w (now (chunk .entry)) (now (line .entry)) r (now (line .exit)) ⌝ }
+{
+    let got = reader.got;
+    let mut at = reader.at;
+    let mut v = w;
+    while at < got {
+        let b = chunk[at];
+        at += 1;
+        if b == b'\n' {
+            return Taken {
+                reader: Reader { at, got },
+                waiting: v,
+                ended: true,
+                going: false,
+                failed: false,
+            };
+        }
+        v = push(v, b, line);
+    }
+    Taken {
+        reader: Reader { at, got },
+        waiting: v,
+        ended: false,
+        going: true,
+        failed: false,
+    }
+}
+
+// No more of a line that has not ended.
+fn stopped(w: Waiting, failed: bool) -> Taken
+    ensures { λ r. ⌜ r ≡ record { reader = record { at = 0; got = 0 }; waiting = w; ended = false; going = false; failed = failed } ⌝ }
+{
+    Taken {
+        reader: Reader { at: 0, got: 0 },
+        waiting: w,
+        ended: false,
+        going: false,
+        failed,
+    }
+}
+
+// Reads once more for a line that has not ended; but not for one that is too long, unless that is asked for.
+fn read_on(fd: i32, long: bool, w: Waiting, chunk: &mut [u8], line: &mut [u8]) -> Taken
+    requires { ⌜ (w .n ≤ 4096) × (length (now chunk) ≡ 4096) × (length (now line) ≡ 4096) ⌝ }
+    ensures { λ r. ⌜ ReadsOn (waitsIn w (now (line .entry))) [] r (now (chunk .exit)) (now (line .exit)) ⌝ }
+{
+    if w.over {
+        if !long {
+            return stopped(w, true);
+        }
+    }
+    let got = libc::read(fd, chunk);
+    if got < 0 {
+        return stopped(w, true);
+    }
+    let n = io::count(got, chunk);
+    if n == 0 {
+        return stopped(w, false);
+    }
+    scan(Reader { at: 0, got: n }, w, chunk, line)
+}
+
+// The next line, from what is left of the last read and from further reads. A loop has to end, so these are counted down, from a number that none uses up.
+fn next_line(fd: i32, long: bool, reader: Reader, chunk: &mut [u8], line: &mut [u8]) -> Taken
+    requires { ⌜ Lies reader (record { n = 0; over = false }) (now chunk) (now line) ⌝ }
+    ensures { λ r. ⌜ ReadsOn fresh (leftIn reader (now (chunk .entry))) r (now (chunk .exit)) (now (line .exit)) ⌝ }
+{
+    let mut t = scan(reader, Waiting { n: 0, over: false }, chunk, line);
+    let mut turns = u64::MAX;
+    while turns > 0 && t.going {
+        let w = t.waiting;
+        t = read_on(fd, long, w, chunk, line);
+        turns -= 1;
+    }
+    t
+}
+
+// Whether something of a line has come.
+fn has_begun(w: Waiting) -> bool {
+    if w.over {
+        return true;
+    }
+    w.n != 0
+}
+
+// The next line of standard input; its last one needs no end. A read that fails looks like the end, and is said.
+pub fn next_of_input(reader: Reader, chunk: &mut [u8; 4096], line: &mut [u8; 4096]) -> Taken
+    requires { ⌜ (reader .at ≤ reader .got) × (reader .got ≤ 4096) ⌝ }
+    ensures { λ r. ⌜ ReadsOn fresh (leftIn reader (now (chunk .entry))) r (now (chunk .exit)) (now (line .exit)) ⌝ }
+{
+    let t = next_line(STDIN_FILENO, true, reader, chunk, line);
+    if t.failed {
+        say::complain(b"beechdoublet: standard input cannot be read\n");
+    }
+    let w = t.waiting;
+    let ended = t.ended;
+    if ended {
+        return t;
+    }
+    if has_begun(w) {
+        return Taken {
+            reader: Reader { at: 0, got: 0 },
+            waiting: w,
+            ended: true,
+            going: false,
+            failed: false,
+        };
+    }
+    t
+}
+
+// Says that a line of the journal cannot be played again.
+pub fn complain_of_line() {
+    say::complain(
+        b"beechdoublet: a line of the journal is no call that is accepted; the journal is left as it is\n",
+    );
+}
+
+// Says why the next line of the journal cannot be had: it is too long, or a read failed.
+fn complain_of(w: Waiting) {
+    if w.over {
+        complain_of_line();
+        return;
+    }
+    say::complain(b"beechdoublet: the journal cannot be read\n");
+}
+
+// The next line of the journal. One that is too long is not read on, and a read that fails is said.
+pub fn next_of_journal(
+    fd: i32,
+    reader: Reader,
+    chunk: &mut [u8; 4096],
+    line: &mut [u8; 4096],
+) -> Taken
+    requires { ⌜ (reader .at ≤ reader .got) × (reader .got ≤ 4096) ⌝ }
+    ensures { λ r. ⌜ ReadsOn fresh (leftIn reader (now (chunk .entry))) r (now (chunk .exit)) (now (line .exit)) ⌝ }
+{
+    let t = next_line(fd, false, reader, chunk, line);
+    if t.failed {
+        let w = t.waiting;
+        complain_of(w);
+    }
+    t
 }
 
 // KEEPING A LINE
@@ -100,145 +245,6 @@ pub fn keep(journal: Journal, line: &[u8]) -> bool
     }
 }
 
-// PLAYING IT AGAIN
-
-// A line of the journal: the board after it, and whether it is a call that is accepted.
-fn replay_line(board: Board, line: &[u8], bytes: &mut [u8; 36000]) -> Sitting
-    requires { ⌜ Sized (board .places) (now bytes) ⌝ }
-    ensures { λ r. ⌜ TakesAgain (now (line .entry)) (board .places) (now (bytes .entry)) r (now (bytes .exit)) ⌝ }
-{
-    match calls::ask_in(line) {
-        Ask::Calls(call) => {
-            let t = calls::play(board, call, line, bytes);
-            let b = t.board;
-            let v = t.verdict;
-            Sitting {
-                board: b,
-                waiting: Waiting { n: 0, over: false },
-                going: is_accepted(v),
-            }
-        }
-        Ask::Look { .. } => stuck(board),
-        Ask::List(_) => stuck(board),
-        Ask::NoCall => stuck(board),
-    }
-}
-
-// The board as it was, and not to go on.
-fn stuck(board: Board) -> Sitting
-    ensures { λ r. ⌜ r ≡ record { board = board; waiting = record { n = 0; over = true }; going = false } ⌝ }
-{
-    Sitting {
-        board,
-        waiting: Waiting { n: 0, over: true },
-        going: false,
-    }
-}
-
-// A line of the journal has ended.
-fn replay_end(board: Board, w: Waiting, line: &[u8], bytes: &mut [u8; 36000]) -> Sitting
-    requires { ⌜ (w .n ≤ length (now line)) × Sized (board .places) (now bytes) ⌝ }
-    ensures { λ r. ⌜ EndsAgain (waitsIn w (now (line .entry))) (board .places) (now (bytes .entry)) r (now (bytes .exit)) ⌝ }
-{
-    if w.over {
-        return stuck(board);
-    }
-    replay_line(board, &line[..w.n], bytes)
-}
-
-// Says that a line cannot be played again, and stops.
-fn refused(board: Board) -> Sitting
-    ensures { λ r. ⌜ r ≡ record { board = board; waiting = record { n = 0; over = true }; going = false } ⌝ }
-{
-    say::complain(
-        b"beechdoublet: a line of the journal is no call that is accepted; the journal is left as it is\n",
-    );
-    stuck(board)
-}
-
-// The bytes that one read of the journal gave. It stops at a line that is no call that is accepted, and in one that is too long.
-fn replay(s: Sitting, chunk: &[u8], line: &mut [u8], bytes: &mut [u8; 36000]) -> Sitting
-    requires { ⌜ Seated (s .waiting) (now line) (s .board .places) (now bytes) × (s .waiting .over ≡ false) ⌝ }
-    ensures { λ r. ⌜ Replays (now (chunk .entry)) s (now (line .entry)) (now (bytes .entry)) r (now (line .exit)) (now (bytes .exit)) ⌝ }
-{
-    let mut board = s.board;
-    let mut w = s.waiting;
-    let mut i = 0;
-    while i < chunk.len() {
-        let b = chunk[i];
-        i += 1;
-        if b == b'\n' {
-            let r = replay_end(board, w, line, bytes);
-            board = r.board;
-            if !r.going {
-                return refused(board);
-            }
-            w = Waiting { n: 0, over: false };
-        } else {
-            w = push(w, b, line);
-            if w.over {
-                return refused(board);
-            }
-        }
-    }
-    Sitting {
-        board,
-        waiting: w,
-        going: true,
-    }
-}
-
-// Says that the journal cannot be read, and stops.
-fn unread(board: Board) -> Sitting
-    ensures { λ r. ⌜ r ≡ record { board = board; waiting = record { n = 0; over = true }; going = false } ⌝ }
-{
-    say::complain(b"beechdoublet: the journal cannot be read\n");
-    stuck(board)
-}
-
-// Reads the journal once and plays what came. A line that is too long stands for whatever cannot be played again.
-fn replay_some(fd: i32, s: Sitting, line: &mut [u8], bytes: &mut [u8; 36000]) -> Sitting
-    requires { ⌜ Seated (s .waiting) (now line) (s .board .places) (now bytes) × (s .waiting .over ≡ false) ⌝ }
-    ensures { λ r. ⌜ ReadsOn s (now (line .entry)) (now (bytes .entry)) r (now (line .exit)) (now (bytes .exit)) ⌝ }
-{
-    let mut chunk = [0u8; 4096];
-    let got = libc::read(fd, &mut chunk);
-    let board = s.board;
-    if got < 0 {
-        return unread(board);
-    }
-    let n = io::count(got, &chunk);
-    if n == 0 {
-        let waiting = s.waiting;
-        return Sitting {
-            board,
-            waiting,
-            going: false,
-        };
-    }
-    replay(s, &chunk[..n], line, bytes)
-}
-
-// Plays the journal from the empty board to its end. A loop has to end, so the reads are counted down, from a number that no file uses up. What waits at
-// the end is a last line without its end; one that is too long stands for whatever cannot be played again, which was said.
-pub fn replay_all(fd: i32, line: &mut [u8], bytes: &mut [u8; 36000]) -> Sitting
-    requires { ⌜ (length (now line) ≡ 4096) × (length (now bytes) ≡ 36000) ⌝ }
-    ensures { λ r. ⌜ PlaysAgain r (now (line .exit)) (now (bytes .exit)) ⌝ }
-{
-    let board = racks::empty();
-    let mut s = Sitting {
-        board,
-        waiting: Waiting { n: 0, over: false },
-        going: true,
-    };
-    let mut turns = u64::MAX;
-    while turns > 0 && s.going {
-        s = replay_some(fd, s, line, bytes);
-        turns -= 1;
-    }
-    s
-}
-
 // THE FILE
 
 // Opens the journal, and makes it where it is missing.
@@ -255,13 +261,24 @@ fn open_or_make(path: &[u8]) -> i32 {
     os::open_update(path)
 }
 
-// The journal's number, under which it is read and kept. It is negative where the journal cannot be opened, which is said.
-pub fn open(path: &[u8]) -> i32 {
+// The number under which a journal is read and kept. It is negative where the journal cannot be opened, which is said.
+fn open_at(path: &[u8]) -> i32 {
     let fd = open_or_make(path);
     if fd < 0 {
         say::complain(b"beechdoublet: the journal cannot be opened\n");
     }
     fd
+}
+
+// The same of the journal that the program's argument names.
+pub fn open_named() -> i32 {
+    let mut path = io::buffer();
+    let n = os::arg(1, &mut path);
+    if os::errno() != 0 {
+        say::complain(b"beechdoublet: the name of the journal cannot be read\n");
+        return -1;
+    }
+    open_at(&path[..n])
 }
 
 // Goes back n bytes in a file.

@@ -1,7 +1,7 @@
 -- `handlers::end_line` meets its contract. Assumes nothing.
 use mathlib.Core.Path.{sym}
 use lib.Seq.{length-take-le}
-use Rattle.journal.proofs.Walk.{ends-long, ends-taken}
+use Rattle.handlers.proofs.Walk.{ends-long, ends-taken}
 use borrow.Author.Needs.{needs}
 use Rattle.handlers.proofs.end_line.Statement.{statement}
 use Rattle.handlers.proofs.end_line.Tie as tie

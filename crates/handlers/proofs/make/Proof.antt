@@ -1,6 +1,6 @@
 -- `handlers::make` meets its contract. Assumes nothing.
 use borrow.Author.Tests.{not-true}
-use Rattle.journal.proofs.Walk.{lost-journal, makes, makes-not}
+use Rattle.handlers.proofs.Walk.{lost-journal, makes, makes-not}
 use borrow.Author.Needs.{needs}
 use Rattle.handlers.proofs.make.Statement.{statement}
 use Rattle.handlers.proofs.make.Tie as tie

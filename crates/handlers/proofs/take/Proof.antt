@@ -1,6 +1,6 @@
 -- `handlers::take` meets its contract. Assumes nothing.
 use mathlib.Core.Path.{refl}
-use Rattle.journal.proofs.Walk.{takes-call, takes-other}
+use Rattle.handlers.proofs.Walk.{takes-call, takes-other}
 use borrow.Author.Needs.{needs}
 use Rattle.handlers.proofs.take.Statement.{statement}
 use Rattle.handlers.proofs.take.Tie as tie

@@ -1,7 +1,8 @@
 -- `journal::keep` meets its contract. Assumes nothing.
-use mathlib.Core.Path.{ap}
-use Rattle.journal.specs.Walk.{keeps}
-use Rattle.journal.proofs.Walk.{answers-nowhere, answers-file}
+use mathlib.Core.Path.{sym, subst}
+use Rattle.journal.specs.declared.Journal.{Journal}
+use Rattle.journal.specs.Lines.{Answers}
+use Rattle.journal.proofs.Lines.{answers-nowhere}
 use borrow.Author.Needs.{needs}
 use Rattle.journal.proofs.keep.Statement.{statement}
 use Rattle.journal.proofs.keep.Tie as tie
@@ -21,7 +22,7 @@ returns c = answers-nowhere _ (c .enum-told .given .1)
 returns-2 : tie.Need-returns-2
 returns-2 c =
     let m = c .before .before in
-    answers-file (m .before .before .before .args .journal) (c .keep-at .result) (ap keeps (m .journal .given .1))
+    subst (λ (j : Journal). Answers j (c .keep-at .result)) (sym (m .journal .given .1)) tt
 
 pub keep-spec : {M : Type 1} → statement M
 keep-spec = tie.close (tie.spec enum-told enum-known-journal keep-at-requires returns returns-2)

@@ -1,6 +1,6 @@
 -- `journal::push` meets its contract. Assumes nothing.
 use native.Mathlib.Omega.{arith}
-use Rattle.journal.proofs.Walk.{pushed-over, pushed-full, pushed-on}
+use Rattle.journal.proofs.Lines.{pushed-over, pushed-full, pushed-on}
 use borrow.Author.Needs.{needs}
 use Rattle.journal.proofs.push.Statement.{statement}
 use Rattle.journal.proofs.push.Tie as tie

@@ -1,10 +1,10 @@
--- `journal::replay_end` meets its contract. Assumes nothing.
+-- `handlers::replay_end` meets its contract. Assumes nothing.
 use mathlib.Core.Path.{sym}
 use lib.Seq.{length-take-le}
-use Rattle.journal.proofs.Walk.{ends-again, ends-stopped}
+use Rattle.handlers.proofs.Walk.{ends-again, ends-stopped}
 use borrow.Author.Needs.{needs}
-use Rattle.journal.proofs.replay_end.Statement.{statement}
-use Rattle.journal.proofs.replay_end.Tie as tie
+use Rattle.handlers.proofs.replay_end.Statement.{statement}
+use Rattle.handlers.proofs.replay_end.Tie as tie
 
 stuck-requires : tie.Need-stuck-requires
 stuck-requires c κs = search needs

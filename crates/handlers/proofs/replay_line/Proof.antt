@@ -1,10 +1,10 @@
--- `journal::replay_line` meets its contract. Assumes nothing.
+-- `handlers::replay_line` meets its contract. Assumes nothing.
 use mathlib.Core.Path.{refl}
 use Rattle.journal.specs.declared.Journal.the-variants.{Nowhere}
-use Rattle.journal.proofs.Walk.{makes, takes-call, goes-on, takes-stopped}
+use Rattle.handlers.proofs.Walk.{makes, takes-call, goes-on, takes-stopped}
 use borrow.Author.Needs.{needs}
-use Rattle.journal.proofs.replay_line.Statement.{statement}
-use Rattle.journal.proofs.replay_line.Tie as tie
+use Rattle.handlers.proofs.replay_line.Statement.{statement}
+use Rattle.handlers.proofs.replay_line.Tie as tie
 
 ask-in-requires : tie.Need-ask-in-requires
 ask-in-requires c κs = search needs

@@ -1,8 +1,8 @@
--- `calls::play` meets its contract. Assumes nothing.
-use Rattle.calls.proofs.Lines.{filed, updated, cleared}
+-- `handlers::play` meets its contract. Assumes nothing.
+use Rattle.handlers.proofs.Walk.{filed, updated, cleared}
 use borrow.Author.Needs.{needs}
-use Rattle.calls.proofs.play.Statement.{statement}
-use Rattle.calls.proofs.play.Tie as tie
+use Rattle.handlers.proofs.play.Statement.{statement}
+use Rattle.handlers.proofs.play.Tie as tie
 
 enum-known-call : tie.Need-enum-known-call
 enum-known-call c = search needs
