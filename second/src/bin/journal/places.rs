@@ -24,7 +24,9 @@ pub fn that_are_no_journal(directory: &Path) {
         (Path::new("/proc/self/mem"), NOT_READ),
         (Path::new("/dev/full"), NO_CALL),
     ];
-    for (place, why) in places {
+    // A system may be without the last two.
+    let places: Vec<_> = places.into_iter().filter(|(place, why)| *why == NOT_OPENED || place.exists()).collect();
+    for (place, why) in &places {
         refused(place, why);
     }
     assert!(

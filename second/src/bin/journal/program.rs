@@ -4,7 +4,8 @@ use std::ffi::OsStr;
 use std::io::{BufRead, BufReader, Read, Write};
 use std::path::Path;
 use std::process::{Child, ChildStderr, ChildStdin, ChildStdout, Command, Stdio};
-use std::thread;
+use std::sync::mpsc::{self, Sender};
+use std::thread::{self, ScopedJoinHandle};
 use std::time::Duration;
 
 /// How the program is started.
@@ -34,7 +35,7 @@ impl Program {
     /// The program under a limit of 1,024 bytes for a file; a write beyond it fails, or else ends the program.
     pub fn limited(&self, fails: bool) -> Self {
         let trap = if fails { "trap '' XFSZ; " } else { "" };
-        let script = format!("{trap}ulimit -c 0; ulimit -f 1; exec \"$@\"");
+        let script = format!("set +o posix; {trap}ulimit -c 0; ulimit -f 1; exec \"$@\"");
         let shell = ["bash", "-c", &script, "bash"].map(String::from);
         Program::new(shell.into_iter().chain(self.words.clone()).collect())
     }
@@ -48,25 +49,25 @@ impl Program {
 
     /// Starts it, puts an input to it, and waits for its end.
     pub fn run(&self, journal: &Path, input: &[u8]) -> Wrote {
-        self.stopped(journal, input, None)
+        self.stopped(journal, input, usize::MAX, Duration::ZERO)
     }
 
-    /// The same, but it is killed after so long.
-    pub fn stopped(&self, journal: &Path, input: &[u8], after: Option<Duration>) -> Wrote {
+    /// The same, but it is killed so long after so many lines of its answers came.
+    pub fn stopped(&self, journal: &Path, input: &[u8], lines: usize, later: Duration) -> Wrote {
         let mut child = self.spawn(journal);
-        let (mut pipe, out, err) = (child.stdin.take(), child.stdout.take(), child.stderr.take());
+        let (pipe, out, err) = (child.stdin.take(), child.stdout.take(), child.stderr.take());
+        let (came, coming) = mpsc::channel();
         thread::scope(|scope| {
             // A program that has ended takes no more input.
-            scope.spawn(move || pipe.take().is_some_and(|mut pipe: ChildStdin| pipe.write_all(input).is_ok()));
-            let out = scope.spawn(move || out.map(all_of::<ChildStdout>));
+            scope.spawn(move || pipe.is_some_and(|mut pipe: ChildStdin| pipe.write_all(input).is_ok()));
+            let out = scope.spawn(move || out.map(|pipe| told_of(pipe, lines, &came)));
             let err = scope.spawn(move || err.map(all_of::<ChildStderr>));
-            if let Some(time) = after {
-                thread::sleep(time);
+            if coming.recv().is_ok() {
+                thread::sleep(later);
                 child.kill().expect("it can be killed");
             }
             let succeeded = child.wait().expect("it ends").success();
-            let read =
-                |pipe: thread::ScopedJoinHandle<Option<Vec<u8>>>| pipe.join().expect("a thread").expect("a pipe");
+            let read = |pipe: ScopedJoinHandle<Option<Vec<u8>>>| pipe.join().expect("a thread").expect("a pipe");
             Wrote { out: read(out), err: read(err), succeeded }
         })
     }
@@ -102,6 +103,23 @@ impl Running {
         self.child.kill().expect("it can be killed");
         self.child.wait().expect("it ends");
         self.child.stderr.take().map(all_of::<ChildStderr>).expect("a pipe")
+    }
+}
+
+/// All that comes; and says so once so many lines did.
+fn told_of(mut pipe: ChildStdout, lines: usize, came: &Sender<()>) -> Vec<u8> {
+    let (mut read, mut part, mut count) = (Vec::new(), [0; 4096], 0);
+    loop {
+        let got = pipe.read(&mut part).expect("a pipe can be read");
+        let before = count;
+        count += part[..got].iter().filter(|&&byte| byte == b'\n').count();
+        read.extend(&part[..got]);
+        if before < lines && lines <= count {
+            came.send(()).expect("it is waited for");
+        }
+        if got == 0 {
+            return read;
+        }
     }
 }
 

@@ -2,11 +2,11 @@
 
 use std::fs;
 use std::path::Path;
-use std::time::{Duration, Instant};
+use std::time::Duration;
 
 use second::generate::boards::{handlers_line, BoardRun};
 use second::generate::Dice;
-use second::handlers::Handlers;
+use second::handlers::{Handlers, LONGEST_CALL};
 use second::Board;
 
 use crate::due::{after, filing, is_kept, joined, journal_and_answers, lines, same, shown, text, whole};
@@ -28,7 +28,6 @@ const RUN: &str = "1 LIST
 1 UPDATE 0 (CNL-AA1-EHAM0000-EDDF-0)
 1 CLEAR 0
 1 CLEAR 0
-***
 1 FILE (FPL-AA3-I-A1/H-H/A-EHAM0000-N0000F000 AB-EDDF0000-RMK/*)
 1 FILE (FPL\r-AA4 -I-A1/H-H/A-EHAM0000-N0000F000  AB-EDDF0000-0)
 3 CLEAR 0
@@ -57,8 +56,10 @@ const RUN: &str = "1 LIST
 1 FILE (FPL-AA8-I-A1/H-H/A-EHAM0000-N0000F000 AB-EDDF0000-0)
 2 FILE (FPL-BC3-I-A1/H-H/A-EHAM0000-N0000F000 AB-EDDF0000-0)";
 
+/// Those lines, the longest one that is answered, and one byte more.
 fn calls() -> Vec<Vec<u8>> {
-    RUN.split('\n').map(|line| line.replace('*', &"X".repeat(1700)).into_bytes()).collect()
+    let lines = RUN.split('\n').map(|line| line.replace('*', &"X".repeat(1700)).into_bytes());
+    lines.chain([vec![b'X'; LONGEST_CALL], vec![b'X'; LONGEST_CALL + 1]]).collect()
 }
 
 /// After each answered line the program is killed; the next start is on what it left.
@@ -112,24 +113,26 @@ pub fn at_each_byte(program: &Program, directory: &Path) {
     ];
     let (journal, _) = journal_and_answers(&few);
     let further = filing(2, "C1", 0);
-    for length in 0..=journal.len() {
-        fs::write(&path, &journal[..length]).expect("a journal");
-        let kept = whole(&journal[..length]);
+    let longest = [&journal[..], &[b'X'; LONGEST_CALL]].concat();
+    let cuts: Vec<&[u8]> = (0..=journal.len()).map(|length| &journal[..length]).chain([&longest[..]]).collect();
+    for cut in &cuts {
+        fs::write(&path, cut).expect("a journal");
+        let kept = whole(cut);
         let mut handlers = after(kept);
         let (mut input, mut due) = shown(&mut handlers);
         input.extend([&further, &b"\n"[..]].concat());
         due.extend([&handlers.answer(&further), &b"\n"[..]].concat());
         let wrote = program.run(&path, &input);
-        same(&format!("answers behind {length} bytes"), &wrote.out, &due);
-        same(&format!("told of {length} bytes"), &wrote.err, if length == kept.len() { b"" } else { TORN });
+        same(&format!("answers behind {} bytes", cut.len()), &wrote.out, &due);
+        same(&format!("told of {} bytes", cut.len()), &wrote.err, if cut.len() == kept.len() { b"" } else { TORN });
         let due = [kept, &further, b"\n"].concat();
-        same(&format!("journal of {length} bytes, and a call"), &fs::read(&path).expect("a journal"), &due);
+        same(&format!("journal of {} bytes, and a call", cut.len()), &fs::read(&path).expect("a journal"), &due);
     }
-    println!("journal: cut at each of {} bytes", journal.len() + 1);
+    println!("journal: cut at each of {} bytes, and within the longest line", journal.len() + 1);
 }
 
 /// How often the program is killed while it is busy.
-const TRIES: u32 = 24;
+const TRIES: usize = 24;
 
 /// The program is killed at some moment while many lines wait for it; then it is started again.
 pub fn at_any_moment(program: &Program, directory: &Path) {
@@ -137,17 +140,15 @@ pub fn at_any_moment(program: &Program, directory: &Path) {
     let mut run = BoardRun::on(Board::default(), &mut dice);
     let calls: Vec<Vec<u8>> = (0..1500).map(|_| handlers_line(&mut dice, &mut run)).collect();
     let (input, (journal, answers)) = (joined(&calls), journal_and_answers(&calls));
-    let begun = Instant::now();
     let wrote = program.run(&directory.join("whole"), &input);
-    let time = begun.elapsed();
     same("answers to all", &wrote.out, &answers);
     same("journal of all", &fs::read(directory.join("whole")).expect("a journal"), &journal);
     let mut left = Vec::new();
-    for n in 0..TRIES {
+    for n in 1..=TRIES {
         let path = directory.join(format!("moment-{n}"));
-        let moment = time * (2 * n + 1) / (2 * TRIES) + Duration::from_micros(dice.below(2000) as u64);
-        let wrote = program.stopped(&path, &input, Some(moment));
-        let found = fs::read(&path).unwrap_or_default();
+        let later = Duration::from_micros(dice.below(3000) as u64);
+        let wrote = program.stopped(&path, &input, n * calls.len() / (TRIES + 1), later);
+        let found = fs::read(&path).expect("a journal");
         assert!(journal.starts_with(&found), "the journal is no beginning of what is due: {}", text(&found));
         assert!(answers.starts_with(&wrote.out), "the answers are no beginning of what is due: {}", text(&wrote.out));
         let (kept, shown) = (lines(&found).len(), shown_as_kept(&calls, &wrote.out));
@@ -155,11 +156,9 @@ pub fn at_any_moment(program: &Program, directory: &Path) {
         begun_again(program, &path, &found);
         left.push(kept);
     }
-    println!("journal: killed at {TRIES} moments of {} ms, with so many calls kept: {left:?}", time.as_millis());
-    assert!(
-        left.iter().any(|&kept| 0 < kept && kept < lines(&journal).len()),
-        "it was never killed in the midst of its work"
-    );
+    let within = left.iter().filter(|&&kept| kept < lines(&journal).len()).count();
+    println!("journal: killed at {TRIES} moments, with so many calls kept: {left:?}");
+    assert!(2 * within > TRIES, "it was hardly ever killed in the midst of its work");
 }
 
 /// Of the calls that are kept, how many were answered; an answer of which only the first bytes came counts too.
