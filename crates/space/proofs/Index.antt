@@ -1,21 +1,21 @@
--- What ties the reduction and the hyphens, which go by structure, to code that walks an index: of each, a step by what the byte is, and the end.
+-- What ties the byte that stands for a run and the hyphens, which go by structure, to code that walks an index: of the hyphens, a step by what the
+-- byte is, and the end.
 -- Assumes nothing.
 use Prim.Native.Nat.{ℕ, zero, suc, _+_, _-_, _≤_, _<_}
 use mathlib.Core.Path.{_≡_, refl, sym, ap, _∙_}
-use mathlib.Core.Bool.{Bool, true, false, cond, not, _&&_, _||_, false≢true}
-use mathlib.Core.List.{List, [], _∷_, _++_}
+use mathlib.Core.Bool.{Bool, true, false, cond, not, _&&_, _||_}
+use mathlib.Core.List.{List, [], _∷_}
 use native.Mathlib.Numerals.{sub-one}
 use native.Mathlib.Omega.{arith}
 use lib.Dec.{eqb}
-use lib.ListN.{length, getD, take, drop, set, length-set, length-drop}
-use lib.Seq.{drop-drop, length-take-le, getD-take, getD-set-same}
+use lib.ListN.{length, getD, take, drop}
+use lib.Seq.{drop-drop}
 use borrow.Author.Tests.{eq-eqb, ne-eqb}
 use Rattle.alphabet.specs.Alphabet.{oneOf, white}
 use Rattle.text.specs.Words.{upTo}
 use Rattle.text.proofs.Index.{drop-here, drop-end, rest}
-use Rattle.text.specs.Lent.{front}
-use Rattle.text.proofs.Lent.{store, next-out, next-rest, next-fits, whole-out}
-use Rattle.space.specs.Reduced.{opens, closes, standsForRun, reducedFrom, reduced}
+use Rattle.space.specs.Reduced.{closes, standsForRun}
+use Rattle.space.specs.Part.{lastOf}
 use Rattle.space.specs.Hyphens.{oneMore, hyphens, upToHyphen, placeOfHyphen}
 
 -- ONE OF TWO BYTES
@@ -61,144 +61,17 @@ stands-end [] a h = refl
 stands-end (c ∷ m) a h = absurd (omega arith)
 
 -- by what is behind the byte before i, read as a part of the message
-pub stands-behind : (m : List ℕ) (i last x : ℕ) (r : Bool) → last ≡ x → r ≡ standsForRun (opens last) (take (length m - i) (drop i m))
-    → standsForRun (opens x) (drop i m) ≡ r
-stands-behind m i last x r e t = sym (t ∙ rw (e, rest m i))
+pub stands-behind : (m : List ℕ) (i : ℕ) (a r : Bool) → r ≡ standsForRun a (take (length m - i) (drop i m)) → standsForRun a (drop i m) ≡ r
+stands-behind m i a r t = sym (t ∙ rw (rest m i))
 
 -- before white space no byte stands for a run
 pub not-before-white : (m : List ℕ) (a : Bool) (i : ℕ) → i < length m → white (getD m i 0) ≡ true → standsForRun a (drop i m) ≡ false
 unfolding standsForRun
 not-before-white m a i h w = rw (drop-here m i h, w)
 
--- REDUCING: the bytes left to reduce, after one byte
-
-module _ (m : List ℕ) (a : Bool) (i : ℕ) (h : i < length m) where
-  kept-byte : white (getD m i 0) ≡ false → reducedFrom a (drop i m) ≡ getD m i 0 ∷ reducedFrom (opens (getD m i 0)) (drop (i + 1) m)
-  unfolding reducedFrom
-  kept-byte w = rw (drop-here m i h, w)
-
-  kept-space : white (getD m i 0) ≡ true → standsForRun a (drop (i + 1) m) ≡ true → reducedFrom a (drop i m) ≡ 32 ∷ reducedFrom a (drop (i + 1) m)
-  unfolding reducedFrom
-  kept-space w s = rw (drop-here m i h, w, s)
-
-  left-out : white (getD m i 0) ≡ true → standsForRun a (drop (i + 1) m) ≡ false → reducedFrom a (drop i m) ≡ reducedFrom a (drop (i + 1) m)
-  unfolding reducedFrom
-  left-out w s = rw (drop-here m i h, w, s)
-
-reduced-end : (m : List ℕ) (a : Bool) (i : ℕ) → length m ≤ i → reducedFrom a (drop i m) ≡ []
-unfolding reducedFrom
-reduced-end m a i h = rw (drop-end m i h)
-
--- of the message the bytes up to i are reduced, and stand as n bytes at the front of buf
-pub record Reducing (msg buf₀ buf : List ℕ) (n i : ℕ) (after : Bool) : Type 0 where
-  pub short : n ≤ i
-  pub inside : i ≤ length msg
-  pub room : length buf ≡ length buf₀
-  pub most : n ≤ length (reduced msg)
-  pub left : drop n (reduced msg) ≡ reducedFrom after (drop i msg)
-  pub written : buf ≡ take n (reduced msg) ++ drop n buf₀
-
-module _ (msg buf₀ buf : List ℕ) (n i : ℕ) (after : Bool) (r : Reducing msg buf₀ buf n i after) (h : i < length msg) where
-  -- x is stored, and the rest is left to reduce
-  stored : (x : ℕ) (a : Bool) → n < length buf
-      → reducedFrom after (drop i msg) ≡ x ∷ reducedFrom a (drop (i + 1) msg)
-      → Reducing msg buf₀ (set buf n x) (n + 1) (i + 1) a
-  stored x a l d =
-      let w = x ∷ [] in
-      let rest = reducedFrom a (drop (i + 1) msg) in
-      let e : drop n (reduced msg) ≡ w ++ rest = r .left ∙ d in
-      let fits : n + 1 + length rest ≡ length (reduced msg) = next-fits (reduced msg) buf₀ buf n (r .written) (r .most) w rest e in
-      record {
-        short = omega arith;
-        inside = omega arith;
-        room = simp length-set (r .room);
-        most = omega arith;
-        left = next-rest (reduced msg) buf₀ buf n (r .written) (r .most) w rest e;
-        written = store buf n x l ∙ next-out (reduced msg) buf₀ buf n (r .written) (r .most) w rest e;
-      }
-
-  byte-read : n < length buf → white (getD msg i 0) ≡ false → Reducing msg buf₀ (set buf n (getD msg i 0)) (n + 1) (i + 1) (opens (getD msg i 0))
-  byte-read l w = stored (getD msg i 0) (opens (getD msg i 0)) l (kept-byte msg after i h w)
-
-  space-read : n < length buf → white (getD msg i 0) ≡ true → standsForRun after (drop (i + 1) msg) ≡ true
-      → Reducing msg buf₀ (set buf n 32) (n + 1) (i + 1) after
-  space-read l w s = stored 32 after l (kept-space msg after i h w s)
-
-  white-read : white (getD msg i 0) ≡ true → standsForRun after (drop (i + 1) msg) ≡ false → Reducing msg buf₀ buf n (i + 1) after
-  white-read w s =
-      record {
-        short = omega arith;
-        inside = omega arith;
-        room = r .room;
-        most = r .most;
-        left = r .left ∙ left-out msg after i h w s;
-        written = r .written;
-      }
-
--- the last byte, or 0 where there is none
-abbrev pub lastOf : List ℕ → ℕ
-lastOf s = getD s (length s - 1) 0
-
 pub last-none : (s : List ℕ) → length s ≡ 0 → 0 ≡ lastOf s
 last-none [] e = refl
 last-none (b ∷ s) e = absurd (omega arith)
-
-last-set : (buf : List ℕ) (n x : ℕ) → n < length buf → lastOf (take (n + 1) (set buf n x)) ≡ x
-last-set buf n x h =
-    let e : length (take (n + 1) (set buf n x)) ≡ n + 1 = length-take-le (n + 1) (set buf n x) (rw length-set (omega arith)) in
-    let k : length (take (n + 1) (set buf n x)) - 1 ≡ n = omega arith in
-    ap (λ (j : ℕ). getD (take (n + 1) (set buf n x)) j 0) k ∙ (getD-take (n + 1) (set buf n x) n 0 (omega arith) ∙ getD-set-same buf n x 0 h)
-
--- a turn of the loop: before white space the byte written last is the last one before its run
-pub record Turn (msg buf₀ buf : List ℕ) (n i : ℕ) : Type 0 where
-  pub after : Bool
-  pub reducing : Reducing msg buf₀ buf n i after
-  pub run : i < length msg → white (getD msg i 0) ≡ true → opens (lastOf (take n buf)) ≡ after
-
-module _ (msg buf₀ buf : List ℕ) (n i : ℕ) (t : Turn msg buf₀ buf n i) (h : i < length msg) where
-  pub turn-byte : n < length buf → white (getD msg i 0) ≡ false → Turn msg buf₀ (set buf n (getD msg i 0)) (n + 1) (i + 1)
-  turn-byte l w =
-      record {
-        after = opens (getD msg i 0);
-        reducing = byte-read msg buf₀ buf n i (t .after) (t .reducing) h l w;
-        run = λ x y. ap opens (last-set buf n (getD msg i 0) l);
-      }
-
-  pub turn-space : n < length buf → white (getD msg i 0) ≡ true → standsForRun (opens (lastOf (take n buf))) (drop (i + 1) msg) ≡ true
-      → Turn msg buf₀ (set buf n 32) (n + 1) (i + 1)
-  turn-space l w s =
-      let e = sym (ap (λ (a : Bool). standsForRun a (drop (i + 1) msg)) (t .run h w)) ∙ s in
-      record {
-        after = t .after;
-        reducing = space-read msg buf₀ buf n i (t .after) (t .reducing) h l w e;
-        run = λ x y. absurd (false≢true (sym (not-before-white msg (t .after) (i + 1) x y) ∙ e));
-      }
-
-  pub turn-out : white (getD msg i 0) ≡ true → standsForRun (opens (lastOf (take n buf))) (drop (i + 1) msg) ≡ false → Turn msg buf₀ buf n (i + 1)
-  turn-out w s =
-      record {
-        after = t .after;
-        reducing = white-read msg buf₀ buf n i (t .after) (t .reducing) h w (sym (ap (λ (a : Bool). standsForRun a (drop (i + 1) msg)) (t .run h w)) ∙ s);
-        run = λ x y. t .run h w;
-      }
-
-pub turn-starts : (msg buf : List ℕ) → Turn msg buf buf 0 0
-unfolding reduced opens
-turn-starts msg buf =
-    record {
-      after = false;
-      reducing = record { short = omega arith; inside = omega arith; room = refl; most = omega arith; left = refl; written = refl };
-      run = λ x y. refl;
-    }
-
--- at the end all of it is written
-pub turn-ends : (msg buf₀ buf : List ℕ) (n i : ℕ) → Turn msg buf₀ buf n i → length msg ≤ i → (n ≡ length (reduced msg)) × (buf ≡ front (reduced msg) buf₀)
-turn-ends msg buf₀ buf n i t h =
-    let r = t .reducing in
-    let z : length (reduced msg) - n ≡ 0 = sym (length-drop n (reduced msg)) ∙ ap length (r .left ∙ reduced-end msg (t .after) i h) in
-    let m : n ≤ length (reduced msg) = r .most in
-    let e : n ≡ length (reduced msg) = omega arith in
-    (e, whole-out (reduced msg) buf₀ buf n (r .written) e)
 
 -- HYPHENS
 

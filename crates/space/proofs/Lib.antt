@@ -7,3 +7,4 @@ pub mod Frame
 pub mod Tidy
 pub mod Places
 pub mod Stays
+pub mod Part

@@ -15,7 +15,7 @@ use Rattle.space.proofs.Bytes.{space-white}
 
 -- NEVER LONGER
 
-kept-length : (w s : Bool) (b : ℕ) (x : List ℕ) (n : ℕ) → length x ≤ n → length (kept w s b x) ≤ suc n
+pub kept-length : (w s : Bool) (b : ℕ) (x : List ℕ) (n : ℕ) → length x ≤ n → length (kept w s b x) ≤ suc n
 kept-length true true b x n p = omega arith
 kept-length true false b x n p = omega arith
 kept-length false s b x n p = omega arith

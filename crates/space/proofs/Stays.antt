@@ -22,11 +22,11 @@ use Rattle.space.proofs.Reduced.{shorter}
 -- ITS OWN REDUCTION
 
 -- the byte before them tells where a run at the front is just after `(` or `-`
-abbrev Told : ℕ → Bool → List ℕ → Type 0
+abbrev pub Told : ℕ → Bool → List ℕ → Type 0
 Told p a m = 0 < length m → white (getD m 0 0) ≡ true → opens p ≡ a
 
 -- a byte that stands for its run has no white space behind it
-told-behind : (b : ℕ) (a : Bool) (m : List ℕ) → standsForRun a m ≡ true → Told b a m
+pub told-behind : (b : ℕ) (a : Bool) (m : List ℕ) → standsForRun a m ≡ true → Told b a m
 told-behind b a m s h w = absurd (false≢true (sym (not-before-white m a 0 h w) ∙ s))
 
 -- one byte before the rest: it is white space or not, it stands for its run or not, it is a space or not
@@ -125,17 +125,17 @@ neither : (x y : Bool) → (x || y) ≡ false → (x ≡ false) × (y ≡ false)
 neither true y e = absurd (false≢true (sym e))
 neither false y e = (refl, e)
 
-regular-stays : (p b c : ℕ) (s : List ℕ) → regular b c ≡ true → stays p b (c ∷ s) ≡ true
+pub regular-stays : (a : Bool) (b c : ℕ) (s : List ℕ) → regular b c ≡ true → cond (white b) (eqb b 32 && standsForRun a (c ∷ s)) true ≡ true
 unfolding standsForRun
-regular-stays p b c s e = go (eqb b 32) refl (h .1)
+regular-stays a b c s e = go (eqb b 32) refl (h .1)
   where
     h : (ltb b 32 ≡ false) × ((eqb b 32 && (leb c 32 || closes c)) ≡ false)
     h = neither (ltb b 32) (eqb b 32 && (leb c 32 || closes c)) (not-true _ e)
 
-    go : (t : Bool) → eqb b 32 ≡ t → (t && (leb c 32 || closes c)) ≡ false → stays p b (c ∷ s) ≡ true
+    go : (t : Bool) → eqb b 32 ≡ t → (t && (leb c 32 || closes c)) ≡ false → cond (white b) (eqb b 32 && standsForRun a (c ∷ s)) true ≡ true
     go true q d =
         let k = neither (leb c 32) (closes c) d in
-        rw (eqb-true b 32 q, space-white, solid-over c (leb-false c 32 (k .0)), k .1) (or-true (opens p))
+        rw (eqb-true b 32 q, space-white, solid-over c (leb-false c 32 (k .0)), k .1) (or-true a)
     go false q d =
         let l : 32 ≤ b = ltb-false b 32 (h .0) in
         let n = eqb-false b 32 q in
@@ -149,7 +149,7 @@ block-stays (suc n) p [] h e = absurd (omega arith)
 block-stays (suc n) p (b ∷ []) h e = absurd (omega arith)
 block-stays (suc n) p (b ∷ (c ∷ s)) h e =
     let t = both (regular b c) (allRegular (c ∷ take n s)) e in
-    rw (regular-stays p b c s (t .0)) (block-stays n b (c ∷ s) (omega arith) (t .1))
+    rw (regular-stays (opens p) b c s (t .0)) (block-stays n b (c ∷ s) (omega arith) (t .1))
 
 -- WALKING BY BLOCKS of 16 bytes
 

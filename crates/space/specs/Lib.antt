@@ -1,4 +1,5 @@
 pub mod Reduced
+pub mod Part
 pub mod Fields
 pub mod Hyphens
 pub mod Places

@@ -1,10 +1,11 @@
 // White space reduced into a scratch, and the places of the hyphens in a message as sent.
 ghost use mathlib.Core.Path.{_≡_};
 ghost use Prim.Native.Nat.{ℕ, _+_, _-_, _≤_, _<_};
-ghost use lib.ListN.{length, drop, getD};
+ghost use lib.ListN.{length, take, drop};
 ghost use Rattle.text.specs.Lent.{front};
 ghost use Rattle.text.specs.Words.{same};
 ghost use Rattle.space.specs.Reduced.{opens, closes, standsForRun, reduced};
+ghost use Rattle.space.specs.Part.{lastOf, withPart};
 ghost use Rattle.space.specs.Stays.{stays, allStay, regular, allRegular};
 ghost use Rattle.space.specs.Places.{countsAt, sentFrom, sentPlace};
 ghost use mathlib.Core.Bool.{false};
@@ -30,7 +31,7 @@ fn is_closing(b: u8) -> bool
 
 // The last byte, or 0 where there is none.
 fn last_of(s: &[u8]) -> u8
-    ensures { λ r. ⌜ r ≡ getD (now (s .entry)) (length (now (s .entry)) - 1) 0 ⌝ }
+    ensures { λ r. ⌜ r ≡ lastOf (now (s .entry)) ⌝ }
 {
     if s.len() == 0 {
         return 0;
@@ -55,28 +56,50 @@ fn stands_for_run(behind: &[u8], last: u8) -> bool
     true
 }
 
-// Writes `msg` reduced at the front of `buf`, and returns how many bytes that is; the bytes behind it stay. Of a run of white space nothing is
-// written before its end, so until then the byte written last is the last one before the run.
-pub fn reduce(msg: &[u8], buf: &mut [u8]) -> usize
-    requires { ⌜ length (now msg) ≤ length (now buf) ⌝ }
-    ensures { λ r. ⌜ (r ≡ length (reduced (now (msg .entry)))) × (now (buf .exit) ≡ front (reduced (now (msg .entry))) (now (buf .entry))) ⌝ }
+// Writes into `buf`, from `at` on, what is left of the bytes of `msg` from `from` up to `to`, and returns where it ends; the bytes behind it stay.
+fn reduce_part(msg: &[u8], from: usize, to: usize, buf: &mut [u8], at: usize) -> usize
+    requires { ⌜ (from ≤ to) × (to ≤ length (now msg)) × (at + (to - from) ≤ length (now buf)) ⌝ }
+    ensures { λ r. ⌜ r ≡ length (withPart (take at (now (buf .entry))) (to - from) (drop from (now (msg .entry)))) ⌝ }
+    ensures { λ r. ⌜ now (buf .exit) ≡ front (withPart (take at (now (buf .entry))) (to - from) (drop from (now (msg .entry)))) (now (buf .entry)) ⌝ }
 {
-    let mut n = 0;
-    let mut i = 0;
-    while i < msg.len() {
+    let mut last = last_of(&buf[..at]);
+    let mut n = at;
+    let mut i = from;
+    while i < to {
         let b = msg[i];
         i += 1;
         if alphabet::is_white(b) {
-            if stands_for_run(&msg[i..], last_of(&buf[..n])) {
+            if stands_for_run(&msg[i..], last) {
                 buf[n] = b' ';
                 n += 1;
             }
         } else {
             buf[n] = b;
             n += 1;
+            last = b;
         }
     }
     n
+}
+
+// Writes `msg` reduced at the front of `buf`, and returns how many bytes that is; the bytes behind it stay. Block by block: one of
+// regular bytes is copied at once.
+pub fn reduce(msg: &[u8], buf: &mut [u8]) -> usize
+    requires { ⌜ length (now msg) ≤ length (now buf) ⌝ }
+    ensures { λ r. ⌜ (r ≡ length (reduced (now (msg .entry)))) × (now (buf .exit) ≡ front (reduced (now (msg .entry))) (now (buf .entry))) ⌝ }
+{
+    let mut n = 0;
+    let mut i = 0;
+    while 16 < msg.len() - i {
+        let from = i;
+        i += 16;
+        if all_regular(&msg[from..i + 1]) {
+            n += text::put(&msg[from..i], &mut buf[n..]);
+        } else {
+            n = reduce_part(msg, from, i, buf, n);
+        }
+    }
+    reduce_part(msg, i, msg.len(), buf, n)
 }
 
 // Whether the reduction leaves b as it is, by the byte before it and by what is behind it.

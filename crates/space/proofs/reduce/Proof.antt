@@ -1,84 +1,77 @@
 -- `space::reduce` meets its contract. Assumes nothing.
-use Prim.Native.Nat.{ℕ, _+_, _-_}
-use mathlib.Core.Path.{_≡_, sym, _∙_}
-use mathlib.Core.List.{List}
-use lib.ListN.{length, drop, take}
-use lib.Seq.{length-take-le}
-use Rattle.space.specs.Reduced.{opens, standsForRun}
-use Rattle.space.proofs.Index.{stands-behind, lastOf, Turn, turn-byte, turn-space, turn-out, turn-starts, turn-ends}
+use Prim.Native.Nat.{_+_, _-_}
+use mathlib.Core.Path.{sym, _∙_}
+use lib.ListN.{length}
+use Rattle.space.proofs.Part.{Partwise, parts-start, part-reduced, part-copied, parts-end}
 use borrow.Author.Needs.{needs}
 use native.Mathlib.Omega.{arith}
 use Rattle.space.proofs.reduce.Statement.{statement}
 use Rattle.space.proofs.reduce.Tie as tie
 
 abbrev Inv-loop : tie.InvT-loop
-Inv-loop msg buf₀ n₀ i₀ buf n i = Turn msg buf₀ buf n i
+Inv-loop msg buf₀ n₀ i₀ buf n i = Partwise msg buf₀ buf n i
 
 abbrev μ-loop : tie.MeasureT-loop
 μ-loop msg buf₀ n₀ i₀ buf n i = length msg - i
 
--- where a byte was tried
-module _ (c : tie.After-is-white Inv-loop μ-loop) where
-  abbrev looped : tie.At-loop Inv-loop μ-loop
-  looped = c .before .before .before
+-- where a block was tried
+module _ (c : tie.After-all-regular Inv-loop μ-loop) where
+  abbrev tested : tie.In-loop Inv-loop μ-loop
+  tested = c .before .before
 
-  abbrev message : List ℕ
-  message = looped .before .before .before .args .msg .now
+-- where it was copied
+module _ (c : tie.After-slice-known2 Inv-loop μ-loop) where
+  abbrev put : tie.After-put Inv-loop μ-loop
+  put = c .before .before
 
--- where it is white space
-module _ (c : tie.After-last-of-arg Inv-loop μ-loop) where
-  abbrev tried : tie.After-is-white Inv-loop μ-loop
-  tried = c .before .before .before
-
--- and it is known whether it stands for its run
-module _ (c : tie.After-stands-for-run Inv-loop μ-loop) where
-  abbrev white-byte : tie.After-is-white Inv-loop μ-loop
-  white-byte = tried (c .before .before)
-
-  abbrev written : List ℕ
-  written = take (looped white-byte .loop .n) (looped white-byte .loop .buf)
-
-  stands : standsForRun (opens (lastOf written)) (drop (looped white-byte .loop .i + 1) (message white-byte)) ≡ c .stands-for-run .result
-  stands =
-      stands-behind (message white-byte) (looped white-byte .loop .i + 1) _ (lastOf written) _ (c .before .last-of .ensures) (c .stands-for-run .ensures)
+module _ (c : tie.After-put Inv-loop μ-loop) where
+  abbrev found : tie.After-all-regular Inv-loop μ-loop
+  found = c .before .before .before .before
 
 loop-holds : tie.Need-loop-holds Inv-loop μ-loop
-loop-holds c = turn-starts _ _
+loop-holds c = parts-start _ _
 
-shared-slice-read-b : tie.Need-shared-slice-read-b Inv-loop μ-loop
-shared-slice-read-b c = search needs
+sub-loop : tie.Need-sub-loop Inv-loop μ-loop
+sub-loop c = search needs
 
 add-i : tie.Need-add-i Inv-loop μ-loop
 add-i c = search needs
 
-is-white-requires : tie.Need-is-white-requires Inv-loop μ-loop
-is-white-requires c κs = search needs
+add-all-regular : tie.Need-add-all-regular Inv-loop μ-loop
+add-all-regular c = search needs
 
-sub-stands-for-run : tie.Need-sub-stands-for-run Inv-loop μ-loop
-sub-stands-for-run c = search needs
+sub-all-regular : tie.Need-sub-all-regular Inv-loop μ-loop
+sub-all-regular c = search needs
 
-part-stands-for-run-start : tie.Need-part-stands-for-run-start Inv-loop μ-loop
-part-stands-for-run-start c = search needs
+part-all-regular-start : tie.Need-part-all-regular-start Inv-loop μ-loop
+part-all-regular-start c = search needs
 
-part-stands-for-run-end : tie.Need-part-stands-for-run-end Inv-loop μ-loop
-part-stands-for-run-end c = search needs
+part-all-regular-end : tie.Need-part-all-regular-end Inv-loop μ-loop
+part-all-regular-end c = search needs
 
-slice-reshare-prefix-last-of : tie.Need-slice-reshare-prefix-last-of Inv-loop μ-loop
-slice-reshare-prefix-last-of c = search needs
+all-regular-requires : tie.Need-all-regular-requires Inv-loop μ-loop
+all-regular-requires c κs = search needs
 
-slice-aggregate-last-of : tie.Need-slice-aggregate-last-of Inv-loop μ-loop
-slice-aggregate-last-of c =
-    let l = looped (tried c) .loop in
-    sym (length-take-le (l .n) (l .buf) (omega arith))
+sub-put : tie.Need-sub-put Inv-loop μ-loop
+sub-put c = search needs
 
-last-of-requires : tie.Need-last-of-requires Inv-loop μ-loop
-last-of-requires c κs = search needs
+part-put-start : tie.Need-part-put-start Inv-loop μ-loop
+part-put-start c = search needs
 
-stands-for-run-requires : tie.Need-stands-for-run-requires Inv-loop μ-loop
-stands-for-run-requires c κs = search needs
+part-put-end : tie.Need-part-put-end Inv-loop μ-loop
+part-put-end c = search needs
 
-slice-write-buf : tie.Need-slice-write-buf Inv-loop μ-loop
-slice-write-buf c = search needs
+sub-put-2 : tie.Need-sub-put-2 Inv-loop μ-loop
+sub-put-2 c = search needs
+
+part-put-start-2 : tie.Need-part-put-start-2 Inv-loop μ-loop
+part-put-start-2 c = search needs
+
+part-put-end-2 : tie.Need-part-put-end-2 Inv-loop μ-loop
+part-put-end-2 c = search needs
+
+put-requires : tie.Need-put-requires Inv-loop μ-loop
+put-requires c κs = search needs
 
 add-n : tie.Need-add-n Inv-loop μ-loop
 add-n c = search needs
@@ -88,38 +81,39 @@ loop-less c = search needs
 
 loop-again : tie.Need-loop-again Inv-loop μ-loop
 loop-again c =
-    let r = white-byte (c .before) in
-    let l = looped r .loop in
-    turn-space (message r) _ (l .buf) (l .n) (l .i) (l .inv) (omega arith) (omega arith) (cc) (stands (c .before) ∙ c .if2 .taken)
+    let p = put c in
+    let t = tested (found p) in
+    let l = t .before .loop in
+    part-copied _ _ (l .buf) (l .n) (l .i) (l .inv) (omega arith) (l .i + 16) (omega arith) (omega arith) _ _ (omega arith)
+    (sym (found p .all-regular .ensures) ∙ p .before .before .before .if1 .taken) (p .put .ensures)
+
+reduce-part-requires : tie.Need-reduce-part-requires Inv-loop μ-loop
+reduce-part-requires c κs = search needs
 
 loop-less-2 : tie.Need-loop-less-2 Inv-loop μ-loop
 loop-less-2 c = search needs
 
 loop-again-2 : tie.Need-loop-again-2 Inv-loop μ-loop
 loop-again-2 c =
-    let r = white-byte (c .before) in
-    let l = looped r .loop in
-    turn-out (message r) _ (l .buf) (l .n) (l .i) (l .inv) (omega arith) (cc) (stands (c .before) ∙ c .if2 .left)
+    let p = c .before .before in
+    let l = tested (p .before .before .before) .before .loop in
+    let e = p .reduce-part .ensures in
+    part-reduced _ _ (l .buf) (l .n) (l .i) (l .inv) (omega arith) (l .i + 16) (omega arith) (omega arith) _ _ (e .0) (e .1)
 
-slice-write-buf-2 : tie.Need-slice-write-buf-2 Inv-loop μ-loop
-slice-write-buf-2 c = search needs
-
-add-n-2 : tie.Need-add-n-2 Inv-loop μ-loop
-add-n-2 c = search needs
-
-loop-less-3 : tie.Need-loop-less-3 Inv-loop μ-loop
-loop-less-3 c = search needs
-
-loop-again-3 : tie.Need-loop-again-3 Inv-loop μ-loop
-loop-again-3 c =
-    let l = looped (c .before) .loop in
-    turn-byte (message (c .before)) _ (l .buf) (l .n) (l .i) (l .inv) (omega arith) (omega arith) (cc)
+reduce-part-requires-2 : tie.Need-reduce-part-requires-2 Inv-loop μ-loop
+reduce-part-requires-2 c κs = search needs
 
 same-length : tie.Need-same-length Inv-loop μ-loop
 same-length c = search needs
 
 returns : tie.Need-returns Inv-loop μ-loop
-returns c = turn-ends _ _ _ _ _ (c .before .loop .inv) (c .loop-test .left)
+returns c =
+    let p = c .before .before in
+    let l = p .before .before .before .loop in
+    let m = l .inv .inside in
+    let e = p .reduce-part2 .ensures in
+    let t = part-reduced _ _ (l .buf) (l .n) (l .i) (l .inv) (omega arith) _ m (omega arith) _ _ (e .0) (e .1) in
+    parts-end _ _ _ _ _ t (omega arith)
 
 pub reduce-spec : {M : Type 1} → statement M
 reduce-spec =
@@ -128,25 +122,26 @@ reduce-spec =
     Inv-loop
     μ-loop
     loop-holds
-    shared-slice-read-b
+    sub-loop
     add-i
-    is-white-requires
-    sub-stands-for-run
-    part-stands-for-run-start
-    part-stands-for-run-end
-    slice-reshare-prefix-last-of
-    slice-aggregate-last-of
-    last-of-requires
-    stands-for-run-requires
-    slice-write-buf
+    add-all-regular
+    sub-all-regular
+    part-all-regular-start
+    part-all-regular-end
+    all-regular-requires
+    sub-put
+    part-put-start
+    part-put-end
+    sub-put-2
+    part-put-start-2
+    part-put-end-2
+    put-requires
     add-n
     loop-less
     loop-again
+    reduce-part-requires
     loop-less-2
     loop-again-2
-    slice-write-buf-2
-    add-n-2
-    loop-less-3
-    loop-again-3
+    reduce-part-requires-2
     same-length
     returns)
