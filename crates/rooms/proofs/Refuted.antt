@@ -1,5 +1,5 @@
 -- THE KEEPERS OF specs/Slips.antt DO NOT MEET WHAT IS ASKED, each shown by a run of toy strips. Assumes nothing.
-use Prim.Native.Nat.{ℕ, zero}
+use Prim.Native.Nat.{ℕ, zero, _≤_}
 use mathlib.Core.Path.{_≡_, refl, ap}
 use mathlib.Core.List.{List, [], _∷_, _++_}
 use native.Mathlib.Omega.{arith}
@@ -12,7 +12,7 @@ use Rattle.rooms.specs.Keeper.{Heard}
 use Rattle.rooms.specs.Counts.{tally}
 use Rattle.rooms.specs.Demands.{accepted, Meets}
 use Rattle.rooms.specs.Toy.{toy, by}
-use Rattle.rooms.specs.Slips.{freesOther, asksOther, takesHighest, firstComers}
+use Rattle.rooms.specs.Slips.{freesOther, asksOther, takesHighest, asksFirst, firstComers}
 
 -- A CLEARING THAT FREES THE OTHER'S ROOM: the first firm's strip stays where it was cleared
 pub frees-other-fails : Meets toy (freesOther toy) → ⊥
@@ -49,6 +49,13 @@ takes-highest-fails m =
     let w = m .filing-right [] 1 First refl 5 .otherwise-filed (λ full. omega (arith, full .six)) 5 refl in
     let nine : _≡_ {A = ℕ} 9 (w .0) = ap slotOf (w .1) in
     w .4 0 (omega (arith, nine))
+
+-- THE FIRST FIRM'S ROOM, WHOEVER FILES: once the first firm holds ten, the second, which holds none, is refused
+
+pub asks-first-fails : Meets toy (asksFirst toy) → ⊥
+asks-first-fails m =
+    let six : 6 ≤ 0 = m .filing-right (replicate 10 (by 1 (file 1))) 2 Second refl 2 .refused-full refl .six in
+    omega (arith, six)
 
 -- THE SHARED ROOM BY WHO FILED FIRST: the first firm files seven and clears the first of them, so it uses none of the 4; but the seventh keeps its shared
 -- room, and the second firm's tenth filing finds none

@@ -6,7 +6,8 @@ use mathlib.Core.Option.{Option, none, some}
 use lib.Dec.{eqb, ltb}
 use lib.ListN.{set, replicate}
 use Rattle.rooms.specs.declared.Firm.{Firm}
-use Rattle.rooms.specs.Rooms.{House, other, same, firmOf, Act, heldIn, beyond, hasRoom, Board, Said, empty}
+use Rattle.rooms.specs.declared.Firm.the-variants.{First}
+use Rattle.rooms.specs.Rooms.{House, other, same, firmOf, Act, heldIn, lowest, beyond, hasRoom, Board, Said, empty}
 use Rattle.rooms.specs.Rooms.{filedAs, reply, left, saidTo, said, put}
 use Rattle.rooms.specs.Rooms.Act.{file, update, clear}
 use Rattle.rooms.specs.Rooms.Reply.{filed, updated, cleared, refused, noFirm, noSlot, noRoom, notOver}
@@ -63,6 +64,24 @@ module _ (H : House) where
         start = empty H;
         answer = λ b c. byHighest (firmOf (c .by)) b (c .does);
         next = λ b c. put H (firmOf (c .by)) b (byHighest (firmOf (c .by)) b (c .does));
+        shows = λ b. b;
+      }
+
+  -- one that asks whether there is room for the first firm, whoever files
+  abbrev byFirst : Option Firm → Board H → Act (H .Message) → Said H
+  byFirst none b a = noFirm
+  byFirst (some f) b (file m) =
+      cond (hasRoom (heldIn (b First)) (beyond (heldIn (b (other f))))) (filedAs H (H .filing m) (lowest (b f))) noRoom
+  byFirst (some f) b (update k m) = saidTo H (some f) b (update k m)
+  byFirst (some f) b (clear k) = saidTo H (some f) b (clear k)
+
+  abbrev pub asksFirst : Keeper H
+  asksFirst =
+      record {
+        Kept = Board H;
+        start = empty H;
+        answer = λ b c. byFirst (firmOf (c .by)) b (c .does);
+        next = λ b c. put H (firmOf (c .by)) b (byFirst (firmOf (c .by)) b (c .does));
         shows = λ b. b;
       }
 
