@@ -2,10 +2,10 @@
 use mathlib.Core.Path.{_≡_, refl}
 use mathlib.Core.Bool.{Bool, true, false, _&&_, _||_, cond}
 use Prim.Native.Nat.{ℕ, _<_, _≤_}
-use lib.Dec.{leb, eqb}
+use lib.Dec.{leb, ltb, eqb}
 use borrow.Author.Tests.{le-leb, lt-leb}
 use Rattle.alphabet.specs.Text.{bytes}
-use Rattle.alphabet.specs.Alphabet.{classOf, inAlphabet, innerByte, letter, digit, octal, sign, text, white, oneOf, marks}
+use Rattle.alphabet.specs.Alphabet.{classOf, inAlphabet, innerByte, letter, digit, octal, sign, text, white, oneOf, lowMarks}
 use Rattle.alphabet.proofs.Every.{agree}
 
 -- THE COMPARISONS
@@ -21,10 +21,16 @@ pub last-test : (x : Bool) → x ≡ cond x true false
 last-test true = refl
 last-test false = refl
 
--- a byte of a text word is a letter, or below the letters a digit or one of seven marks
-pub text-marks : (b : ℕ) → b < 256 → text b ≡ cond (leb 65 b) (leb b 90) (digit b || oneOf b marks)
+-- a sign is a byte from 0 to Z, and none of those between the digits and the letters
+pub sign-tests : (b : ℕ) → b < 256 → sign b ≡ cond (ltb b 48 || ltb 90 b) false (leb b 57 || leb 65 b)
+sign-tests = agree sign (λ b. cond (ltb b 48 || ltb 90 b) false (leb b 57 || leb 65 b)) tt
+
+-- a byte of a text word is one of these, or a colon, or one of six marks, of which four stand below the digits
+pub text-tests : (b : ℕ) → b < 256
+    → text b ≡ cond (ltb b 48 || ltb 90 b) (oneOf b lowMarks) (cond (leb b 58 || leb 65 b) true (eqb b 61 || eqb b 63))
 unfolding inAlphabet text white
-text-marks = agree text (λ b. cond (leb 65 b) (leb b 90) (digit b || oneOf b marks)) tt
+text-tests =
+    agree text (λ b. cond (ltb b 48 || ltb 90 b) (oneOf b lowMarks) (cond (leb b 58 || leb 65 b) true (eqb b 61 || eqb b 63))) tt
 
 -- a byte that may stand between the parentheses is one of a text word, an oblique, a hyphen or white space
 pub inner-tests : (b : ℕ) → b < 256 → innerByte b ≡ (text b || (oneOf b (bytes "/-") || white b))

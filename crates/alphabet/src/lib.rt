@@ -10,7 +10,7 @@ ghost use Rattle.alphabet.specs.Alphabet.{
   text,
   white,
   oneOf,
-  marks,
+  lowMarks,
   innerByte,
   inAlphabet,
   known,
@@ -45,52 +45,46 @@ pub fn is_octal(b: u8) -> bool
     b <= b'7'
 }
 
-// A letter or a digit.
+// A letter or a digit. Which of the two it is decides no branch: in a word they stand mixed, and a branch that cannot be foretold costs more than the test.
 pub fn is_sign(b: u8) -> bool
     ensures { λ r. ⌜ r ≡ sign b ⌝ }
 {
-    if is_letter(b) {
-        return true;
+    if (b < b'0') | (b'Z' < b) {
+        return false;
     }
-    is_digit(b)
+    (b <= b'9') | (b'A' <= b)
 }
 
-// A mark that may stand in a text word.
-fn is_mark(b: u8) -> bool
-    ensures { λ r. ⌜ r ≡ oneOf b marks ⌝ }
+// A mark of a text word that stands below the digits.
+fn is_low_mark(b: u8) -> bool
+    ensures { λ r. ⌜ r ≡ oneOf b lowMarks ⌝ }
 {
-    if b == b'?' {
-        return true;
-    }
-    if b == b':' {
-        return true;
-    }
     if b == b'.' {
         return true;
     }
     if b == b',' {
         return true;
     }
-    if b == b'\'' {
+    if b == b'+' {
+        return true;
+    }
+    b == b'\''
+}
+
+// A byte of a text word: of the alphabet, other than white space and ( ) - /. The same holds for the digits, the colon behind them and the letters.
+pub fn is_text(b: u8) -> bool
+    ensures { λ r. ⌜ r ≡ text b ⌝ }
+{
+    if (b < b'0') | (b'Z' < b) {
+        return is_low_mark(b);
+    }
+    if (b <= b':') | (b'A' <= b) {
         return true;
     }
     if b == b'=' {
         return true;
     }
-    b == b'+'
-}
-
-// A byte of a text word: of the alphabet, other than white space and ( ) - /.
-pub fn is_text(b: u8) -> bool
-    ensures { λ r. ⌜ r ≡ text b ⌝ }
-{
-    if b'A' <= b {
-        return b <= b'Z';
-    }
-    if is_digit(b) {
-        return true;
-    }
-    is_mark(b)
+    b == b'?'
 }
 
 // Space, CR or LF.

@@ -1,34 +1,30 @@
 -- `alphabet::is_text` meets its contract. Assumes nothing.
-use mathlib.Core.Path.{sym, _∙_}
-use borrow.Author.Tests.{le-leb, lt-leb}
-use Rattle.alphabet.proofs.Classes.{text-marks}
+use borrow.Author.Tests.{ne-eqb}
 use borrow.Author.Needs.{needs}
+use Rattle.alphabet.proofs.Classes.{text-tests}
 use Rattle.alphabet.proofs.is_text.Statement.{statement}
 use Rattle.alphabet.proofs.is_text.Tie as tie
 
-returns : tie.Need-returns
-returns c =
-    let b = c .before .args .b in
-    rw (text-marks b (search needs), le-leb 65 b (c .if1 .taken))
+is-low-mark-requires : tie.Need-is-low-mark-requires
+is-low-mark-requires c κs = search needs
 
-is-digit-requires : tie.Need-is-digit-requires
-is-digit-requires c κs = search needs
+returns : tie.Need-returns
+returns c = rw (text-tests (c .before .before .args .b) (search needs), c .before .if1 .taken) (c .is-low-mark .ensures)
 
 returns-2 : tie.Need-returns-2
-returns-2 c =
-    let low = c .before .before in
-    let b = low .before .args .b in
-    rw (text-marks b (search needs), lt-leb 65 b (low .if1 .left), sym (c .before .is-digit .ensures) ∙ c .if2 .taken)
-
-is-mark-requires : tie.Need-is-mark-requires
-is-mark-requires c κs = search needs
+returns-2 c = rw (text-tests (c .before .before .args .b) (search needs), c .before .if1 .left, c .if2 .taken)
 
 returns-3 : tie.Need-returns-3
 returns-3 c =
-    let tested = c .before .before in
-    let low = tested .before in
-    let b = low .before .args .b in
-    rw (text-marks b (search needs), lt-leb 65 b (low .if1 .left), sym (tested .is-digit .ensures) ∙ c .before .if2 .left) (c .is-mark .ensures)
+    let high = c .before in
+    let b = high .before .before .args .b in
+    rw (text-tests b (search needs), high .before .if1 .left, high .if2 .left, c .if3 .taken)
+
+returns-4 : tie.Need-returns-4
+returns-4 c =
+    let high = c .before in
+    let b = high .before .before .args .b in
+    rw (text-tests b (search needs), high .before .if1 .left, high .if2 .left, ne-eqb b 61 (c .if3 .left))
 
 pub is-text-spec : {M : Type 1} → statement M
-is-text-spec = tie.close (tie.spec returns is-digit-requires returns-2 is-mark-requires returns-3)
+is-text-spec = tie.close (tie.spec is-low-mark-requires returns returns-2 returns-3 returns-4)
