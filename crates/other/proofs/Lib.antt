@@ -4,6 +4,7 @@ pub mod Elements
 pub mod Items
 pub mod Index
 pub mod Runs
+pub mod Plain
 pub mod Keys
 pub mod Field18
 pub mod ByKey

@@ -60,7 +60,7 @@ split-prefix c (b ∷ k) u w ws e h = go (λ f. split-prefix c k u w ws f h) (eq
     go ih true q = absurd (false≢true q)
     go ih false q = ap (onto b) (ih q)
 
-no-space : text 32 ≡ false
+pub no-space : text 32 ≡ false
 unfolding text inAlphabet white
 no-space = refl
 
@@ -141,7 +141,7 @@ module _ (ed : Edition18) where
   first-plain : (last : ℕ) (w : Word) (ws : List Word) → all text w ≡ true → fitFrom ed last (w ∷ ws) ≡ false
   first-plain last w ws e = fit-step ed last w ws ∙ rw (holds-free 47 w (all-free text 47 no-oblique w e))
 
-  more-plain : (k : ℕ) (w : Word) (ws : List Word) → all text w ≡ true → fitMore ed k (w ∷ ws) ≡ (moreFits (ruleIn ed k) w && fitMore ed k ws)
+  pub more-plain : (k : ℕ) (w : Word) (ws : List Word) → all text w ≡ true → fitMore ed k (w ∷ ws) ≡ (moreFits (ruleIn ed k) w && fitMore ed k ws)
   more-plain k w ws e = more-step ed k w ws ∙ rw (holds-free 47 w (all-free text 47 no-oblique w e))
 
   module _ (key : Word) (e : all text key ≡ true) (f : Word) (ws : List Word) where

@@ -1,3 +1,4 @@
 pub mod Rules
 pub mod Elements
+pub mod Plain
 pub mod Field18

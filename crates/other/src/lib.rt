@@ -6,8 +6,9 @@ ghost use Prim.Native.Nat.{ℕ, _+_, _-_, _≤_, _<_};
 ghost use lib.Dec.{eqb};
 ghost use lib.ListN.{length, take, drop, getD};
 ghost use Rattle.alphabet.specs.Alphabet.{oneOf, sign, text};
-ghost use Rattle.text.specs.Words.{split, after, upTo, all, elem, cells};
+ghost use Rattle.text.specs.Words.{split, after, upTo, all, free, elem, cells};
 ghost use Rattle.other.specs.Rules.{statuses, approved, daysIn, date, elapsedIn, selcal, address, wordFits, single, moreFits, ruleIn, ruleOf, edition};
+ghost use Rattle.other.specs.Plain.{plain, allPlain};
 ghost use Rattle.other.specs.Field18.{fitFrom, fitMore, fitsIn, fits18, hasKey, wordsUnder, wordsFrom, Found};
 
 // What the words under a key must be: `Free` is any text words.
@@ -221,6 +222,77 @@ fn text_fits(rule: Rule, w: &[u8]) -> bool
     word_fits(rule, w)
 }
 
+// Whether b just before c may stand among text words with one space between them. No branch: it is worked out for 16 bytes at a time. From + to : stand
+// the digits and + , - . / : alone.
+fn is_plain(b: u8, c: u8) -> bool
+    ensures { λ r. ⌜ r ≡ plain b c ⌝ }
+{
+    let letter = (b'A' <= b) & (b <= b'Z');
+    let middle = (b'+' <= b) & (b <= b':') & (b != b'-') & (b != b'/');
+    let mark = (b == b'?') | (b == b'=') | (b == b'\'');
+    let apart = (b == b' ') & (c != b' ');
+    letter | middle | mark | apart
+}
+
+// Whether each byte but the last may.
+fn all_plain(s: &[u8]) -> bool
+    ensures { λ r. ⌜ r ≡ allPlain (now (s .entry)) ⌝ }
+{
+    let mut fine = true;
+    let mut i = 1;
+    while i < s.len() {
+        fine = fine & is_plain(s[i - 1], s[i]);
+        i += 1;
+    }
+    fine
+}
+
+// A place up to which each byte may, reached by blocks of 16 bytes.
+fn plain_to(s: &[u8], from: usize) -> usize
+    requires { ⌜ from ≤ length (now s) ⌝ }
+    ensures { λ r. ⌜ allPlain (take (r + 1 - from) (drop from (now (s .entry)))) ≡ true ⌝ }
+    ensures { λ r. ⌜ (from ≤ r) × (r ≤ length (now (s .entry))) × (from < r → r < length (now (s .entry))) ⌝ }
+{
+    let mut i = from;
+    while 16 < s.len() - i {
+        let e = i + 16;
+        if !all_plain(&s[i..e + 1]) {
+            return i;
+        }
+        i = e;
+    }
+    i
+}
+
+// The place of the last space behind `from` and not behind `to`; `from` where there is none.
+fn last_space(s: &[u8], from: usize, to: usize) -> usize
+    requires { ⌜ (from ≤ to) × (from < to → to < length (now s)) ⌝ }
+    ensures { λ r. ⌜ (from ≤ r) × (r ≤ to) × (from < r → getD (now (s .entry)) r 0 ≡ 32) ⌝ }
+    ensures { λ r. ⌜ free 32 (take (to - r) (drop (r + 1) (now (s .entry)))) ≡ true ⌝ }
+{
+    let mut i = to;
+    while from < i {
+        if s[i] == b' ' {
+            return i;
+        }
+        i -= 1;
+    }
+    i
+}
+
+// From e, where a word ends, over words that may follow it under a key of this rule, to where another ends: of a free rule, over as many as blocks of bytes
+// tell at once.
+fn past_free(rule: Rule, s: &[u8], e: usize) -> usize
+    requires { ⌜ (e ≤ length (now s)) × (upTo 32 (drop e (now s)) ≡ 0) ⌝ }
+    ensures { λ r. ⌜ all (moreFits rule) (after 32 (take (r - e) (drop e (now (s .entry))))) ≡ true ⌝ }
+    ensures { λ r. ⌜ (e ≤ r) × (r ≤ length (now (s .entry))) × (upTo 32 (drop r (now (s .entry))) ≡ 0) ⌝ }
+{
+    if let Rule::Free = rule {
+        return last_space(s, e, plain_to(s, e));
+    }
+    e
+}
+
 // The item that begins at `at`, its key behind the one at place `last`, with all that follows it. The oblique behind its key stands at `o`.
 fn item(keys: &[u8], rules: &[u8], s: &[u8], at: usize, o: usize, last: usize) -> bool
     requires { ⌜ (at ≤ o) × (o < length (now s)) × (getD (now s) o 0 ≡ 47) × (all text (take (o - at) (drop at (now s))) ≡ true) ⌝ }
@@ -245,12 +317,12 @@ fn item(keys: &[u8], rules: &[u8], s: &[u8], at: usize, o: usize, last: usize) -
 // What follows a word that ends at `end`, in an item of the key at place k: its further words, and the items behind it. The text bytes that a word begins with
 // are all of it, or the key of the next item; with any other byte behind them it does not fit, since no key and no rule has such a byte.
 fn words(keys: &[u8], rules: &[u8], s: &[u8], end: usize, k: usize) -> bool
-    requires { ⌜ (end ≤ length (now s)) × (0 < k) ⌝ }
+    requires { ⌜ (end ≤ length (now s)) × (0 < k) × (upTo 32 (drop end (now s)) ≡ 0) ⌝ }
     requires { ⌜ all (all sign) (cells 4 (now keys)) ≡ true ⌝ }
     ensures { λ r. ⌜ r ≡ fitMore (edition (cells 4 (now (keys .entry))) (now (rules .entry))) k (after 32 (drop end (now (s .entry)))) ⌝ }
 {
     let rule = rule_at(rules, k);
-    let mut e = end;
+    let mut e = past_free(rule, s, end);
     while e < s.len() {
         let at = e + 1;
         e = text::end_of(text::Kind::Text, s, at);

@@ -1,17 +1,18 @@
 -- `other::item` and `other::words`, which call one another, meet their contracts. The measure of both is the bytes left. Assumes nothing.
-use mathlib.Core.Path.{_≡_, refl, sym, ap, _∙_}
+use mathlib.Core.Path.{_≡_, sym, ap, _∙_}
 use mathlib.Core.Bool.{Bool, true, false, _&&_}
 use mathlib.Core.List.{List}
 use native.Mathlib.Omega.{arith}
 use lib.Dec.{ltb}
-use borrow.Author.Tests.{lt-ltb, not-true, not-false}
+use borrow.Author.Tests.{lt-ltb, eqb-true, not-true, not-false}
 use Rattle.alphabet.specs.Alphabet.{text}
-use Rattle.text.specs.Words.{split, after, cells}
+use Rattle.text.specs.Words.{split, after, all, cells}
 use Rattle.text.proofs.Index.{after-here, after-end}
 use Rattle.other.specs.declared.Rule.{Rule}
 use Rattle.other.specs.Rules.{Edition18, edition, ruleIn, wordFits, moreFits}
 use Rattle.other.specs.Field18.{fitFrom, fitMore}
 use Rattle.other.proofs.Runs.{run-all, not-over, item-late, item-odd, item-word, more-word, more-from, more-other}
+use Rattle.other.proofs.Plain.{more-over}
 use borrow.Author.Needs.{needs}
 use Prim.Native.Nat.{ℕ, _+_, _-_, _<_, _≤_}
 use lib.ListN.{length, take, drop, getD}
@@ -24,6 +25,7 @@ use Rattle.other.proofs.words.Reads as words
 use Rattle.other.proofs.words.Kinds as words-kinds
 use Rattle.other.proofs.+item+words.Lts-words as words-lts
 use Rattle.other.proofs.is_single.Reads as is-single-reads
+use Rattle.other.proofs.past_free.Reads as past-free-reads
 use Rattle.other.proofs.rule_at.Reads as rule-at-reads
 use Rattle.other.proofs.text_fits.Reads as text-fits-reads
 use Rattle.other.proofs.word_ends.Reads as word-ends-reads
@@ -70,6 +72,8 @@ abbrev words-calls : ℕ → words-lts.Claims
 words-calls t = (
   rule-at-reads.Asked,
   rule-at-reads.Learnt,
+  past-free-reads.Asked,
+  past-free-reads.Learnt,
   end-of-reads.Asked,
   end-of-reads.Learnt,
   word-ends-reads.Asked,
@@ -157,7 +161,7 @@ module _ (t : ℕ) (c : words-lts.After-word-ends (words-calls t) (words-given t
   words-looped = words-ended .before .before
 
   abbrev words-ruled : words-lts.After-rule-at (words-calls t) (words-given t) words.Post words-Inv words-μ
-  words-ruled = words-looped .before
+  words-ruled = words-looped .before .before
 
   abbrev words-start : words-lts.Start (words-calls t) (words-given t) words.Post words-Inv words-μ
   words-start = words-ruled .before .before .before .before
@@ -278,7 +282,8 @@ item-words-requires t c κs =
     let w = r .before .before in
     let p = item-start t (item-known t w) .pre in
     let f = item-ended t w .end-of .ensures .1 in
-    (omega (arith, p .0, p .1 .0 .0, p .1 .0 .1, f), ((search needs, search needs), p .1 .1))
+    let z = eqb-true _ _ (sym (w .word-ends .ensures) ∙ not-false _ (r .before .if2 .left)) in
+    (omega (arith, p .0, p .1 .0 .0, p .1 .0 .1, f), ((search needs, search needs, z), p .1 .1))
 
 item-returns-4 : (t : ℕ) → item-lts.Need-returns-4 (item-calls t) (item-given t) item.Post
 item-returns-4 t c =
@@ -291,8 +296,20 @@ item-returns-4 t c =
 words-rule-at-requires : (t : ℕ) → words-lts.Need-rule-at-requires (words-calls t) (words-given t) words.Post words-Inv words-μ
 words-rule-at-requires t c κs = search needs
 
+words-past-free-requires : (t : ℕ) → words-lts.Need-past-free-requires (words-calls t) (words-given t) words.Post words-Inv words-μ
+words-past-free-requires t c κs =
+    let p = c .before .before .before .before .pre .1 .0 in
+    (p .0, p .2)
+
 words-loop-holds : (t : ℕ) → words-lts.Need-loop-holds (words-calls t) (words-given t) words.Post words-Inv words-μ
-words-loop-holds t c = (search needs, search needs, refl)
+words-loop-holds t c =
+    let r = c .before in
+    let a = r .before .before .before .before .args in
+    let p = c .past-free in
+    let ed = edition (cells 4 (a .keys .now)) (a .rules .now) in
+    let passed : Rule → Bool = λ x. all (moreFits x) (after 32 (take (p .result - a .end) (drop (a .end) (a .s .now)))) in
+    let f = sym (ap passed (r .rule-at .ensures)) ∙ p .ensures .0 in
+    (p .ensures .1 .0, p .ensures .1 .1, more-over (a .s .now) (a .end) (p .result) ed (a .k) (p .ensures .1 .0) (p .ensures .1 .2) f)
 
 words-add-at : (t : ℕ) → words-lts.Need-add-at (words-calls t) (words-given t) words.Post words-Inv words-μ
 words-add-at t c = search needs
@@ -316,7 +333,10 @@ words-item-requires t c κs =
     let i = c .before .before in
     let w = i .before in
     let run = run-all text (words-content t w) (words-at t w) (words-end t w) (words-ended t w .end-of .ensures .0) in
-    (search needs, ((search needs, words-inside t w (not-true _ (i .if1 .taken)), c .if2 .left, run), words-start t w .pre .1 .1))
+    let p = words-start t w .pre in
+    let l = words-ended t w .before in
+    let within = words-inside t w (not-true _ (i .if1 .taken)) in
+    (omega (arith, p .0, l .before .loop .inv .0, l .loop-test .taken), ((search needs, within, c .if2 .left, run), p .1 .1))
 
 words-returns-2 : (t : ℕ) → words-lts.Need-returns-2 (words-calls t) (words-given t) words.Post words-Inv words-μ
 words-returns-2 t c =
@@ -370,7 +390,7 @@ words-loop-again t c =
 words-returns-5 : (t : ℕ) → words-lts.Need-returns-5 (words-calls t) (words-given t) words.Post words-Inv words-μ
 words-returns-5 t c =
     let l = c .before in
-    let r = l .before in
+    let r = l .before .before in
     let a = r .before .before .before .before .args in
     let none = after-end 32 (a .s .now) (l .loop .e) (c .loop-test .left) in
     sym (l .loop .inv .2 ∙ ap (fitMore (edition (cells 4 (a .keys .now)) (a .rules .now)) (a .k)) none)
@@ -402,6 +422,7 @@ pub +item+words-spec : {M : Type 1} → statement M
     words-Inv
     words-μ
     (words-rule-at-requires t)
+    (words-past-free-requires t)
     (words-loop-holds t)
     (words-add-at t)
     (words-end-of-requires t)

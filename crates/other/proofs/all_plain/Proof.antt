@@ -1,0 +1,66 @@
+-- `other::all_plain` meets its contract. Assumes nothing.
+use Prim.Native.Nat.{_-_, _<_}
+use mathlib.Core.Path.{_≡_, refl, _∙_}
+use mathlib.Core.Bool.{_&&_}
+use lib.ListN.{length, drop}
+use borrow.Author.Needs.{needs}
+use native.Mathlib.Omega.{arith}
+use Rattle.other.specs.Plain.{allPlain}
+use Rattle.other.proofs.Plain.{plain-next, plain-end}
+use Rattle.other.proofs.all_plain.Statement.{statement}
+use Rattle.other.proofs.all_plain.Tie as tie
+
+abbrev Inv-loop : tie.InvT-loop
+Inv-loop s fine₀ i₀ fine i = (0 < i) × (fine && allPlain (drop (i - 1) s) ≡ allPlain s)
+
+abbrev μ-loop : tie.MeasureT-loop
+μ-loop s fine₀ i₀ fine i = length s - i
+
+loop-holds : tie.Need-loop-holds Inv-loop μ-loop
+loop-holds c = (omega arith, refl)
+
+sub-is-plain : tie.Need-sub-is-plain Inv-loop μ-loop
+sub-is-plain c = search needs
+
+shared-slice-read-is-plain : tie.Need-shared-slice-read-is-plain Inv-loop μ-loop
+shared-slice-read-is-plain c = search needs
+
+shared-slice-read-is-plain-2 : tie.Need-shared-slice-read-is-plain-2 Inv-loop μ-loop
+shared-slice-read-is-plain-2 c = search needs
+
+is-plain-requires : tie.Need-is-plain-requires Inv-loop μ-loop
+is-plain-requires c κs = search needs
+
+add-i : tie.Need-add-i Inv-loop μ-loop
+add-i c = search needs
+
+loop-less : tie.Need-loop-less Inv-loop μ-loop
+loop-less c = search needs
+
+loop-again : tie.Need-loop-again Inv-loop μ-loop
+loop-again c =
+    let t = c .before .before .before in
+    let l = t .before .loop in
+    let s = t .before .before .before .args .s .now in
+    (omega arith, plain-next s (l .i) (l .fine) _ (l .inv .0) (t .loop-test .taken) (c .is-plain .ensures) ∙ l .inv .1)
+
+returns : tie.Need-returns Inv-loop μ-loop
+returns c =
+    let l = c .before .loop in
+    plain-end (c .before .before .before .args .s .now) (l .i) (l .fine) (l .inv .0) (c .loop-test .left) ∙ l .inv .1
+
+pub all-plain-spec : {M : Type 1} → statement M
+all-plain-spec =
+    tie.close
+    (tie.spec
+    Inv-loop
+    μ-loop
+    loop-holds
+    sub-is-plain
+    shared-slice-read-is-plain
+    shared-slice-read-is-plain-2
+    is-plain-requires
+    add-i
+    loop-less
+    loop-again
+    returns)
