@@ -14,7 +14,7 @@ use Rattle.codes.specs.Codes.{codesFit}
 
 -- A RANK belongs to one word: the word that stands there in the list
 
-ranked : (k : ℕ) (w : Word) (vs : List Word) → (rankFrom k w vs ≡ 0 → ⊥) → (k ≤ rankFrom k w vs) × (getD vs (rankFrom k w vs - k) [] ≡ w)
+pub ranked : (k : ℕ) (w : Word) (vs : List Word) → (rankFrom k w vs ≡ 0 → ⊥) → (k ≤ rankFrom k w vs) × (getD vs (rankFrom k w vs - k) [] ≡ w)
 ranked k w [] h = absurd (h refl)
 ranked k w (v ∷ vs) h = go (ranked (suc k) w vs) (same w v) refl h
   where

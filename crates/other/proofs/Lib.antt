@@ -4,6 +4,7 @@ pub mod Elements
 pub mod Items
 pub mod Index
 pub mod Runs
+pub mod Ranks
 pub mod Plain
 pub mod Keys
 pub mod Field18

@@ -169,6 +169,15 @@ ruleIn ed k = getD (ed .rules) (k - 1) Free
 abbrev pub ruleUnder : Edition18 → Word → Rule
 ruleUnder ed key = ruleIn ed (rankIn ed key)
 
+-- no two of some words are equal
+abbrev pub distinct : List Word → Bool
+distinct [] = true
+distinct (v ∷ vs) = not (elem v vs) && distinct vs
+
+-- the keys of an edition are of signs, and no two are equal
+unfoldable pub soundKeys : Edition18 → Bool
+soundKeys ed = all (all sign) (ed .keys) && distinct (ed .keys)
+
 -- the edition of document 01
 unfoldable pub base : Edition18
 base =
@@ -212,6 +221,10 @@ ruled-keys = (refl, refl, refl, refl, refl, refl, refl, refl)
 
 marked : edition (split 32 (bytes "STS DOF RMK")) (bytes "SD.") ≡ editionOf ((bytes "STS", Status) ∷ (bytes "DOF", Day) ∷ (bytes "RMK", Free) ∷ [])
 marked = refl
+
+sound : (soundKeys base ≡ true) × (distinct (split 32 (bytes "STS DOF STS")) ≡ false)
+unfolding soundKeys base
+sound = (refl, refl)
 
 dates : (date (bytes "240229") ≡ true) × (date (bytes "230229") ≡ false) × (date (bytes "231231") ≡ true)
     × (date (bytes "231301") ≡ false) × (date (bytes "230100") ≡ false)

@@ -5,9 +5,10 @@ ghost use mathlib.Core.List.{[]};
 ghost use Prim.Native.Nat.{ℕ, _+_, _-_, _≤_, _<_};
 ghost use lib.Dec.{eqb};
 ghost use lib.ListN.{length, take, drop, getD};
-ghost use Rattle.alphabet.specs.Alphabet.{oneOf, sign, text};
+ghost use Rattle.alphabet.specs.Alphabet.{oneOf, text};
 ghost use Rattle.text.specs.Words.{split, after, upTo, all, free, elem, cells};
-ghost use Rattle.other.specs.Rules.{statuses, approved, daysIn, date, elapsedIn, selcal, address, wordFits, single, moreFits, ruleIn, ruleOf, edition};
+ghost use Rattle.other.specs.Rules.{statuses, approved, daysIn, date, elapsedIn, selcal, address, wordFits, single, moreFits};
+ghost use Rattle.other.specs.Rules.{ruleIn, ruleOf, edition, soundKeys};
 ghost use Rattle.other.specs.Plain.{plain, allPlain};
 ghost use Rattle.other.specs.Field18.{fitFrom, fitMore, fitsIn, fits18, hasKey, wordsUnder, wordsFrom, Found};
 
@@ -296,11 +297,11 @@ fn past_free(rule: Rule, s: &[u8], e: usize) -> usize
 // The item that begins at `at`, its key behind the one at place `last`, with all that follows it. The oblique behind its key stands at `o`.
 fn item(keys: &[u8], rules: &[u8], s: &[u8], at: usize, o: usize, last: usize) -> bool
     requires { ⌜ (at ≤ o) × (o < length (now s)) × (getD (now s) o 0 ≡ 47) × (all text (take (o - at) (drop at (now s))) ≡ true) ⌝ }
-    requires { ⌜ all (all sign) (cells 4 (now keys)) ≡ true ⌝ }
+    requires { ⌜ soundKeys (edition (cells 4 (now keys)) (now rules)) ≡ true ⌝ }
     ensures { λ r. ⌜ r ≡ fitFrom (edition (cells 4 (now (keys .entry))) (now (rules .entry))) last (split 32 (drop at (now (s .entry)))) ⌝ }
 {
-    let k = text::rank_in_cells(&s[at..o], 4, keys);
-    if k <= last {
+    let k = text::rank_behind(&s[at..o], 4, keys, last);
+    if k == 0 {
         return false;
     }
     let from = o + 1;
@@ -318,7 +319,7 @@ fn item(keys: &[u8], rules: &[u8], s: &[u8], at: usize, o: usize, last: usize) -
 // are all of it, or the key of the next item; with any other byte behind them it does not fit, since no key and no rule has such a byte.
 fn words(keys: &[u8], rules: &[u8], s: &[u8], end: usize, k: usize) -> bool
     requires { ⌜ (end ≤ length (now s)) × (0 < k) × (upTo 32 (drop end (now s)) ≡ 0) ⌝ }
-    requires { ⌜ all (all sign) (cells 4 (now keys)) ≡ true ⌝ }
+    requires { ⌜ soundKeys (edition (cells 4 (now keys)) (now rules)) ≡ true ⌝ }
     ensures { λ r. ⌜ r ≡ fitMore (edition (cells 4 (now (keys .entry))) (now (rules .entry))) k (after 32 (drop end (now (s .entry)))) ⌝ }
 {
     let rule = rule_at(rules, k);
@@ -344,7 +345,7 @@ fn words(keys: &[u8], rules: &[u8], s: &[u8], end: usize, k: usize) -> bool
 
 // Whether a content fits the form in an edition: its keys, in cells of four bytes, and a mark for the rule of each.
 fn fits_edition(keys: &[u8], rules: &[u8], s: &[u8]) -> bool
-    requires { ⌜ all (all sign) (cells 4 (now keys)) ≡ true ⌝ }
+    requires { ⌜ soundKeys (edition (cells 4 (now keys)) (now rules)) ≡ true ⌝ }
     ensures { λ r. ⌜ r ≡ fitsIn (edition (cells 4 (now (keys .entry))) (now (rules .entry))) (now (s .entry)) ⌝ }
 {
     if text::same_bytes(s, b"0") {

@@ -21,8 +21,8 @@ use Rattle.places.proofs.Given.{given-some, given-zero, or-some}
 use Rattle.entries.specs.Entries.{Entry, entryPlace, entriesPlace}
 use Rattle.places.proofs.Larger.{larger-assoc, larger-none}
 use Rattle.other.specs.declared.Rule.{Rule}
-use Rattle.other.specs.Rules.{Edition18, rankIn, ruleIn, wordFits, moreFits, date}
-use Rattle.other_places.specs.Places.{signsTime, rulePlace, keyed, laterKeys, laterPlace, itemAfter, items, rankedAfter, itemsWord, distinct, soundKeys}
+use Rattle.other.specs.Rules.{Edition18, rankIn, ruleIn, wordFits, moreFits, date, distinct, soundKeys}
+use Rattle.other_places.specs.Places.{signsTime, rulePlace, keyed, laterKeys, laterPlace, itemAfter, items, rankedAfter, itemsWord}
 use Rattle.other_places.proofs.Dates.{date-six}
 use Rattle.other_places.proofs.Rules.{rule-right}
 use Rattle.other_places.proofs.Places.{word-right}

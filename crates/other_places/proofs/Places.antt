@@ -25,9 +25,9 @@ use Rattle.places.proofs.Words.{none-fits, words-place}
 use Rattle.entries.specs.Entries.{anyEntry, matched, entriesPlace}
 use Rattle.entries.proofs.Entries.{AllRight, none-left, and-then, label-place, same-swap, entries-place}
 use Rattle.other.specs.declared.Rule.{Rule}
-use Rattle.other.specs.Rules.{Edition18, base, rankIn, ruleIn, wordFits, moreFits, single}
+use Rattle.other.specs.Rules.{Edition18, base, rankIn, ruleIn, wordFits, moreFits, single, distinct, soundKeys}
 use Rattle.other.specs.Field18.{fitFrom, fitMore, fitsIn, fits18}
-use Rattle.other_places.specs.Places.{rulePlace, keyed, laterKeys, itemAfter, items, morePlace, itemsWord, itemsPlace, distinct, soundKeys, place18}
+use Rattle.other_places.specs.Places.{rulePlace, keyed, laterKeys, itemAfter, items, morePlace, itemsWord, itemsPlace, place18}
 use Rattle.other.proofs.Texts.{word-text}
 use Rattle.other.proofs.Index.{fit-step, more-step}
 use Rattle.other_places.proofs.Rules.{rule-right, rule-one}

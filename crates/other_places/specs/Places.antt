@@ -3,14 +3,14 @@
 use Prim.Native.Nat.{ℕ, zero, suc}
 use Prim.Native.String.{String}
 use mathlib.Core.Path.{_≡_, refl}
-use mathlib.Core.Bool.{Bool, true, false, _&&_, _||_, not, cond}
+use mathlib.Core.Bool.{Bool, false, _&&_, _||_, not, cond}
 use mathlib.Core.List.{List, [], _∷_, _++_}
 use mathlib.Core.Option.{Option}
 use lib.Dec.{ltb}
 use lib.ListN.{length, drop}
 use Rattle.alphabet.specs.Text.{bytes}
 use Rattle.alphabet.specs.Alphabet.{letter, sign, text, inAlphabet, white, oneOf}
-use Rattle.text.specs.Words.{Word, split, holds, before, behind, all, elem, leading}
+use Rattle.text.specs.Words.{Word, split, holds, before, behind, leading}
 use Rattle.shape.specs.Shape.{letters}
 use Rattle.shape.specs.Time.{timeFits, elapsedHours}
 use Rattle.places.specs.Parts.{larger, noMore, fixedPlace, timePlace, passes}
@@ -90,14 +90,6 @@ itemsWord ed k w = larger (morePlace ed k w) (keysPlace ed k w)
 
 unfoldable pub itemsPlace : Edition18 → List ℕ → ℕ
 itemsPlace ed s = wordsPlace (items ed) (itemsWord ed) 0 (split 32 s)
-
--- the keys of an edition are of signs, and no two are equal
-abbrev pub distinct : List Word → Bool
-distinct [] = true
-distinct (v ∷ vs) = not (elem v vs) && distinct vs
-
-unfoldable pub soundKeys : Edition18 → Bool
-soundKeys ed = all (all sign) (ed .keys) && distinct (ed .keys)
 
 -- `0` alone, or items
 unfoldable pub place18 : Edition18 → List ℕ → ℕ

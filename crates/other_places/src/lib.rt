@@ -9,10 +9,10 @@ ghost use Rattle.text.specs.Words.{before, cells, leading};
 ghost use Rattle.shape.specs.Time.{elapsedHours};
 ghost use Rattle.places.specs.Parts.{fixedPlace, timePlace, passes};
 ghost use Rattle.entries.specs.Entries.{entryPlace};
-ghost use Rattle.other.specs.Rules.{date, edition, base};
+ghost use Rattle.other.specs.Rules.{date, edition, base, soundKeys};
 ghost use Rattle.other.specs.declared.Rule.the-variants.{Status, Approvals, Selcal, Address, Free};
 ghost use Rattle.other_places.specs.Places.{dateGo, signsTime, rulePlace, keyed, laterPlace, keysPlace};
-ghost use Rattle.other_places.specs.Places.{items, rankedAfter, morePlace, itemsWord, itemsPlace, soundKeys, place18};
+ghost use Rattle.other_places.specs.Places.{items, rankedAfter, morePlace, itemsWord, itemsPlace, place18};
 use other::Rule;
 
 // Whether some bytes are a date with what six others have behind as many.

@@ -1,16 +1,17 @@
 -- What ties the definitions, which go by structure, to code that walks an index: of each, where it stops, the next step and the end.
 -- Assumes nothing.
-use Prim.Native.Nat.{ℕ, zero, suc, _+_, _-_, _<_, _≤_}
+use Prim.Native.Nat.{ℕ, zero, suc, _+_, _-_, _*_, _/_, _<_, _≤_}
 use mathlib.Core.Path.{_≡_, refl, sym, ap, _∙_}
 use mathlib.Core.Bool.{Bool, true, false, cond, not, _&&_, and-assoc, and-true}
 use mathlib.Core.List.{List, [], _∷_}
 use native.Mathlib.Omega.{arith}
 use native.Mathlib.Numerals.{add-one}
-use lib.Dec.{eqb}
+use native.Mathlib.Nat.{add-comm, zero-mul, suc-mul, div-le-self, le-div-iff-mul-le, div-lt-iff-lt-mul}
+use lib.Dec.{leb, eqb}
 use lib.ListN.{length, take, drop, getD, drop-of-length-le, length-drop}
 use lib.Seq.{drop-cons, drop-drop, take-all}
 use lib.Arith.{lt-of-le-ne}
-use borrow.Author.Tests.{eq-eqb, ne-eqb, lt-ltb, le-ltb, le-leb, lt-leb, not-true}
+use borrow.Author.Tests.{eq-eqb, ne-eqb, lt-ltb, le-ltb, le-leb, lt-leb, leb-false, not-true}
 use Rattle.text.specs.Words.{Word, split, onto, after, upTo, holds, before, behind, leading, all, free, null, same, rankFrom, firstCells, cells}
 use Rattle.text.specs.Places.{Stepped}
 use Rattle.text.proofs.Tests.{both}
@@ -213,6 +214,47 @@ cellsFrom k n at s = firstCells (length s + 1 - k) n (drop at s)
 
 pub all-cells : (n : ℕ) (s : List ℕ) → cells n s ≡ cellsFrom 1 n 0 s
 all-cells n s = let m : length s ≡ length s + 1 - 1 = omega arith in ap (λ (m : ℕ). firstCells m n s) m
+
+drop-first : (k m n : ℕ) (s : List ℕ) → 0 < n → drop k (firstCells m n s) ≡ firstCells (m - k) n (drop (k * n) s)
+drop-first zero m n s h = let e : m - 0 ≡ m = omega arith in rw (e, zero-mul n)
+drop-first (suc k) zero n s h = let e : 0 - suc k ≡ 0 = omega arith in rw e
+drop-first (suc k) (suc m) n s h = go (drop-first k m n (drop n s) h) (leb n (length s)) refl
+  where
+    e : suc m - suc k ≡ m - k
+    e = omega arith
+
+    rest-of : drop (suc k * n) s ≡ drop (k * n) (drop n s)
+    rest-of = ap (λ (i : ℕ). drop i s) (suc-mul k n ∙ add-comm (k * n) n) ∙ sym (drop-drop (k * n) n s)
+
+    none : (j : ℕ) → firstCells j n [] ≡ []
+    none zero = refl
+    none (suc j) = rw (lt-leb n 0 h)
+
+    go : drop k (firstCells m n (drop n s)) ≡ firstCells (m - k) n (drop (k * n) (drop n s)) → (b : Bool) → leb n (length s) ≡ b
+        → drop (suc k) (cond b (before 32 (take n s) ∷ firstCells m n (drop n s)) []) ≡ firstCells (suc m - suc k) n (drop (suc k * n) s)
+    go ih true q = rw (e, rest-of) ih
+    go ih false q =
+        let l : length s ≤ n = omega (arith, leb-false n (length s) q) in
+        rw (rest-of, drop-end s n l, drop-end [] (k * n) (omega arith)) (sym (none (suc m - suc k)))
+
+-- those behind the first k
+pub drop-cells : (k n : ℕ) (s : List ℕ) → 0 < n → drop k (cells n s) ≡ cellsFrom (k + 1) n (k * n) s
+drop-cells k n s h =
+    let e : length s - k ≡ length s + 1 - (k + 1) = omega arith in
+    drop-first k (length s) n s h ∙ ap (λ (m : ℕ). firstCells m n (drop (k * n) s)) e
+
+pub next-place : (k n : ℕ) → (k + 1) * n ≡ k * n + n
+next-place k n = rw (add-one k) (suc-mul k n)
+
+module _ (k n : ℕ) (s : List ℕ) (h : 0 < n) where
+  -- a cell stands behind the first k, or none
+  pub cell-inside : k < length s / n → (k < length s) × (k * n + n ≤ length s)
+  cell-inside l =
+      let m : k + 1 ≤ length s / n = omega arith in
+      (omega (arith, div-le-self (length s) n), omega (arith, le-div-iff-mul-le h .0 m, next-place k n))
+
+  pub cells-over : length s / n ≤ k → length s - k * n < n
+  cells-over l = let m : length s / n < k + 1 = omega arith in omega (arith, div-lt-iff-lt-mul h .0 m, next-place k n)
 
 module _ (k n at : ℕ) (w : Word) (s : List ℕ) where
   -- whether the cell here, as Rattle says it of `&s[at..at + n]`, holds the word

@@ -2,7 +2,7 @@
 ghost use mathlib.Core.Path.{_≡_};
 ghost use Prim.Native.Nat.{ℕ, _+_, _≤_, _<_};
 ghost use lib.ListN.{length, drop, getD};
-ghost use Rattle.text.specs.Words.{split, upTo, before, leading, all, free, textWord, same, elem, rank, cells};
+ghost use Rattle.text.specs.Words.{split, upTo, before, leading, all, free, textWord, same, elem, rank, rankFrom, cells};
 ghost use Rattle.text.specs.Kinds.{ofKind};
 ghost use Rattle.text.specs.Places.{Stepped};
 ghost use Rattle.text.specs.Lent.{front};
@@ -173,22 +173,29 @@ fn in_cell(w: &[u8], cell: &[u8]) -> bool
     same_bytes(w, &cell[..e])
 }
 
-// The place of w in a list in cells of so many bytes, counted from 1; 0 where it has none.
+// The place of w in a list in cells of so many bytes, counted from 1 and looked for behind the first `last` cells; 0 where it has none there.
+pub fn rank_behind(w: &[u8], width: usize, list: &[u8], last: usize) -> usize
+    requires { ⌜ 0 < width ⌝ }
+    ensures { λ r. ⌜ r ≡ rankFrom (last + 1) (now (w .entry)) (drop last (cells width (now (list .entry)))) ⌝ }
+{
+    let n = list.len() / width;
+    let mut k = last;
+    while k < n {
+        let at = k * width;
+        if in_cell(w, &list[at..at + width]) {
+            return k + 1;
+        }
+        k += 1;
+    }
+    0
+}
+
+// The place of w in such a list; 0 where it has none.
 pub fn rank_in_cells(w: &[u8], width: usize, list: &[u8]) -> usize
     requires { ⌜ 0 < width ⌝ }
     ensures { λ r. ⌜ r ≡ rank (now (w .entry)) (cells width (now (list .entry))) ⌝ }
 {
-    let mut at = 0;
-    let mut k = 1;
-    while width <= list.len() - at {
-        let e = at + width;
-        if in_cell(w, &list[at..e]) {
-            return k;
-        }
-        at = e;
-        k += 1;
-    }
-    0
+    rank_behind(w, width, list, 0)
 }
 
 // Whether w is one of the words of a list in cells of so many bytes.

@@ -1,5 +1,5 @@
 -- `other::item` and `other::words`, which call one another, meet their contracts. The measure of both is the bytes left. Assumes nothing.
-use mathlib.Core.Path.{_≡_, sym, ap, _∙_}
+use mathlib.Core.Path.{_≡_, refl, sym, ap, _∙_}
 use mathlib.Core.Bool.{Bool, true, false, _&&_}
 use mathlib.Core.List.{List}
 use native.Mathlib.Omega.{arith}
@@ -9,9 +9,10 @@ use Rattle.alphabet.specs.Alphabet.{text}
 use Rattle.text.specs.Words.{split, after, all, cells}
 use Rattle.text.proofs.Index.{after-here, after-end}
 use Rattle.other.specs.declared.Rule.{Rule}
-use Rattle.other.specs.Rules.{Edition18, edition, ruleIn, wordFits, moreFits}
+use Rattle.other.specs.Rules.{Edition18, edition, rankIn, ruleIn, wordFits, moreFits}
 use Rattle.other.specs.Field18.{fitFrom, fitMore}
 use Rattle.other.proofs.Runs.{run-all, not-over, item-late, item-odd, item-word, more-word, more-from, more-other}
+use Rattle.other.proofs.Ranks.{signs-only, not-later, later}
 use Rattle.other.proofs.Plain.{more-over}
 use borrow.Author.Needs.{needs}
 use Prim.Native.Nat.{ℕ, _+_, _-_, _<_, _≤_}
@@ -30,7 +31,7 @@ use Rattle.other.proofs.rule_at.Reads as rule-at-reads
 use Rattle.other.proofs.text_fits.Reads as text-fits-reads
 use Rattle.other.proofs.word_ends.Reads as word-ends-reads
 use Rattle.text.proofs.end_of.Reads as end-of-reads
-use Rattle.text.proofs.rank_in_cells.Reads as rank-in-cells-reads
+use Rattle.text.proofs.rank_behind.Reads as rank-behind-reads
 use Rattle.other.proofs.+item+words.{statement}
 use Rattle.other.proofs.+item+words.Tie.{close}
 
@@ -54,8 +55,8 @@ words-below t = and 3 words-kinds.ps (falls 3 words-kinds.ps _<_ μ-words t) wor
 
 abbrev item-calls : ℕ → item-lts.Claims
 item-calls t = (
-  rank-in-cells-reads.Asked,
-  rank-in-cells-reads.Learnt,
+  rank-behind-reads.Asked,
+  rank-behind-reads.Learnt,
   end-of-reads.Asked,
   end-of-reads.Learnt,
   word-ends-reads.Asked,
@@ -96,8 +97,8 @@ abbrev words-μ : words-lts.MeasureT-loop
 words-μ keys rules s end k rule e₀ e = length s - e
 
 -- where `item` knows its key
-module _ (t : ℕ) (c : item-lts.After-rank-in-cells (item-calls t) (item-given t) item.Post) where
-  abbrev item-sought : item-lts.After-rank-in-cells-arg (item-calls t) (item-given t) item.Post
+module _ (t : ℕ) (c : item-lts.After-rank-behind (item-calls t) (item-given t) item.Post) where
+  abbrev item-sought : item-lts.After-rank-behind-arg (item-calls t) (item-given t) item.Post
   item-sought = c .before
 
   abbrev item-start : item-lts.Start (item-calls t) (item-given t) item.Post
@@ -109,6 +110,9 @@ module _ (t : ℕ) (c : item-lts.After-rank-in-cells (item-calls t) (item-given 
   abbrev item-edition : Edition18
   item-edition = edition (cells 4 (item-start .args .keys .now)) (item-start .args .rules .now)
 
+  abbrev item-key : List ℕ
+  item-key = take (item-start .args .o - item-start .args .at) (drop (item-start .args .at) item-content)
+
   abbrev item-whole : Bool
   item-whole = fitFrom item-edition (item-start .args .last) (split 32 (drop (item-start .args .at) item-content))
 
@@ -117,11 +121,18 @@ module _ (t : ℕ) (c : item-lts.After-word-ends (item-calls t) (item-given t) i
   abbrev item-ended : item-lts.After-end-of (item-calls t) (item-given t) item.Post
   item-ended = c .before
 
-  abbrev item-known : item-lts.After-rank-in-cells (item-calls t) (item-given t) item.Post
+  abbrev item-known : item-lts.After-rank-behind (item-calls t) (item-given t) item.Post
   item-known = item-ended .before .before
 
   abbrev item-rank : ℕ
-  item-rank = item-known .rank-in-cells .result
+  item-rank = item-known .rank-behind .result
+
+  item-ranked : (item-rank ≡ rankIn (item-edition t item-known) (item-key t item-known)) × (item-start t item-known .args .last < item-rank)
+  item-ranked =
+      let a = item-start t item-known .args in
+      let b = item-known .rank-behind in
+      later (item-edition t item-known) (item-start t item-known .pre .1 .1) (a .last) (item-key t item-known) (b .result) (b .ensures)
+      (item-ended .before .if1 .left)
 
   abbrev item-end : ℕ
   item-end = item-ended .end-of .result
@@ -138,7 +149,7 @@ module _ (t : ℕ) (c : item-lts.After-word-ends (item-calls t) (item-given t) i
       let p = item-start t item-known .pre .1 in
       let f = item-ended .end-of .ensures in
       item-odd (a .s .now) (a .at) (a .o) (p .0 .0) (p .0 .1) (p .0 .2) (p .0 .3) (item-edition t item-known) (a .last) item-rank
-      (item-known .rank-in-cells .ensures) item-end (f .0) (f .1 .1) (sym (c .word-ends .ensures) ∙ n)
+      (item-ranked .0) item-end (f .0) (f .1 .1) (sym (c .word-ends .ensures) ∙ n)
 
   item-parts : c .word-ends .result ≡ true
       → item-whole t item-known
@@ -150,7 +161,7 @@ module _ (t : ℕ) (c : item-lts.After-word-ends (item-calls t) (item-given t) i
       let p = item-start t item-known .pre .1 in
       let f = item-ended .end-of .ensures in
       item-word (a .s .now) (a .at) (a .o) (p .0 .0) (p .0 .1) (p .0 .2) (p .0 .3) (item-edition t item-known) (a .last) item-rank
-      (item-known .rank-in-cells .ensures) item-end (f .0) (f .1 .1) (sym (c .word-ends .ensures) ∙ q)
+      (item-ranked .0) item-end (f .0) (f .1 .1) (sym (c .word-ends .ensures) ∙ q)
 
 -- where `words` knows whether a word ends with its text bytes
 module _ (t : ℕ) (c : words-lts.After-word-ends (words-calls t) (words-given t) words.Post words-Inv words-μ) where
@@ -217,28 +228,30 @@ module _ (t : ℕ) (c : words-lts.After-word-ends (words-calls t) (words-given t
     words-none b =
         words-reached
         ∙ more-other words-content words-at words-end (words-ended .end-of .ensures .0) words-most words-edition words-key (sym (c .word-ends .ensures) ∙ n)
-        (words-start .pre .1 .1) b
+        (signs-only words-edition (words-start .pre .1 .1)) b
 
-item-sub-rank-in-cells : (t : ℕ) → item-lts.Need-sub-rank-in-cells (item-calls t) (item-given t) item.Post
-item-sub-rank-in-cells t c = search needs
+item-sub-rank-behind : (t : ℕ) → item-lts.Need-sub-rank-behind (item-calls t) (item-given t) item.Post
+item-sub-rank-behind t c = search needs
 
-item-part-rank-in-cells-start : (t : ℕ) → item-lts.Need-part-rank-in-cells-start (item-calls t) (item-given t) item.Post
-item-part-rank-in-cells-start t c = search needs
+item-part-rank-behind-start : (t : ℕ) → item-lts.Need-part-rank-behind-start (item-calls t) (item-given t) item.Post
+item-part-rank-behind-start t c = search needs
 
-item-part-rank-in-cells-end : (t : ℕ) → item-lts.Need-part-rank-in-cells-end (item-calls t) (item-given t) item.Post
-item-part-rank-in-cells-end t c = search needs
+item-part-rank-behind-end : (t : ℕ) → item-lts.Need-part-rank-behind-end (item-calls t) (item-given t) item.Post
+item-part-rank-behind-end t c = search needs
 
-item-rank-in-cells-requires : (t : ℕ) → item-lts.Need-rank-in-cells-requires (item-calls t) (item-given t) item.Post
-item-rank-in-cells-requires t c κs = search needs
+item-rank-behind-requires : (t : ℕ) → item-lts.Need-rank-behind-requires (item-calls t) (item-given t) item.Post
+item-rank-behind-requires t c κs = search needs
 
 item-returns : (t : ℕ) → item-lts.Need-returns (item-calls t) (item-given t) item.Post
 item-returns t c =
     let r = c .before in
     let a = item-start t r .args in
     let p = item-start t r .pre .1 in
+    let ed = item-edition t r in
+    let b = r .rank-behind in
     sym
-    (item-late (item-content t r) (a .at) (a .o) (p .0 .0) (p .0 .1) (p .0 .2) (p .0 .3) (item-edition t r) (a .last) (r .rank-in-cells .result)
-    (r .rank-in-cells .ensures) (c .if1 .taken))
+    (item-late (item-content t r) (a .at) (a .o) (p .0 .0) (p .0 .1) (p .0 .2) (p .0 .3) ed (a .last) (rankIn ed (item-key t r)) refl
+    (not-later ed (p .1) (a .last) (item-key t r) (b .result) (b .ensures) (c .if1 .taken)))
 
 item-add-from : (t : ℕ) → item-lts.Need-add-from (item-calls t) (item-given t) item.Post
 item-add-from t c = search needs
@@ -274,7 +287,7 @@ item-returns-3 t c =
     let r = c .before .before .before in
     let w = r .before .before in
     let e : wordFits (r .rule-at .result) (item-first t w) ≡ false = sym (c .before .text-fits .ensures) ∙ not-true _ (c .if3 .taken) in
-    rw (item-parts t w (not-false _ (r .before .if2 .left)), lt-ltb _ _ (item-ended t w .before .if1 .left), ← r .rule-at .ensures, e)
+    rw (item-parts t w (not-false _ (r .before .if2 .left)), lt-ltb _ _ (item-ranked t w .1), ← r .rule-at .ensures, e)
 
 item-words-requires : (t : ℕ) → item-lts.Need-words-requires (item-calls t) (item-given t) item.Post
 item-words-requires t c κs =
@@ -290,7 +303,7 @@ item-returns-4 t c =
     let r = c .before .before .before .before in
     let w = r .before .before in
     let e : wordFits (r .rule-at .result) (item-first t w) ≡ true = sym (c .before .before .text-fits .ensures) ∙ not-false _ (c .before .if3 .left) in
-    rw (item-parts t w (not-false _ (r .before .if2 .left)), lt-ltb _ _ (item-ended t w .before .if1 .left), ← r .rule-at .ensures, e, r .rule-at .ensures)
+    rw (item-parts t w (not-false _ (r .before .if2 .left)), lt-ltb _ _ (item-ranked t w .1), ← r .rule-at .ensures, e, r .rule-at .ensures)
     (c .words .ensures)
 
 words-rule-at-requires : (t : ℕ) → words-lts.Need-rule-at-requires (words-calls t) (words-given t) words.Post words-Inv words-μ
@@ -399,10 +412,10 @@ pub +item+words-spec : {M : Type 1} → statement M
 +item+words-spec = close μ-item μ-words (λ t. item-lts.spec (item-calls t)
     (item-given t)
     item.Post
-    (item-sub-rank-in-cells t)
-    (item-part-rank-in-cells-start t)
-    (item-part-rank-in-cells-end t)
-    (item-rank-in-cells-requires t)
+    (item-sub-rank-behind t)
+    (item-part-rank-behind-start t)
+    (item-part-rank-behind-end t)
+    (item-rank-behind-requires t)
     (item-returns t)
     (item-add-from t)
     (item-end-of-requires t)

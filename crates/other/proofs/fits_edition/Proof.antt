@@ -9,6 +9,7 @@ use Rattle.text.specs.Words.{split, cells}
 use Rattle.other.specs.Rules.{Edition18, edition}
 use Rattle.other.specs.Field18.{fitFrom, fitsIn}
 use Rattle.other.proofs.Runs.{run-all, not-over, from-word, from-other}
+use Rattle.other.proofs.Ranks.{signs-only}
 use borrow.Author.Needs.{needs}
 use Rattle.other.proofs.fits_edition.Statement.{statement}
 use Rattle.other.proofs.fits_edition.Tie as tie
@@ -74,9 +75,10 @@ returns-3 c =
     let e = c .before .before in
     let w = e .before in
     let f = ended w .end-of in
+    let n = signs-only (ed w) (start w .pre) in
     sym
     (items-only w
-    ∙ from-other (content w) 0 (f .result) (f .ensures .0) (most w) (ed w) 0 (sym (w .word-ends .ensures) ∙ e .if2 .left) (start w .pre) (c .if3 .taken))
+    ∙ from-other (content w) 0 (f .result) (f .ensures .0) (most w) (ed w) 0 (sym (w .word-ends .ensures) ∙ e .if2 .left) n (c .if3 .taken))
 
 item-requires : tie.Need-item-requires
 item-requires c κs =

@@ -1,5 +1,6 @@
 -- `other::fits_field18` meets its contract. Assumes nothing.
-use Rattle.other.specs.Rules.{base}
+use mathlib.Core.Path.{refl}
+use Rattle.other.specs.Rules.{base, soundKeys}
 use borrow.Author.Needs.{needs}
 use Rattle.other.proofs.fits_field18.Statement.{statement}
 use Rattle.other.proofs.fits_field18.Tie as tie
@@ -11,7 +12,8 @@ slice-aggregate-fits-edition-2 : tie.Need-slice-aggregate-fits-edition-2
 slice-aggregate-fits-edition-2 c = search needs
 
 fits-edition-requires : tie.Need-fits-edition-requires
-fits-edition-requires c κs = search needs
+unfolding soundKeys
+fits-edition-requires c κs = refl
 
 returns : tie.Need-returns
 unfolding base

@@ -1,8 +1,8 @@
 -- `other_places::place_field18` meets its contract. Assumes nothing.
 use mathlib.Core.Path.{refl, ap, _∙_}
 use Rattle.places.specs.Parts.{larger}
-use Rattle.other.specs.Rules.{base}
-use Rattle.other_places.specs.Places.{soundKeys, place18}
+use Rattle.other.specs.Rules.{base, soundKeys}
+use Rattle.other_places.specs.Places.{place18}
 use borrow.Author.Needs.{needs}
 use Rattle.other_places.proofs.place_field18.Statement.{statement}
 use Rattle.other_places.proofs.place_field18.Tie as tie
