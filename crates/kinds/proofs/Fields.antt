@@ -9,7 +9,7 @@ use lib.Dec.{eqb, leb}
 use lib.ListN.{length, getD, length-append, List·getD-eq-default}
 use Rattle.text.specs.Words.{all}
 use Rattle.text.proofs.Tests.{both}
-use Rattle.kinds.specs.Kinds.{leastOf, greatestOf, entries, formsOf, formAt, RowFor, typesRead}
+use Rattle.kinds.specs.Kinds.{leastOf, greatestOf, entries, formsOf, formAt, mostFields, RowFor, typesRead}
 use Rattle.kinds.specs.Kinds.{planForms, briefForms, requestForms, arrivalForms, divertedForms, supplementForms}
 use Rattle.kinds.specs.declared.MessageType.{MessageType}
 use Rattle.kinds.specs.declared.MessageType.the-variants.{Chg}
@@ -34,7 +34,7 @@ pub change-at : (n j : ℕ) → formAt Chg n j ≡ getD briefForms j Field22
 unfolding formAt formsOf
 change-at n j = entries-behind briefForms (n - 5) j
 
--- as the code has a row: entries up to the tenth
+-- as the code has a row: entries up to its end
 row-at : (fs : List Form) (k j : ℕ) → j < length (fs ++ entries k) → getD (fs ++ entries k) j Field3 ≡ getD fs j Field22
 row-at [] zero j h = absurd (omega arith)
 row-at [] (suc k) zero h = refl
@@ -42,7 +42,7 @@ row-at [] (suc k) (suc j) h = row-at [] k j (omega arith)
 row-at (f ∷ fs) k zero h = refl
 row-at (f ∷ fs) k (suc j) h = row-at fs k j (omega arith)
 
-pub row-of : (t : MessageType) (n : ℕ) (fs : List Form) (k : ℕ) → ((j : ℕ) → formAt t n j ≡ getD fs j Field22) → length (fs ++ entries k) ≡ 10
+pub row-of : (t : MessageType) (n : ℕ) (fs : List Form) (k : ℕ) → ((j : ℕ) → formAt t n j ≡ getD fs j Field22) → length (fs ++ entries k) ≡ mostFields
     → RowFor t n (fs ++ entries k)
 row-of t n fs k e l j = (
   λ h. row-at fs k j (omega (arith, l)) ∙ sym (e j),

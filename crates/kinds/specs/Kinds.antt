@@ -89,9 +89,13 @@ formsOf t n = rowOf t .forms n
 unfoldable pub formAt : MessageType → ℕ → ℕ → Form
 formAt t n j = getD (formsOf t n) j Field22
 
--- the forms of its first ten fields, with entries behind the last one
+-- the most fields that a message of any type may have
+abbrev pub mostFields : ℕ
+mostFields = 13
+
+-- a row of so many forms: those of the fields in order, with entries behind the last one
 abbrev pub RowFor : MessageType → ℕ → List Form → Type 0
-RowFor t n fs = (j : ℕ) → (j < 10 → getD fs j Field3 ≡ formAt t n j) × (10 ≤ j → Field22 ≡ formAt t n j)
+RowFor t n fs = (j : ℕ) → (j < mostFields → getD fs j Field3 ≡ formAt t n j) × (mostFields ≤ j → Field22 ≡ formAt t n j)
 
 -- the number of a form's field
 abbrev pub numberOf : Form → ℕ

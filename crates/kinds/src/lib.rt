@@ -83,7 +83,7 @@ pub enum Named {
 
 // THE FORMS OF EACH TYPE'S FIELDS, in order
 
-const PLAN_ROW: [Form; 10] = [
+const PLAN_ROW: [Form; MessageType::MOST_FIELDS] = [
     Form::Field3,
     Form::Field7,
     Form::Field8,
@@ -94,10 +94,13 @@ const PLAN_ROW: [Form; 10] = [
     Form::Field16Plan,
     Form::Field18,
     Form::Field22,
+    Form::Field22,
+    Form::Field22,
+    Form::Field22,
 ];
 
 // CNL, DLA, DEP, RQS, and CHG, where entries follow.
-const BRIEF_ROW: [Form; 10] = [
+const BRIEF_ROW: [Form; MessageType::MOST_FIELDS] = [
     Form::Field3,
     Form::Field7,
     Form::Field13,
@@ -108,9 +111,12 @@ const BRIEF_ROW: [Form; 10] = [
     Form::Field22,
     Form::Field22,
     Form::Field22,
+    Form::Field22,
+    Form::Field22,
+    Form::Field22,
 ];
 
-const REQUEST_ROW: [Form; 10] = [
+const REQUEST_ROW: [Form; MessageType::MOST_FIELDS] = [
     Form::Field3,
     Form::Field7,
     Form::Field13Open,
@@ -121,9 +127,12 @@ const REQUEST_ROW: [Form; 10] = [
     Form::Field22,
     Form::Field22,
     Form::Field22,
+    Form::Field22,
+    Form::Field22,
+    Form::Field22,
 ];
 
-const ARRIVAL_ROW: [Form; 10] = [
+const ARRIVAL_ROW: [Form; MessageType::MOST_FIELDS] = [
     Form::Field3,
     Form::Field7,
     Form::Field13,
@@ -134,9 +143,12 @@ const ARRIVAL_ROW: [Form; 10] = [
     Form::Field22,
     Form::Field22,
     Form::Field22,
+    Form::Field22,
+    Form::Field22,
+    Form::Field22,
 ];
 
-const DIVERTED_ROW: [Form; 10] = [
+const DIVERTED_ROW: [Form; MessageType::MOST_FIELDS] = [
     Form::Field3,
     Form::Field7,
     Form::Field13,
@@ -147,15 +159,21 @@ const DIVERTED_ROW: [Form; 10] = [
     Form::Field22,
     Form::Field22,
     Form::Field22,
+    Form::Field22,
+    Form::Field22,
+    Form::Field22,
 ];
 
-const SUPPLEMENT_ROW: [Form; 10] = [
+const SUPPLEMENT_ROW: [Form; MessageType::MOST_FIELDS] = [
     Form::Field3,
     Form::Field7,
     Form::Field13,
     Form::Field16Plan,
     Form::Field18,
     Form::Field19,
+    Form::Field22,
+    Form::Field22,
+    Form::Field22,
     Form::Field22,
     Form::Field22,
     Form::Field22,
@@ -214,8 +232,8 @@ impl MessageType {
         }
     }
 
-    // The forms of the first ten fields of a message with `count` fields; behind the last one stand entries.
-    fn row(self, count: usize) -> [Form; 10]
+    // The forms of the fields of a message with `count` fields, in order; behind the last one stand entries.
+    pub fn row(self, count: usize) -> [Form; MessageType::MOST_FIELDS]
         ensures { λ r. ⌜ RowFor self count r ⌝ }
     {
         match self {
@@ -236,7 +254,7 @@ impl MessageType {
         ensures { λ r. ⌜ r ≡ formAt self count j ⌝ }
     {
         let row = self.row(count);
-        if j < 10 {
+        if j < MessageType::MOST_FIELDS {
             return row[j];
         }
         Form::Field22
@@ -268,7 +286,7 @@ impl Form {
 }
 
 // ARR, where field 16 is absent if there are four fields.
-fn arrival_row(count: usize) -> [Form; 10]
+fn arrival_row(count: usize) -> [Form; MessageType::MOST_FIELDS]
     ensures { λ r. ⌜ RowFor MessageType.Arr count r ⌝ }
 {
     if count == 4 {

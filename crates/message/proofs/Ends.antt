@@ -14,8 +14,8 @@ use borrow.Author.Tests.{ltb-true, ltb-false}
 use Rattle.text.specs.Words.{Word, split, upTo, after}
 use Rattle.text.proofs.Index.{split-at, split-cut, after-here, after-end}
 use Rattle.kinds.specs.declared.MessageType.{MessageType}
-use Rattle.kinds.specs.Kinds.{formsOf}
-use Rattle.message.specs.Ends.{mostFields, startIn, EndAt, Ends}
+use Rattle.kinds.specs.Kinds.{formsOf, mostFields}
+use Rattle.message.specs.Ends.{startIn, EndAt, Ends}
 use Rattle.message.proofs.Walk.{Even}
 
 -- A TEXT has one field at least

@@ -21,13 +21,12 @@ use Rattle.outer.specs.declared.Outer.the-variants.{Good}
 use Rattle.outer.specs.Outer.{outer, Passed}
 use Rattle.outer.proofs.Good.{good-passed}
 use Rattle.kinds.specs.declared.MessageType.{MessageType}
-use Rattle.kinds.specs.Kinds.{leastOf, greatestOf, typesRead, formsOf, formAt, numberOf}
+use Rattle.kinds.specs.Kinds.{leastOf, greatestOf, typesRead, formsOf, formAt, numberOf, mostFields}
 use Rattle.kinds.proofs.Fields.{forms-length}
 use Rattle.kinds.proofs.Names.{each}
 use Rattle.message.specs.declared.Fault.{Fault}
 use Rattle.message.specs.declared.Fault.the-variants.{Clear, At}
 use Rattle.message.specs.declared.Answer.the-variants.{Accepted, Refused}
-use Rattle.message.specs.Ends.{mostFields}
 use Rattle.message.specs.Reading.{textOf, countOf, spelledFrom, spellingOf, faultIn, isPlan, unexplainedIn, placeInPlan, placeOfFault, Counted}
 use Rattle.message.specs.Reading.{roomAs, faultAs, fieldsAs, countAs}
 

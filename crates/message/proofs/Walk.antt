@@ -99,9 +99,10 @@ module _ (t : MessageType) (n : ℕ) (s : List ℕ) (at j e : ℕ) (end : e ≡ 
 
   -- THE SPELLING
 
-  pub spelled-turn : spelledFrom (leadOf j) (drop j (formsOf t n)) (split 45 (drop at s))
-      ≡ (leadOf j ∷ writtenOf (formAt t n j) (take (e - at) (drop at s))) ++ spelledFrom 45 (drop (j + 1) (formsOf t n)) (after 45 (drop e s))
-  spelled-turn = rw (forms-here, parts-here)
+  pub spelled-turn : (lead : ℕ)
+      → spelledFrom lead (drop j (formsOf t n)) (split 45 (drop at s))
+      ≡ (lead ∷ writtenOf (formAt t n j) (take (e - at) (drop at s))) ++ spelledFrom 45 (drop (j + 1) (formsOf t n)) (after 45 (drop e s))
+  spelled-turn lead = rw (forms-here, parts-here)
 
   pub spelled-last : length s ≤ e → spelledFrom 45 (drop (j + 1) (formsOf t n)) (after 45 (drop e s)) ≡ 41 ∷ []
   spelled-last h = rw (last-form h)
@@ -205,7 +206,7 @@ module _ (t : MessageType) (n : ℕ) (s : List ℕ) (at j e : ℕ) (end : e ≡ 
       let w = writtenOf (formAt t n j) (take (e - at) (drop at s)) in
       let others = spelledFrom 45 (drop (j + 1) (formsOf t n)) (after 45 (drop e s)) in
       let z : k ≡ length w = is-long ∙ ap (λ (g : Form). length (writtenOf g (take (e - at) (drop at s)))) is-form in
-      omega (arith, ap length (spelled-turn t n s at j e end even), length-append (leadOf j ∷ w) others)
+      omega (arith, ap length (spelled-turn t n s at j e end even (leadOf j)), length-append (leadOf j ∷ w) others)
 
   pub length-last : length s ≤ e → length (spelledFrom (leadOf j) (drop j (formsOf t n)) (split 45 (drop at s))) ≡ 1 + k + 1
   length-last h = turn ∙ ap (λ (l : List ℕ). 1 + k + length l) (spelled-last t n s at j e end even h)

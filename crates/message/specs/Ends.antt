@@ -4,10 +4,7 @@ use mathlib.Core.Path.{_≡_, refl}
 use mathlib.Core.List.{List, [], _∷_}
 use lib.ListN.{length, drop, getD}
 use Rattle.text.specs.Words.{split, upTo}
-
--- the most fields that a message of any type may have
-abbrev pub mostFields : ℕ
-mostFields = 13
+use Rattle.kinds.specs.Kinds.{mostFields}
 
 -- field j begins behind the hyphen at which the one before it ends
 abbrev pub startIn : List ℕ → ℕ → ℕ

@@ -11,9 +11,9 @@ ghost use Rattle.text.specs.Lent.{front};
 ghost use Rattle.space.specs.Hyphens.{behindHyphen};
 ghost use Rattle.outer.specs.declared.Outer as Outer;
 ghost use Rattle.outer.specs.Outer.{most, outer};
-ghost use Rattle.kinds.specs.Kinds.{formsOf, leastOf, greatestOf};
+ghost use Rattle.kinds.specs.Kinds.{formsOf, mostFields, leastOf, greatestOf};
 ghost use Rattle.forms.specs.Forms.{fieldOf, writtenOf};
-ghost use Rattle.message.specs.Ends.{mostFields, Ends};
+ghost use Rattle.message.specs.Ends.{Ends};
 ghost use Rattle.message.specs.Reading.{
   isClear,
   faultIn,
@@ -102,12 +102,13 @@ fn fields_fault(t: MessageType, count: usize, s: &[u8], ends: &FieldEnds) -> Fau
     requires { ⌜ Ends (now s) (now ends) × (length (formsOf t count) ≡ length (split 45 (now s))) ⌝ }
     ensures { λ r. ⌜ r ≡ faultIn t count (split 45 (now (s .entry))) ⌝ }
 {
+    let row = t.row(count);
     let mut seen = [false; 9];
     let mut at = 0;
     let mut j = 0;
     loop {
         let e = ends[j];
-        let form = t.form_at(count, j);
+        let form = row[j];
         let rank = forms::rank_in(form, &s[at..e]);
         let number = forms::fault_of(seen[rank], form, &s[at..e]);
         if number != 0 {
@@ -141,17 +142,6 @@ fn spelled_length(t: MessageType, count: usize, s: &[u8]) -> usize
     }
 }
 
-// Writes a field that fits its form behind the byte that leads to it, at the front of `out`.
-fn write_field(lead: u8, form: Form, part: &[u8], out: &mut [u8]) -> usize
-    requires { ⌜ (fieldOf form .fits (now part) ≡ true) × (length (lead ∷ writtenOf form (now part)) ≤ length (now out)) ⌝ }
-    ensures { λ r. ⌜ (r ≡ length (lead ∷ writtenOf form (now (part .entry))))
-        × (now (out .exit) ≡ front (lead ∷ writtenOf form (now (part .entry))) (now (out .entry))) ⌝ }
-{
-    out[0] = lead;
-    let n = forms::write_fitting(form, part, &mut out[1..]);
-    n + 1
-}
-
 // Writes the spelling of a text's fields at the front of `out`: each field goes behind the last one, in the rest that is lent to it.
 fn write_fields(t: MessageType, count: usize, s: &[u8], ends: &FieldEnds, out: &mut [u8]) -> usize
     requires { ⌜ Ends (now s) (now ends) × (length (spelledFrom 40 (formsOf t count) (split 45 (now s))) ≤ length (now out))
@@ -159,16 +149,21 @@ fn write_fields(t: MessageType, count: usize, s: &[u8], ends: &FieldEnds, out: &
     ensures { λ r. ⌜ (r ≡ length (spelledFrom 40 (formsOf t count) (split 45 (now (s .entry)))))
         × (now (out .exit) ≡ front (spelledFrom 40 (formsOf t count) (split 45 (now (s .entry)))) (now (out .entry))) ⌝ }
 {
-    let mut o = 0;
+    let row = t.row(count);
+    out[0] = b'(';
+    let mut o = 1;
     let mut at = 0;
     let mut j = 0;
     loop {
         let e = ends[j];
-        o += write_field(lead_of(j), t.form_at(count, j), &s[at..e], &mut out[o..]);
+        let form = row[j];
+        o += forms::write_fitting(form, &s[at..e], &mut out[o..]);
         if e == s.len() {
             out[o] = b')';
             return o + 1;
         }
+        out[o] = b'-';
+        o += 1;
         at = e + 1;
         j += 1;
     }

@@ -9,11 +9,11 @@ use Rattle.kinds.proofs.arrival_row.Tie as tie
 
 returns : tie.Need-returns
 unfolding formAt formsOf arrivalForms
-returns c = row-of Arr (c .before .args .count) arrivalForms 6 (λ j. rw (c .if1 .taken)) refl
+returns c = row-of Arr (c .before .args .count) arrivalForms 9 (λ j. rw (c .if1 .taken)) refl
 
 returns-2 : tie.Need-returns-2
 unfolding formAt formsOf divertedForms
-returns-2 c = row-of Arr (c .before .args .count) divertedForms 5 (λ j. rw (ne-eqb _ 4 (c .if1 .left))) refl
+returns-2 c = row-of Arr (c .before .args .count) divertedForms 8 (λ j. rw (ne-eqb _ 4 (c .if1 .left))) refl
 
 pub arrival-row-spec : {M : Type 1} → statement M
 arrival-row-spec = tie.close (tie.spec returns returns-2)

@@ -4,50 +4,58 @@ use mathlib.Core.Path.{_≡_, refl}
 use mathlib.Core.List.{List}
 use native.Mathlib.Omega.{arith}
 use lib.ListN.{length, getD}
-use Rattle.message.specs.Ends.{mostFields, startIn, EndAt}
+use Rattle.text.specs.Words.{split}
+use Rattle.kinds.specs.declared.MessageType.{MessageType}
+use Rattle.kinds.specs.Kinds.{formsOf, mostFields, RowFor}
+use Rattle.message.specs.Ends.{startIn, EndAt}
 use Rattle.message.proofs.Walk.{Walked, walk-starts, walk-found, walk-clear, walk-next}
 use Rattle.message.proofs.Ends.{inside-ends, end-known, start-next}
 use borrow.Author.Needs.{needs}
 use Rattle.message.proofs.fields_fault.Statement.{statement}
 use Rattle.message.proofs.fields_fault.Tie as tie
 
+-- the walk is that of any type with this row
 abbrev Inv-loop : tie.InvT-loop
-Inv-loop t count s ends seen₀ at₀ j₀ seen at j = Walked t count s seen at j × (at ≡ startIn ends j)
+Inv-loop count s ends row seen₀ at₀ j₀ seen at j =
+    ((t : MessageType) → RowFor t count row → length (formsOf t count) ≡ length (split 45 s) → Walked t count s seen at j) × (at ≡ startIn ends j)
 
 abbrev μ-loop : tie.MeasureT-loop
-μ-loop t count s ends seen₀ at₀ j₀ seen at j = length s - at
+μ-loop count s ends row seen₀ at₀ j₀ seen at j = length s - at
 
 -- at a field: its end is known
 module _ (c : tie.At-loop Inv-loop μ-loop) where
   abbrev start : tie.Start Inv-loop μ-loop
-  start = c .before .before
+  start = c .before .before .before
 
   abbrev ends : List ℕ
   ends = start .args .ends .now
 
+  walked : Walked (start .args .t) (start .args .count) (start .args .s .now) (c .loop .seen) (c .loop .at) (c .loop .j)
+  walked = c .loop .inv .0 (start .args .t) (c .before .row .ensures) (start .pre .1)
+
   inside : c .loop .j < mostFields
   inside =
       inside-ends (start .args .t) (start .args .count) (start .args .s .now) ends (start .pre .0) (start .pre .1) (c .loop .at) (c .loop .j)
-      (c .loop .inv .0 .even)
+      (walked .even)
 
   end-here : EndAt (start .args .s .now) (c .loop .at) (getD ends (c .loop .j) 0)
   end-here =
       end-known (start .args .t) (start .args .count) (start .args .s .now) ends (start .pre .0) (start .pre .1) (c .loop .at) (c .loop .j)
-      (c .loop .inv .0 .even) (c .loop .inv .1)
+      (walked .even) (c .loop .inv .1)
 
 -- where a field's fault is known
 module _ (c : tie.After-fault-of Inv-loop μ-loop) where
   abbrev ranked : tie.After-rank-in Inv-loop μ-loop
   ranked = c .before .before
 
-  abbrev formed : tie.After-form-at Inv-loop μ-loop
-  formed = ranked .before .before
-
   abbrev so-far : tie.At-loop Inv-loop μ-loop
-  so-far = formed .before .before
+  so-far = ranked .before .before .before .before
+
+row-requires : tie.Need-row-requires Inv-loop μ-loop
+row-requires c κs = search needs
 
 loop-holds : tie.Need-loop-holds Inv-loop μ-loop
-loop-holds c = let a = c .before in (walk-starts (a .args .t) (a .args .count) (a .args .s .now) _ refl refl (a .pre .1), refl)
+loop-holds c = let a = c .before .before in (λ t r e. walk-starts t (a .args .count) (a .args .s .now) _ refl refl e, refl)
 
 mul-e : tie.Need-mul-e Inv-loop μ-loop
 mul-e c = omega (arith, inside c)
@@ -55,8 +63,8 @@ mul-e c = omega (arith, inside c)
 element-copy-out-e : tie.Need-element-copy-out-e Inv-loop μ-loop
 element-copy-out-e c = omega (arith, inside c)
 
-form-at-requires : tie.Need-form-at-requires Inv-loop μ-loop
-form-at-requires c κs = search needs
+array-copy-out-form : tie.Need-array-copy-out-form Inv-loop μ-loop
+array-copy-out-form c = omega (arith, inside (c .before))
 
 sub-rank-in : tie.Need-sub-rank-in Inv-loop μ-loop
 sub-rank-in c = omega (arith, end-here (c .before .before) .end)
@@ -90,15 +98,16 @@ returns c =
     let d = c .before in
     let w = so-far d in
     let r = ranked d .rank-in .ensures in
-    walk-found _ _ _ _ _ _ _ (w .loop .inv .0) (end-here w .end) _ _ _ (formed d .form-at .ensures) (r .0) (r .1) (d .fault-of .ensures) (c .if1 .taken)
+    let form = w .before .row .ensures (w .loop .j) .0 (inside w) in
+    walk-found _ _ _ _ _ _ _ (walked w) (end-here w .end) _ _ _ form (r .0) (r .1) (d .fault-of .ensures) (c .if1 .taken)
 
 returns-2 : tie.Need-returns-2 Inv-loop μ-loop
 returns-2 c =
     let d = c .before .before in
     let w = so-far d in
     let r = ranked d .rank-in .ensures in
-    walk-clear _ _ _ _ _ _ _ (w .loop .inv .0) (end-here w .end) _ _ _ (formed d .form-at .ensures) (r .0) (r .1) (d .fault-of .ensures)
-    (c .before .if1 .left) (omega arith)
+    let form = w .before .row .ensures (w .loop .j) .0 (inside w) in
+    walk-clear _ _ _ _ _ _ _ (walked w) (end-here w .end) _ _ _ form (r .0) (r .1) (d .fault-of .ensures) (c .before .if1 .left) (omega arith)
 
 array-write-seen : tie.Need-array-write-seen Inv-loop μ-loop
 array-write-seen c = search needs
@@ -117,8 +126,8 @@ loop-again c =
     let d = c .before .before in
     let w = so-far d in
     let r = ranked d .rank-in .ensures in (
-      walk-next _ _ _ _ _ _ _ (w .loop .inv .0) (end-here w .end) _ _ _ (formed d .form-at .ensures) (r .0) (r .1) (d .fault-of .ensures)
-          (c .before .if1 .left) (omega (arith, end-here w .inside)),
+      λ t row e. walk-next t _ _ _ _ _ _ (w .loop .inv .0 t row e) (end-here w .end) _ _ _ (row (w .loop .j) .0 (inside w)) (r .0) (r .1)
+          (d .fault-of .ensures) (c .before .if1 .left) (omega (arith, end-here w .inside)),
       start-next (ends w) (w .loop .j),
     )
 
@@ -128,10 +137,11 @@ fields-fault-spec =
     (tie.spec
     Inv-loop
     μ-loop
+    row-requires
     loop-holds
     mul-e
     element-copy-out-e
-    form-at-requires
+    array-copy-out-form
     sub-rank-in
     part-rank-in-start
     part-rank-in-end

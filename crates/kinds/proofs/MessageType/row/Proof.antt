@@ -39,38 +39,38 @@ enum-told-9 c = search needs
 
 returns : tie.Need-returns
 unfolding formAt formsOf planForms
-returns c = rw (c .enum-told .given .1) (row-of Fpl (c .before .before .args .count) planForms 1 (λ j. refl) refl)
+returns c = rw (c .enum-told .given .1) (row-of Fpl (c .before .before .args .count) planForms 4 (λ j. refl) refl)
 
 returns-2 : tie.Need-returns-2
 unfolding briefForms
-returns-2 c = rw (c .enum-told2 .given .1) (row-of Chg (c .before .before .args .count) briefForms 5 (change-at (c .before .before .args .count)) refl)
+returns-2 c = rw (c .enum-told2 .given .1) (row-of Chg (c .before .before .args .count) briefForms 8 (change-at (c .before .before .args .count)) refl)
 
 returns-3 : tie.Need-returns-3
 unfolding formAt formsOf briefForms
-returns-3 c = rw (c .enum-told3 .given .1) (row-of Cnl (c .before .before .args .count) briefForms 5 (λ j. refl) refl)
+returns-3 c = rw (c .enum-told3 .given .1) (row-of Cnl (c .before .before .args .count) briefForms 8 (λ j. refl) refl)
 
 returns-4 : tie.Need-returns-4
 unfolding formAt formsOf briefForms
-returns-4 c = rw (c .enum-told4 .given .1) (row-of Dla (c .before .before .args .count) briefForms 5 (λ j. refl) refl)
+returns-4 c = rw (c .enum-told4 .given .1) (row-of Dla (c .before .before .args .count) briefForms 8 (λ j. refl) refl)
 
 returns-5 : tie.Need-returns-5
 unfolding formAt formsOf briefForms
-returns-5 c = rw (c .enum-told5 .given .1) (row-of Dep (c .before .before .args .count) briefForms 5 (λ j. refl) refl)
+returns-5 c = rw (c .enum-told5 .given .1) (row-of Dep (c .before .before .args .count) briefForms 8 (λ j. refl) refl)
 
 returns-6 : tie.Need-returns-6
 returns-6 c = rw (c .before .enum-told6 .given .1) (c .arrival-row .ensures)
 
 returns-7 : tie.Need-returns-7
 unfolding formAt formsOf requestForms
-returns-7 c = rw (c .enum-told7 .given .1) (row-of Rqp (c .before .before .args .count) requestForms 5 (λ j. refl) refl)
+returns-7 c = rw (c .enum-told7 .given .1) (row-of Rqp (c .before .before .args .count) requestForms 8 (λ j. refl) refl)
 
 returns-8 : tie.Need-returns-8
 unfolding formAt formsOf briefForms
-returns-8 c = rw (c .enum-told8 .given .1) (row-of Rqs (c .before .before .args .count) briefForms 5 (λ j. refl) refl)
+returns-8 c = rw (c .enum-told8 .given .1) (row-of Rqs (c .before .before .args .count) briefForms 8 (λ j. refl) refl)
 
 returns-9 : tie.Need-returns-9
 unfolding formAt formsOf supplementForms
-returns-9 c = rw (c .enum-told9 .given .1) (row-of Spl (c .before .before .args .count) supplementForms 4 (λ j. refl) refl)
+returns-9 c = rw (c .enum-told9 .given .1) (row-of Spl (c .before .before .args .count) supplementForms 7 (λ j. refl) refl)
 
 pub row-spec : {M : Type 1} → statement M
 row-spec =
