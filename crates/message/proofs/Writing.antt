@@ -115,31 +115,36 @@ module _ {t : MessageType} {n : ℕ} {s out₀ out : List ℕ} {o at j e : ℕ} 
   pub turn-fits : length due ≤ length (take (length out - o) (drop o out))
   turn-fits = omega (arith, turn-room, ap length (rest out o), length-drop o out, u .so-far .long, u .so-far .room)
 
-  module _ {ys : List ℕ} (wrote : ys ≡ front due (take (length out - o) (drop o out))) where
+  module _ {k : ℕ} {ys : List ℕ} (counted : k ≡ length due) (wrote : ys ≡ front due (take (length out - o) (drop o out))) where
     abbrev pub output : List ℕ
     output = take o out ++ (ys ++ drop (length out - o) (drop o out))
 
-    now-written : output ≡ take (o + length due) (whole t n s) ++ drop (o + length due) out₀
-    now-written = lent out due o ys wrote ∙ next-out (whole t n s) out₀ out o (u .so-far .written) (u .so-far .within) due behind-due cut
+    now-written : output ≡ take (o + k) (whole t n s) ++ drop (o + k) out₀
+    now-written =
+        lent out due o ys wrote ∙ next-out (whole t n s) out₀ out o (u .so-far .written) (u .so-far .within) due behind-due cut
+        ∙ ap (λ (i : ℕ). take (o + i) (whole t n s) ++ drop (o + i) out₀) (sym counted)
 
     -- then a byte: the hyphen before the next field, or the parenthesis
     module _ (b : ℕ) (more : List ℕ) (behind : behind-due ≡ b ∷ more) (l : length output ≡ length out) where
-      byte-cut : drop (o + length due) (whole t n s) ≡ (b ∷ []) ++ more
-      byte-cut = next-rest (whole t n s) out₀ out o (u .so-far .written) (u .so-far .within) due behind-due cut ∙ behind
+      byte-cut : drop (o + k) (whole t n s) ≡ (b ∷ []) ++ more
+      byte-cut =
+          ap (λ (i : ℕ). drop (o + i) (whole t n s)) counted
+          ∙ next-rest (whole t n s) out₀ out o (u .so-far .written) (u .so-far .within) due behind-due cut
+          ∙ behind
 
-      byte-fits : o + length due + 1 + length more ≡ length (whole t n s)
+      byte-fits : o + k + 1 + length more ≡ length (whole t n s)
       byte-fits = omega (arith, turn-room, ap length behind)
 
-      byte-room : o + length due < length output
+      byte-room : o + k < length output
       byte-room = omega (arith, byte-fits, l, u .so-far .long, u .so-far .room)
 
-      byte-left : drop (o + length due + 1) (whole t n s) ≡ more
-      byte-left = next-rest (whole t n s) out₀ output (o + length due) now-written (omega (arith, byte-fits)) (b ∷ []) more byte-cut
+      byte-left : drop (o + k + 1) (whole t n s) ≡ more
+      byte-left = next-rest (whole t n s) out₀ output (o + k) now-written (omega (arith, byte-fits)) (b ∷ []) more byte-cut
 
-      byte-written : set output (o + length due) b ≡ take (o + length due + 1) (whole t n s) ++ drop (o + length due + 1) out₀
+      byte-written : set output (o + k) b ≡ take (o + k + 1) (whole t n s) ++ drop (o + k + 1) out₀
       byte-written =
-          store output (o + length due) b byte-room
-          ∙ next-out (whole t n s) out₀ output (o + length due) now-written (omega (arith, byte-fits)) (b ∷ []) more byte-cut
+          store output (o + k) b byte-room
+          ∙ next-out (whole t n s) out₀ output (o + k) now-written (omega (arith, byte-fits)) (b ∷ []) more byte-cut
 
     module _ (h : e < length s) (l : length output ≡ length out) where
       next-even : Even t n s (e + 1) (j + 1)
@@ -148,10 +153,10 @@ module _ {t : MessageType} {n : ℕ} {s out₀ out : List ℕ} {o at j e : ℕ} 
       hyphen : behind-due ≡ 45 ∷ spelledAt t n s (e + 1) (j + 1)
       hyphen = ap (spelledFrom 45 (drop (j + 1) (formsOf t n))) (after-here 45 s e h) ∙ spelled-lead t n s (e + 1) (j + 1) 45 next-even
 
-      pub next-room : o + length due < length output
+      pub next-room : o + k < length output
       next-room = byte-room 45 _ hyphen l
 
-      pub turn-next : Writing t n s out₀ (set output (o + length due) 45) (o + length due + 1) (e + 1) (j + 1)
+      pub turn-next : Writing t n s out₀ (set output (o + k) 45) (o + k + 1) (e + 1) (j + 1)
       turn-next =
           record {
             inside = omega arith;
@@ -159,7 +164,7 @@ module _ {t : MessageType} {n : ℕ} {s out₀ out : List ℕ} {o at j e : ℕ} 
             even = next-even;
             fit = fits-next t n s at j e (u .end) (u .so-far .even) (u .so-far .fit) h;
             room = u .so-far .room;
-            long = length-set output (o + length due) 45 ∙ l ∙ u .so-far .long;
+            long = length-set output (o + k) 45 ∙ l ∙ u .so-far .long;
             within = omega (arith, byte-fits 45 _ hyphen l);
             left = byte-left 45 _ hyphen l;
             written = byte-written 45 _ hyphen l;
@@ -170,11 +175,11 @@ module _ {t : MessageType} {n : ℕ} {s out₀ out : List ℕ} {o at j e : ℕ} 
       parenthesis : behind-due ≡ 41 ∷ []
       parenthesis = spelled-last t n s at j e (u .end) (u .so-far .even) h
 
-      pub last-long : o + length due + 1 ≡ length (whole t n s)
+      pub last-long : o + k + 1 ≡ length (whole t n s)
       last-long = omega (arith, byte-fits 41 [] parenthesis l)
 
-      pub last-room : o + length due < length output
+      pub last-room : o + k < length output
       last-room = byte-room 41 [] parenthesis l
 
-      pub last-written : set output (o + length due) 41 ≡ front (whole t n s) out₀
-      last-written = whole-out (whole t n s) out₀ _ (o + length due + 1) (byte-written 41 [] parenthesis l) last-long
+      pub last-written : set output (o + k) 41 ≡ front (whole t n s) out₀
+      last-written = whole-out (whole t n s) out₀ _ (o + k + 1) (byte-written 41 [] parenthesis l) last-long

@@ -6,7 +6,8 @@ use native.Mathlib.Omega.{arith}
 use lib.ListN.{length, getD}
 use Rattle.text.specs.Words.{split}
 use Rattle.kinds.specs.declared.MessageType.{MessageType}
-use Rattle.kinds.specs.Kinds.{formsOf, mostFields, RowFor}
+use Rattle.kinds.specs.declared.Form.the-variants.{Field3}
+use Rattle.kinds.specs.Kinds.{formsOf, formAt, mostFields, RowFor}
 use Rattle.message.specs.Ends.{startIn, EndAt}
 use Rattle.message.proofs.Walk.{Walked, walk-starts, walk-found, walk-clear, walk-next}
 use Rattle.message.proofs.Ends.{inside-ends, end-known, start-next}
@@ -42,6 +43,9 @@ module _ (c : tie.At-loop Inv-loop μ-loop) where
   end-here =
       end-known (start .args .t) (start .args .count) (start .args .s .now) ends (start .pre .0) (start .pre .1) (c .loop .at) (c .loop .j)
       (walked .even) (c .loop .inv .1)
+
+  form-here : getD (c .before .row .result) (c .loop .j) Field3 ≡ formAt (start .args .t) (start .args .count) (c .loop .j)
+  form-here = c .before .row .ensures (c .loop .j) .0 inside
 
 -- where a field's fault is known
 module _ (c : tie.After-fault-of Inv-loop μ-loop) where
@@ -98,16 +102,14 @@ returns c =
     let d = c .before in
     let w = so-far d in
     let r = ranked d .rank-in .ensures in
-    let form = w .before .row .ensures (w .loop .j) .0 (inside w) in
-    walk-found _ _ _ _ _ _ _ (walked w) (end-here w .end) _ _ _ form (r .0) (r .1) (d .fault-of .ensures) (c .if1 .taken)
+    walk-found _ _ _ _ _ _ _ (walked w) (end-here w .end) _ _ _ (form-here w) (r .0) (r .1) (d .fault-of .ensures) (c .if1 .taken)
 
 returns-2 : tie.Need-returns-2 Inv-loop μ-loop
 returns-2 c =
     let d = c .before .before in
     let w = so-far d in
     let r = ranked d .rank-in .ensures in
-    let form = w .before .row .ensures (w .loop .j) .0 (inside w) in
-    walk-clear _ _ _ _ _ _ _ (walked w) (end-here w .end) _ _ _ form (r .0) (r .1) (d .fault-of .ensures) (c .before .if1 .left) (omega arith)
+    walk-clear _ _ _ _ _ _ _ (walked w) (end-here w .end) _ _ _ (form-here w) (r .0) (r .1) (d .fault-of .ensures) (c .before .if1 .left) (omega arith)
 
 array-write-seen : tie.Need-array-write-seen Inv-loop μ-loop
 array-write-seen c = search needs

@@ -71,12 +71,27 @@ module _ (c : tie.At-loop Inv-loop μ-loop) where
   turn = turn-of (start .args .t) given
 
 -- where the content is written
-module _ (c : tie.After-write-fitting Inv-loop μ-loop) where
-  abbrev formed : tie.After-form Inv-loop μ-loop
-  formed = c .before .before .before
+module _ (c : tie.After-out Inv-loop μ-loop) where
+  abbrev wrote : tie.After-write-fitting Inv-loop μ-loop
+  wrote = c .before
 
   abbrev so-far : tie.At-loop Inv-loop μ-loop
-  so-far = formed .before .before
+  so-far = let formed = wrote .before .before .before in formed .before .before
+
+-- at the last field, and at any other
+module _ (c : tie.Then1 Inv-loop μ-loop) where
+  abbrev last : tie.At-loop Inv-loop μ-loop
+  last = so-far (c .before .before)
+
+  no-more : length (start last .args .s .now) ≤ getD (ends last) (last .loop .j) 0
+  no-more = omega arith
+
+module _ (c : tie.Else1 Inv-loop μ-loop) where
+  abbrev other : tie.At-loop Inv-loop μ-loop
+  other = so-far (c .before .before)
+
+  more : getD (ends other) (other .loop .j) 0 < length (start other .args .s .now)
+  more = omega (arith, end-here other .inside)
 
 row-requires : tie.Need-row-requires Inv-loop μ-loop
 row-requires c κs = search needs
@@ -121,71 +136,60 @@ write-fitting-requires c κs = let a = c .before .before .before .before in (tur
 
 add-o : tie.Need-add-o Inv-loop μ-loop
 add-o c =
-    let w = c .before .before in
-    let a = so-far w in
-    omega (arith, turn-room (turn a), w .write-fitting .ensures .0, start a .pre .1, start a .good)
+    let a = so-far (c .before) in
+    omega (arith, turn-room (turn a), wrote (c .before) .write-fitting .ensures .0, start a .pre .1, start a .good)
 
 slice-write-out-2 : tie.Need-slice-write-out-2 Inv-loop μ-loop
 slice-write-out-2 c =
-    let w = c .before .before .before in
-    let p = w .write-fitting .ensures in
-    rw (p .0) (last-room (turn (so-far w)) (p .1) (omega arith) (c .before .before .out .given .1))
+    let o = c .before .before in
+    last-room (turn (last c)) (wrote o .write-fitting .ensures .0) (wrote o .write-fitting .ensures .1) (no-more c) (o .out .given .1)
 
 add-result : tie.Need-add-result Inv-loop μ-loop
 add-result c =
-    let w = c .before .before .before in
-    let a = so-far w in
-    let p = w .write-fitting .ensures in
-    let l = last-long (turn a) (p .1) (omega arith) (c .before .before .out .given .1) in
-    omega (arith, p .0, l, start a .pre .1, start a .good)
+    let o = c .before .before in
+    let l = last-long (turn (last c)) (wrote o .write-fitting .ensures .0) (wrote o .write-fitting .ensures .1) (no-more c) (o .out .given .1) in
+    omega (arith, l, start (last c) .pre .1, start (last c) .good)
 
 same-length : tie.Need-same-length Inv-loop μ-loop
 same-length c =
-    let a = so-far (c .before .before .before) in
-    simp length-set (c .before .before .out .given .1 ∙ writing a .long ∙ length-set (start a .args .out .now) 0 40)
+    simp length-set (c .before .before .out .given .1 ∙ writing (last c) .long ∙ length-set (start (last c) .args .out .now) 0 40)
 
 returns : tie.Need-returns Inv-loop μ-loop
 returns c =
-    let w = c .before .before .before in
-    let a = so-far w in
-    let p = w .write-fitting .ensures in
-    let l = c .before .before .out .given .1 in
-    let some = some-spelled 40 (formsOf (start a .args .t) (start a .args .count)) (split 45 (start a .args .s .now)) in (
-      rw (p .0) (last-long (turn a) (p .1) (omega arith) l),
-      rw (p .0) (last-written (turn a) (p .1) (omega arith) l ∙ front-opened _ (start a .args .out .now) some),
+    let o = c .before .before in
+    let p = wrote o .write-fitting .ensures in
+    let a = start (last c) .args in (
+      last-long (turn (last c)) (p .0) (p .1) (no-more c) (o .out .given .1),
+      last-written (turn (last c)) (p .0) (p .1) (no-more c) (o .out .given .1)
+          ∙ front-opened _ (a .out .now) (some-spelled 40 (formsOf (a .t) (a .count)) (split 45 (a .s .now))),
     )
 
 slice-write-out-3 : tie.Need-slice-write-out-3 Inv-loop μ-loop
 slice-write-out-3 c =
-    let w = c .before .before .before in
-    let a = so-far w in
-    let p = w .write-fitting .ensures in
-    rw (p .0) (next-room (turn a) (p .1) (omega (arith, end-here a .inside)) (c .before .before .out .given .1))
+    let o = c .before .before in
+    next-room (turn (other c)) (wrote o .write-fitting .ensures .0) (wrote o .write-fitting .ensures .1) (more c) (o .out .given .1)
 
 add-o-2 : tie.Need-add-o-2 Inv-loop μ-loop
 add-o-2 c =
-    let w = c .before .before .before in
-    let a = so-far w in
-    let p = w .write-fitting .ensures in
-    let l = next-room (turn a) (p .1) (omega (arith, end-here a .inside)) (c .before .before .out .given .1) in
-    omega (arith, p .0, l, c .before .before .out .given .1, writing a .long, length-set (start a .args .out .now) 0 40, start a .good)
+    let o = c .before .before in
+    let l = next-room (turn (other c)) (wrote o .write-fitting .ensures .0) (wrote o .write-fitting .ensures .1) (more c) (o .out .given .1) in
+    omega (arith, l, o .out .given .1, writing (other c) .long, length-set (start (other c) .args .out .now) 0 40, start (other c) .good)
 
 add-at : tie.Need-add-at Inv-loop μ-loop
-add-at c = omega (arith, end-here (so-far (c .before .before .before)) .inside)
+add-at c = omega (arith, more c)
 
 add-j : tie.Need-add-j Inv-loop μ-loop
-add-j c = omega (arith, inside (so-far (c .before .before .before)))
+add-j c = omega (arith, inside (other c))
 
 loop-less : tie.Need-loop-less Inv-loop μ-loop
-loop-less c = let e = end-here (so-far (c .before .before .before)) in omega (arith, e .end, e .inside)
+loop-less c = omega (arith, end-here (other c) .end, more c)
 
 loop-again : tie.Need-loop-again Inv-loop μ-loop
 loop-again c =
-    let w = c .before .before .before in
-    let p = w .write-fitting .ensures in
-    let a = so-far w in (
-      λ t g. rw (p .0) (turn-next (turn-of a t g) (p .1) (omega (arith, end-here a .inside)) (c .before .before .out .given .1)),
-      start-next (ends a) (a .loop .j),
+    let o = c .before .before in
+    let p = wrote o .write-fitting .ensures in (
+      λ t g. turn-next (turn-of (other c) t g) (p .0) (p .1) (more c) (o .out .given .1),
+      start-next (ends (other c)) (other c .loop .j),
     )
 
 pub write-fields-spec : {M : Type 1} → statement M
