@@ -7,6 +7,7 @@ use native.Mathlib.Omega.{arith}
 use borrow.Author.Tests.{eqb-true, eqb-false, leb-true}
 use lib.Dec.{eqb, leb}
 use lib.ListN.{length, getD, length-append, List·getD-eq-default}
+use lib.Seq.{ext-getD}
 use Rattle.text.specs.Words.{all}
 use Rattle.text.proofs.Tests.{both}
 use Rattle.kinds.specs.Kinds.{leastOf, greatestOf, entries, formsOf, formAt, mostFields, RowFor, typesRead}
@@ -48,6 +49,10 @@ row-of t n fs k e l j = (
   λ h. row-at fs k j (omega (arith, l)) ∙ sym (e j),
   λ h. sym (e j ∙ List·getD-eq-default fs Field22 {n = j} (omega (arith, l, length-append fs (entries k)))),
 )
+
+-- the contract of a row determines it
+pub row-one : (t : MessageType) (n : ℕ) (fs gs : List Form) → length fs ≡ mostFields → length gs ≡ mostFields → RowFor t n fs → RowFor t n gs → fs ≡ gs
+row-one t n fs gs l m f g = ext-getD Field3 fs gs (l ∙ sym m) (λ j h. f j .0 (omega arith) ∙ sym (g j .0 (omega arith)))
 
 -- COUNTS
 
