@@ -1,20 +1,18 @@
 -- A list in cells of two bytes, by structure and at an index: which cell holds a code, and which can be passed by. Assumes nothing.
-use Prim.Native.Nat.{ℕ, zero, suc, _+_, _*_, _<_, _≤_}
+use Prim.Native.Nat.{ℕ, zero, suc, _+_, _-_, _*_, _<_, _≤_}
 use mathlib.Core.Path.{_≡_, refl, sym, ap, _∙_}
-use mathlib.Core.Bool.{Bool, true, false, cond}
+use mathlib.Core.Bool.{Bool, true, false, cond, not}
 use mathlib.Core.List.{List, [], _∷_}
 use native.Mathlib.Omega.{arith}
 use native.Mathlib.Numerals.{add-one}
-use lib.Arith.{lt-of-le-ne}
-use lib.Dec.{eqb, leb, ltb}
-use lib.ListN.{length, take, drop, getD, set, length-drop}
-use lib.Seq.{getD-set-same, getD-set-other}
-use borrow.Author.Tests.{eq-eqb, ne-eqb, eqb-true, eqb-false, le-leb, leb-true, ltb-true, ltb-false, not-true}
-use Rattle.alphabet.specs.Alphabet.{digit}
+use lib.Dec.{eqb, leb}
+use lib.ListN.{length, take, drop, getD, length-drop}
+use borrow.Author.Tests.{eq-eqb, ne-eqb, eqb-true, eqb-false, le-leb, leb-true, not-true}
+use Rattle.alphabet.specs.Alphabet.{digit, letter}
 use Rattle.text.specs.Words.{Word, upTo, before, all, same, rank, rankFrom, firstCells, cells}
 use Rattle.text.proofs.Index.{drop-here, drop-end, other-cell}
-use Rattle.text.proofs.Tests.{both, other, same-self}
-use Rattle.codes.specs.Codes.{codes, Passed}
+use Rattle.text.proofs.Tests.{both, other, same-self, same-other}
+use Rattle.codes.specs.Codes.{codes, noneBegins, passes, isIndex}
 
 -- THE WORDS OF THE CELLS
 
@@ -61,21 +59,22 @@ module _ (w : Word) (k : ℕ) (s : List ℕ) (i : ℕ) where
   pub nowhere : length s ≤ i + 1 → rankFrom (k + 1) w (pairs (drop i s)) ≡ 0
   nowhere h = ap (rankFrom (k + 1) w) (short-pairs (drop i s) (simp length-drop (omega arith)))
 
--- cells that begin otherwise are passed by
-module _ (w : Word) (b : ℕ) (first : getD w 0 32 ≡ b) where
-  skip : (f k : ℕ) (s : List ℕ) → ((j : ℕ) → j < f → 2 * j + 1 < length s → getD s (2 * j) 0 ≡ b → ⊥)
-      → rankFrom k w (pairs s) ≡ rankFrom (k + f) w (pairs (drop (2 * f) s))
-  skip zero k s h = let z : k + 0 ≡ k = omega arith in rw z
-  skip (suc f) k [] h = ap (λ (t : List ℕ). rankFrom (k + suc f) w (pairs t)) (sym (drop-end [] (2 * suc f) (omega arith)))
-  skip (suc f) k (x ∷ []) h = ap (λ (t : List ℕ). rankFrom (k + suc f) w (pairs t)) (sym (drop-end (x ∷ []) (2 * suc f) (omega arith)))
-  skip (suc f) k (x ∷ (y ∷ s)) h =
-      let z : 2 * suc f ≡ suc (suc (2 * f)) = omega arith in
-      let n : k + suc f ≡ suc k + f = omega arith in
-      let o : same w (before 32 (x ∷ (y ∷ []))) ≡ false
-      = other-cell w (x ∷ (y ∷ [])) (omega arith) (λ e. h 0 (omega arith) (omega arith) (e ∙ first)) in
-      rw (o, n, z)
-      (skip f (suc k) s
-      (λ j l i e. let y : 2 * suc j ≡ suc (suc (2 * j)) = omega arith in h (suc j) (omega arith) (omega arith) (rw y e)))
+-- words that begin otherwise are passed by
+skip : (w : Word) (f k : ℕ) (ws : List Word) → noneBegins (getD w 0 0) (take f ws) ≡ true → rankFrom k w ws ≡ rankFrom (k + f) w (drop f ws)
+skip w zero k ws h = let z : k + 0 ≡ k = omega arith in rw z
+skip w (suc f) k [] h = refl
+skip w (suc f) k (v ∷ ws) h =
+    let e = both (not (eqb (getD v 0 0) (getD w 0 0))) _ h in
+    let n : k + suc f ≡ suc k + f = omega arith in
+    let o : same w v ≡ false
+    = same-other w v (λ p. eqb-false (getD v 0 0) (getD w 0 0) (not-true _ (e .0)) (ap (λ (u : Word). getD u 0 0) (sym p))) in
+    rw (o, n) (skip w f (suc k) ws (e .1))
+
+drop-pairs : (f : ℕ) (s : List ℕ) → drop f (pairs s) ≡ pairs (drop (2 * f) s)
+drop-pairs zero s = refl
+drop-pairs (suc f) [] = ap pairs (sym (drop-end [] (2 * suc f) (omega arith)))
+drop-pairs (suc f) (x ∷ []) = ap pairs (sym (drop-end (x ∷ []) (2 * suc f) (omega arith)))
+drop-pairs (suc f) (x ∷ (y ∷ s)) = let z : 2 * suc f ≡ suc (suc (2 * f)) = omega arith in rw z (drop-pairs f s)
 
 -- A CELL of the bytes b and c
 
@@ -134,6 +133,11 @@ code-shape (c ∷ (d ∷ (x ∷ w))) e = go (digit d) e
     go true e = absurd (let z : _≡_ {A = ℕ} 0 1 = cc in omega arith)
     go false e = absurd (let z : _≡_ {A = ℕ} 0 1 = cc in omega arith)
 
+pub second-some : (w : Word) (d : ℕ) → 1 < length w → getD w 1 0 ≡ getD w 1 d
+second-some [] d h = absurd (omega arith)
+second-some (x ∷ []) d h = absurd (omega arith)
+second-some (x ∷ (y ∷ w)) d h = refl
+
 -- no cell's word begins with a space
 no-space : (w : Word) → getD w 0 0 ≡ 32 → (k : ℕ) (s : List ℕ) → rankFrom k w (pairs s) ≡ 0
 no-space w e k [] = refl
@@ -157,69 +161,47 @@ module _ (w : Word) (e : codes w ≡ w ∷ []) where
       go (one c) = omega arith
       go (two c d q) = omega arith
 
-  pub code-double : (length w ≡ 1 → ⊥) → 1 < length w
-  code-double n = omega (arith, code-some)
-
   pub rank-space : getD w 0 0 ≡ 32 → (list : List ℕ) → rank w (cells 2 list) ≡ 0
   rank-space z list = ap (rank w) (cells-pairs list) ∙ no-space w z 1 list
 
-  module _ (n : getD w 0 0 ≡ 32 → ⊥) (list first : List ℕ) (passed : Passed 0 list first) (f : ℕ) (noted : f ≡ getD first (getD w 0 0) 0) where
-    starts : getD w 0 32 ≡ getD w 0 0
-    starts = go (code-shape w e)
-      where
-        go : {v : Word} → Code v → getD v 0 32 ≡ getD v 0 0
-        go (one c) = refl
-        go (two c d q) = refl
+  -- it is the word of the cell of its byte and a space, or of its two bytes
+  cell-is : (getD w 0 0 ≡ 32 → ⊥) → before 32 (getD w 0 0 ∷ (getD w 1 32 ∷ [])) ≡ w
+  cell-is n = go (code-shape w e) n
+    where
+      go : {v : Word} → Code v → (getD v 0 0 ≡ 32 → ⊥) → before 32 (getD v 0 0 ∷ (getD v 1 32 ∷ [])) ≡ v
+      go (one c) n = rw (ne-eqb c 32 n)
+      go (two c d q) n = rw (ne-eqb c 32 n, not-true (eqb d 32) (other digit 32 refl d q))
 
-    rank-on : rank w (cells 2 list) ≡ rankFrom (f + 1) w (cells 2 (drop (2 * f) list))
-    rank-on =
-        let z : 1 + f ≡ f + 1 = omega arith in
-        ap (rank w) (cells-pairs list)
-        ∙ skip w (getD w 0 0) starts f 1 list (λ j l i q. passed (getD w 0 0) j (omega arith) (omega arith) i q)
-        ∙ ap (λ (k : ℕ). rankFrom k w (pairs (drop (2 * f) list))) z
-        ∙ ap (rankFrom (f + 1) w) (sym (cells-pairs (drop (2 * f) list)))
+  pub rank-behind : (getD w 0 0 ≡ 32 → ⊥) → (list : List ℕ) (f c : ℕ) → noneBegins (getD w 0 0) (take f (cells 2 list)) ≡ true → c ≡ getD w 1 32
+      → rankFrom (f + 1) (before 32 (getD w 0 0 ∷ (c ∷ []))) (cells 2 (drop (2 * f) list)) ≡ rank w (cells 2 list)
+  rank-behind n list f c passed q =
+      let z : f + 1 ≡ 1 + f = omega arith in
+      ap (λ (d : ℕ). rankFrom (f + 1) (before 32 (getD w 0 0 ∷ (d ∷ []))) (cells 2 (drop (2 * f) list))) q
+      ∙ ap (λ (v : Word). rankFrom (f + 1) v (cells 2 (drop (2 * f) list))) (cell-is n)
+      ∙ ap (rankFrom (f + 1) w) (cells-pairs (drop (2 * f) list) ∙ sym (drop-pairs f list) ∙ ap (drop f) (sym (cells-pairs list)))
+      ∙ ap (λ (k : ℕ). rankFrom k w (drop f (cells 2 list))) z
+      ∙ sym (skip w f 1 (cells 2 list) passed)
 
-    -- looked for as the cell of its byte and a space, or of its two bytes
-    pub rank-one : length w ≡ 1 → (r : ℕ) → r ≡ rankFrom (f + 1) (before 32 (getD w 0 0 ∷ (32 ∷ []))) (cells 2 (drop (2 * f) list))
-        → r ≡ rank w (cells 2 list)
-    rank-one l r q = q ∙ ap (λ (v : Word). rankFrom (f + 1) v (cells 2 (drop (2 * f) list))) (go (code-shape w e) l n) ∙ sym rank-on
-      where
-        go : {v : Word} → Code v → length v ≡ 1 → (getD v 0 0 ≡ 32 → ⊥) → before 32 (getD v 0 0 ∷ (32 ∷ [])) ≡ v
-        go (one c) l n = rw (ne-eqb c 32 n)
-        go (two c d q) l n = absurd (omega arith)
+-- WHAT AN INDEX SAYS of one letter
 
-    pub rank-two : (length w ≡ 1 → ⊥) → (r : ℕ) → r ≡ rankFrom (f + 1) (before 32 (getD w 0 0 ∷ (getD w 1 0 ∷ []))) (cells 2 (drop (2 * f) list))
-        → r ≡ rank w (cells 2 list)
-    rank-two l r q = q ∙ ap (λ (v : Word). rankFrom (f + 1) v (cells 2 (drop (2 * f) list))) (go (code-shape w e) l n) ∙ sym rank-on
-      where
-        go : {v : Word} → Code v → (length v ≡ 1 → ⊥) → (getD v 0 0 ≡ 32 → ⊥) → before 32 (getD v 0 0 ∷ (getD v 1 0 ∷ [])) ≡ v
-        go (one c) l n = absurd (l refl)
-        go (two c d q) l n = rw (ne-eqb c 32 n, not-true (eqb d 32) (other digit 32 refl d q))
+passes-at : (b : ℕ) (first : List ℕ) (list : List Word) → passes b first list ≡ true → (i : ℕ) → noneBegins (b + i) (take (getD first i 0) list) ≡ true
+passes-at b [] list e i = refl
+passes-at b (n ∷ first) list e zero =
+    let z : b + 0 ≡ b = omega arith in
+    rw z (both (noneBegins b (take n list)) (passes (suc b) first list) e .0)
+passes-at b (n ∷ first) list e (suc i) =
+    let z : b + suc i ≡ suc b + i = omega arith in
+    rw z (passes-at (suc b) first list (both (noneBegins b (take n list)) (passes (suc b) first list) e .1) i)
 
--- THE INDEX
+pub letter-bounds : (b : ℕ) → letter b ≡ true → (65 ≤ b) × (b ≤ 90)
+letter-bounds b l = let h = both (leb 65 b) (leb b 90) l in (leb-true 65 b (h .0), leb-true b 90 (h .1))
 
-all-most : (first : List ℕ) → all (λ n. leb n 255) first ≡ true → (b : ℕ) → getD first b 0 ≤ 255
-all-most [] e b = omega arith
-all-most (x ∷ first) e zero = leb-true x 255 (both (leb x 255) _ e .0)
-all-most (x ∷ first) e (suc b) = all-most first (both (leb x 255) (all (λ n. leb n 255) first) e .1) b
+pub letter-passes : (first : List ℕ) (list : List Word) → isIndex first list ≡ true
+    → (b i f : ℕ) → letter b ≡ true → i ≡ b - 65 → f ≡ getD first i 0 → noneBegins b (take f list) ≡ true
+letter-passes first list e b i f l p q =
+    let h = letter-bounds b l in
+    let z : b ≡ 65 + i = omega arith in
+    rw (z, q) (passes-at 65 first list e i)
 
-pub passed-starts : (list first : List ℕ) → all (λ n. leb n 255) first ≡ true → (k : ℕ) → (k < 255 → length list ≤ 2 * k + 1) → Passed k list first
-passed-starts list first e k h b j l i m q = go (ltb k 255) refl
-  where
-    go : (t : Bool) → ltb k 255 ≡ t → ⊥
-    go true r = absurd (omega (arith, h (ltb-true k 255 r)))
-    go false r = absurd (omega (arith, ltb-false k 255 r, all-most first e b))
-
-pub passed-next : (list first : List ℕ) (k m i : ℕ) → m ≡ k + 1 → i ≡ getD list (2 * k) 0 → i < length first → Passed m list first
-    → Passed k list (set first i k)
-passed-next list first k m i d r h p b j l u v q = go (eqb b i) refl
-  where
-    go : (t : Bool) → eqb b i ≡ t → ⊥
-    go true e =
-        let z : getD (set first i k) b 0 ≡ k = ap (λ (x : ℕ). getD (set first i k) x 0) (eqb-true b i e) ∙ getD-set-same first i k 0 h in
-        absurd (omega arith)
-    go false e =
-        let n = eqb-false b i e in
-        let z : getD (set first i k) b 0 ≡ getD first b 0 = getD-set-other first i b k 0 n in
-        let g : k < j = lt-of-le-ne l (λ y. n (sym q ∙ ap (λ (x : ℕ). getD list (2 * x) 0) (sym y) ∙ sym r)) in
-        p b j (omega arith) (omega arith) v q
+pub letter-no-space : (b : ℕ) → letter b ≡ true → b ≡ 32 → ⊥
+letter-no-space b l = eqb-false b 32 (not-true _ (other letter 32 refl b l))

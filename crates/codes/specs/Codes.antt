@@ -1,14 +1,14 @@
 -- Codes joined without spaces, as in field 10 and under PBN: a code is a byte with the digit behind it, where there is one.
 -- Assumes nothing.
-use Prim.Native.Nat.{ℕ, _+_, _*_, _≤_, _<_}
+use Prim.Native.Nat.{ℕ, suc}
 use mathlib.Core.Path.{_≡_, refl}
 use mathlib.Core.Bool.{Bool, true, false, _&&_, not, cond}
 use mathlib.Core.List.{List, [], _∷_, _++_}
 use lib.Dec.{eqb}
-use lib.ListN.{length, getD}
+use lib.ListN.{take, getD}
 use Rattle.alphabet.specs.Text.{bytes}
 use Rattle.alphabet.specs.Alphabet.{digit}
-use Rattle.text.specs.Words.{Word, split, elem}
+use Rattle.text.specs.Words.{Word, split, all, elem}
 
 -- CUTTING
 
@@ -34,9 +34,18 @@ shaped (c ∷ []) = not (digit c) && not (eqb c 47)
 shaped (c ∷ (d ∷ [])) = (not (digit c) && not (eqb c 47)) && (digit d && not (eqb d 47))
 shaped (c ∷ (d ∷ (x ∷ w))) = false
 
--- AN INDEX of a list in cells of two bytes, by the byte that a cell begins with: of so many cells as it has for a byte none, from the k-th on, begins with it
-abbrev pub Passed : ℕ → List ℕ → List ℕ → Type 0
-Passed k list first = (b j : ℕ) → k ≤ j → j < getD first b 0 → 2 * j + 1 < length list → getD list (2 * j) 0 ≡ b → ⊥
+-- AN INDEX of a list, by the letter that a code begins with: a number for each letter, and of so many codes at the front of the list none begins with it
+
+abbrev pub noneBegins : ℕ → List Word → Bool
+noneBegins b ws = all (λ w. not (eqb (getD w 0 0) b)) ws
+
+-- for each letter from b on
+abbrev pub passes : ℕ → List ℕ → List Word → Bool
+passes b [] list = true
+passes b (n ∷ first) list = noneBegins b (take n list) && passes (suc b) first list
+
+abbrev pub isIndex : List ℕ → List Word → Bool
+isIndex first list = passes 65 first list
 
 -- EXAMPLES, computed
 
@@ -46,3 +55,7 @@ cut-codes = refl
 tried : (codesFit (split 32 (bytes "S D E2")) (codes (bytes "SE2")) ≡ true) × (codesFit (split 32 (bytes "S D E2")) (codes (bytes "SE")) ≡ false)
     × (codesFit (split 32 (bytes "S D E2")) (codes (bytes "SDS")) ≡ false)
 tried = (refl, refl, refl)
+
+-- of the codes A C1 C2 B none begins with A before the first, with B before the fourth, with C before the second
+indexed : (isIndex (0 ∷ (3 ∷ (1 ∷ []))) (split 32 (bytes "A C1 C2 B")) ≡ true) × (isIndex (0 ∷ (3 ∷ (2 ∷ []))) (split 32 (bytes "A C1 C2 B")) ≡ false)
+indexed = (refl, refl)

@@ -3,10 +3,9 @@ ghost use mathlib.Core.Path.{_≡_};
 ghost use Prim.Native.Nat.{ℕ, _+_, _-_, _*_, _≤_, _<_};
 ghost use mathlib.Core.Bool.{true};
 ghost use mathlib.Core.List.{[], _∷_};
-ghost use lib.Dec.{leb};
-ghost use lib.ListN.{length, take, drop};
-ghost use Rattle.text.specs.Words.{before, all, elem, rank, rankFrom, cells};
-ghost use Rattle.codes.specs.Codes.{codes, codesFit, Passed};
+ghost use lib.ListN.{length, take, drop, getD};
+ghost use Rattle.text.specs.Words.{before, elem, rank, rankFrom, cells};
+ghost use Rattle.codes.specs.Codes.{codes, codesFit, isIndex};
 
 // Where the code that begins at `at` ends: behind the digit that follows it, if there is one.
 fn code_end(s: &[u8], at: usize) -> usize
@@ -46,26 +45,6 @@ fn wide(b: u8) -> usize
     b as usize
 }
 
-// How many of n cells are indexed: a number in the index is a byte.
-fn known_cells(n: usize) -> usize
-    ensures { λ r. ⌜ (r ≤ n) × (r ≤ 255) × (r < 255 → r ≡ n) ⌝ }
-{
-    if n < 255 { n } else { 255 }
-}
-
-// Notes of each byte how many of a list's cells can be passed by when a code that begins with it is looked for: none of them begins with it.
-fn index_cells(list: &[u8], first: &mut [u8; 256])
-    requires { ⌜ (length (now first) ≡ 256) × (all (λ n. leb n 255) (now first) ≡ true) ⌝ }
-    ensures { λ r. ⌜ Passed 0 (now (list .entry)) (now (first .exit)) ⌝ }
-{
-    let mut k = known_cells(list.len() / 2);
-    while 0 < k {
-        k -= 1;
-        let b = wide(list[2 * k]);
-        first[b] = k as u8;
-    }
-}
-
 // The place of the cell b c in a list, counted from 1 and looked for behind the first f cells; 0 where it has none.
 fn cell_behind(f: usize, b: u8, c: u8, list: &[u8]) -> usize
     requires { ⌜ (f ≤ 255) × (b ≡ 32 → ⊥) ⌝ }
@@ -87,38 +66,44 @@ fn cell_behind(f: usize, b: u8, c: u8, list: &[u8]) -> usize
     0
 }
 
-// The place of a code in a list, by its index, counted from 1; 0 where it has none. The word of a cell has no space.
-fn rank_by(first: &[u8; 256], w: &[u8], list: &[u8]) -> usize
+// The second byte of a code's cell: its digit, or a space.
+fn second_of(w: &[u8]) -> u8
+    ensures { λ r. ⌜ r ≡ getD (now (w .entry)) 1 32 ⌝ }
+{
+    if w.len() < 2 { b' ' } else { w[1] }
+}
+
+// The place of a code in a list, counted from 1; 0 where it has none. By the list's index, where the code begins with a letter. The word of a cell has no space.
+fn rank_by(first: &[u8; 26], w: &[u8], list: &[u8]) -> usize
     requires { ⌜ codes (now w) ≡ now w ∷ [] ⌝ }
-    requires { ⌜ Passed 0 (now list) (now first) ⌝ }
+    requires { ⌜ isIndex (now first) (cells 2 (now list)) ≡ true ⌝ }
     ensures { λ r. ⌜ r ≡ rank (now (w .entry)) (cells 2 (now (list .entry))) ⌝ }
 {
     let b = w[0];
+    let c = second_of(w);
+    if alphabet::is_letter(b) {
+        let i = wide(b - b'A');
+        return cell_behind(wide(first[i]), b, c, list);
+    }
     if b == b' ' {
         return 0;
     }
-    let i = wide(b);
-    let f = wide(first[i]);
-    if w.len() == 1 {
-        return cell_behind(f, b, b' ', list);
-    }
-    cell_behind(f, b, w[1], list)
+    cell_behind(0, b, c, list)
 }
 
 // Whether each code is in the list, in cells of two bytes, and none comes twice. `first` is the list's index; `seen` marks the ranks of the codes before, and a
 // code of a higher rank is looked for among those behind it.
-pub fn codes_fit(list: &[u8], s: &[u8]) -> bool
+pub fn codes_fit_by(first: &[u8; 26], list: &[u8], s: &[u8]) -> bool
+    requires { ⌜ isIndex (now first) (cells 2 (now list)) ≡ true ⌝ }
     ensures { λ r. ⌜ r ≡ codesFit (cells 2 (now (list .entry))) (codes (now (s .entry))) ⌝ }
 {
-    let mut first = [255u8; 256];
-    index_cells(list, &mut first);
     let mut seen = [false; 64];
     let mut at = 0;
     while at < s.len() {
         let e = code_end(s, at);
         let w = &s[at..e];
         at = e;
-        let rank = rank_by(&first, w, list);
+        let rank = rank_by(first, w, list);
         if rank == 0 {
             return false;
         }
@@ -132,4 +117,11 @@ pub fn codes_fit(list: &[u8], s: &[u8]) -> bool
         }
     }
     true
+}
+
+// The same of any list: no code of it is passed by.
+pub fn codes_fit(list: &[u8], s: &[u8]) -> bool
+    ensures { λ r. ⌜ r ≡ codesFit (cells 2 (now (list .entry))) (codes (now (s .entry))) ⌝ }
+{
+    codes_fit_by(&[0u8; 26], list, s)
 }

@@ -33,11 +33,19 @@ fn is_status(w: &[u8]) -> bool
     )
 }
 
+// The index of PBN's list: how many codes stand before the first that begins with A, B, C, .. Z, a byte for each; where none begins with it, all of them.
+const APPROVALS_INDEX: [u8; 26] =
+    *b"\x00\x01\x07\x0b\x18\x18\x18\x18\x18\x18\x18\x0f\x18\x18\x10\x18\x18\x18\x14\x16\x18\x18\x18\x18\x18\x18";
+
 // PBN: 1 to 8 codes of two bytes, none twice.
 fn is_approved(w: &[u8]) -> bool
     ensures { λ r. ⌜ r ≡ approved (now (w .entry)) ⌝ }
 {
-    if !codes::codes_fit(b"A1B1B2B3B4B5B6C1C2C3C4D1D2D3D4L1O1O2O3O4S1S2T1T2", w) {
+    if !codes::codes_fit_by(
+        &APPROVALS_INDEX,
+        b"A1B1B2B3B4B5B6C1C2C3C4D1D2D3D4L1O1O2O3O4S1S2T1T2",
+        w,
+    ) {
         return false;
     }
     if w.len() < 1 {

@@ -1,4 +1,4 @@
--- `codes::codes_fit` meets its contract. Assumes nothing.
+-- `codes::codes_fit_by` meets its contract. Assumes nothing.
 use Prim.Native.Nat.{_-_, _≤_}
 use mathlib.Core.Path.{_≡_, refl, sym, _∙_}
 use native.Mathlib.Omega.{arith}
@@ -9,26 +9,23 @@ use Rattle.codes.specs.Codes.{codes, codesFit}
 use Rattle.codes.proofs.Pairs.{code-alone}
 use Rattle.codes.proofs.Marks.{rest, rest-starts, not-listed, seen-before, marked, comes-again, comes-once}
 use borrow.Author.Needs.{needs}
-use Rattle.codes.proofs.codes_fit.Statement.{statement}
-use Rattle.codes.proofs.codes_fit.Tie as tie
+use Rattle.codes.proofs.codes_fit_by.Statement.{statement}
+use Rattle.codes.proofs.codes_fit_by.Tie as tie
 
 abbrev Inv-loop : tie.InvT-loop
-Inv-loop list s first seen₀ at₀ seen at =
+Inv-loop first list s seen₀ at₀ seen at =
     (at ≤ length s) × (length seen ≡ 64) × (codesFit (cells 2 list) (codes s) ≡ rest seen (cells 2 list) (codes (drop at s)))
 
 abbrev μ-loop : tie.MeasureT-loop
-μ-loop list s first seen₀ at₀ seen at = length s - at
+μ-loop first list s seen₀ at₀ seen at = length s - at
 
 -- where a code's rank is known
 module _ (c : tie.After-rank-by Inv-loop μ-loop) where
   abbrev ended : tie.After-code-end Inv-loop μ-loop
-  ended = c .before .before .before
+  ended = c .before .before
 
   abbrev looped : tie.At-loop Inv-loop μ-loop
   looped = ended .before .before
-
-index-cells-requires : tie.Need-index-cells-requires Inv-loop μ-loop
-index-cells-requires c κs = (refl, refl)
 
 loop-holds : tie.Need-loop-holds Inv-loop μ-loop
 loop-holds c = (search needs, refl, rest-starts _ refl _ _)
@@ -47,11 +44,10 @@ part-w-end c = search needs
 
 rank-by-requires : tie.Need-rank-by-requires Inv-loop μ-loop
 rank-by-requires c κs =
-    let e = c .before .before in
+    let e = c .before in
     let l = e .before .before in
-    let n = l .before in
-    let s = n .before .before .before .before .args .s .now in
-    (code-alone (drop (l .loop .at) s) _ _ (e .code-end .ensures .0), n .index-cells .ensures)
+    let b = l .before .before .before in
+    (code-alone (drop (l .loop .at) (b .args .s .now)) _ _ (e .code-end .ensures .0), b .pre)
 
 returns : tie.Need-returns Inv-loop μ-loop
 returns c =
@@ -113,13 +109,12 @@ returns-4 : tie.Need-returns-4 Inv-loop μ-loop
 unfolding rest
 returns-4 c = sym (c .before .loop .inv .2 ∙ rw (drop-end _ (c .before .loop .at) (c .loop-test .left)))
 
-pub codes-fit-spec : {M : Type 1} → statement M
-codes-fit-spec =
+pub codes-fit-by-spec : {M : Type 1} → statement M
+codes-fit-by-spec =
     tie.close
     (tie.spec
     Inv-loop
     μ-loop
-    index-cells-requires
     loop-holds
     code-end-requires
     sub-w
