@@ -9,10 +9,10 @@ use lib.Dec.{eqb, leb}
 use lib.ListN.{length, take, drop, getD, length-drop}
 use borrow.Author.Tests.{eq-eqb, ne-eqb, eqb-true, eqb-false, le-leb, leb-true, not-true}
 use Rattle.alphabet.specs.Alphabet.{digit, letter}
-use Rattle.text.specs.Words.{Word, upTo, before, all, same, rank, rankFrom, firstCells, cells}
+use Rattle.text.specs.Words.{Word, upTo, before, same, rank, rankFrom, firstCells, cells}
 use Rattle.text.proofs.Index.{drop-here, drop-end, other-cell}
 use Rattle.text.proofs.Tests.{both, other, same-self, same-other}
-use Rattle.codes.specs.Codes.{codes, noneBegins, passes, isIndex}
+use Rattle.codes.specs.Codes.{codes, noneBegins, indexFrom, isIndex}
 
 -- THE WORDS OF THE CELLS
 
@@ -184,24 +184,24 @@ module _ (w : Word) (e : codes w ≡ w ∷ []) where
 
 -- WHAT AN INDEX SAYS of one letter
 
-passes-at : (b : ℕ) (first : List ℕ) (list : List Word) → passes b first list ≡ true → (i : ℕ) → noneBegins (b + i) (take (getD first i 0) list) ≡ true
-passes-at b [] list e i = refl
-passes-at b (n ∷ first) list e zero =
+index-at : (b : ℕ) (first : List ℕ) (list : List Word) → indexFrom b first list ≡ true → (i : ℕ) → noneBegins (b + i) (take (getD first i 0) list) ≡ true
+index-at b [] list e i = refl
+index-at b (n ∷ first) list e zero =
     let z : b + 0 ≡ b = omega arith in
-    rw z (both (noneBegins b (take n list)) (passes (suc b) first list) e .0)
-passes-at b (n ∷ first) list e (suc i) =
+    rw z (both (noneBegins b (take n list)) (indexFrom (suc b) first list) e .0)
+index-at b (n ∷ first) list e (suc i) =
     let z : b + suc i ≡ suc b + i = omega arith in
-    rw z (passes-at (suc b) first list (both (noneBegins b (take n list)) (passes (suc b) first list) e .1) i)
+    rw z (index-at (suc b) first list (both (noneBegins b (take n list)) (indexFrom (suc b) first list) e .1) i)
 
 pub letter-bounds : (b : ℕ) → letter b ≡ true → (65 ≤ b) × (b ≤ 90)
 letter-bounds b l = let h = both (leb 65 b) (leb b 90) l in (leb-true 65 b (h .0), leb-true b 90 (h .1))
 
-pub letter-passes : (first : List ℕ) (list : List Word) → isIndex first list ≡ true
+pub index-letter : (first : List ℕ) (list : List Word) → isIndex first list ≡ true
     → (b i f : ℕ) → letter b ≡ true → i ≡ b - 65 → f ≡ getD first i 0 → noneBegins b (take f list) ≡ true
-letter-passes first list e b i f l p q =
+index-letter first list e b i f l p q =
     let h = letter-bounds b l in
     let z : b ≡ 65 + i = omega arith in
-    rw (z, q) (passes-at 65 first list e i)
+    rw (z, q) (index-at 65 first list e i)
 
 pub letter-no-space : (b : ℕ) → letter b ≡ true → b ≡ 32 → ⊥
 letter-no-space b l = eqb-false b 32 (not-true _ (other letter 32 refl b l))

@@ -40,12 +40,12 @@ abbrev pub noneBegins : ℕ → List Word → Bool
 noneBegins b ws = all (λ w. not (eqb (getD w 0 0) b)) ws
 
 -- for each letter from b on
-abbrev pub passes : ℕ → List ℕ → List Word → Bool
-passes b [] list = true
-passes b (n ∷ first) list = noneBegins b (take n list) && passes (suc b) first list
+abbrev pub indexFrom : ℕ → List ℕ → List Word → Bool
+indexFrom b [] list = true
+indexFrom b (n ∷ first) list = noneBegins b (take n list) && indexFrom (suc b) first list
 
 abbrev pub isIndex : List ℕ → List Word → Bool
-isIndex first list = passes 65 first list
+isIndex first list = indexFrom 65 first list
 
 -- EXAMPLES, computed
 
@@ -56,6 +56,6 @@ tried : (codesFit (split 32 (bytes "S D E2")) (codes (bytes "SE2")) ≡ true) ×
     × (codesFit (split 32 (bytes "S D E2")) (codes (bytes "SDS")) ≡ false)
 tried = (refl, refl, refl)
 
--- of the codes A C1 C2 B none begins with A before the first, with B before the fourth, with C before the second
+-- before the first code with A stands none, with B three, with C one
 indexed : (isIndex (0 ∷ (3 ∷ (1 ∷ []))) (split 32 (bytes "A C1 C2 B")) ≡ true) × (isIndex (0 ∷ (3 ∷ (2 ∷ []))) (split 32 (bytes "A C1 C2 B")) ≡ false)
 indexed = (refl, refl)

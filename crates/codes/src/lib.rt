@@ -73,7 +73,8 @@ fn second_of(w: &[u8]) -> u8
     if w.len() < 2 { b' ' } else { w[1] }
 }
 
-// The place of a code in a list, counted from 1; 0 where it has none. By the list's index, where the code begins with a letter. The word of a cell has no space.
+// The place of a code in a list, counted from 1; 0 where it has none. A code that begins with a letter is looked for by the list's index; none begins with a
+// space, since the word of a cell has none.
 fn rank_by(first: &[u8; 26], w: &[u8], list: &[u8]) -> usize
     requires { ⌜ codes (now w) ≡ now w ∷ [] ⌝ }
     requires { ⌜ isIndex (now first) (cells 2 (now list)) ≡ true ⌝ }
@@ -119,7 +120,7 @@ pub fn codes_fit_by(first: &[u8; 26], list: &[u8], s: &[u8]) -> bool
     true
 }
 
-// The same of any list: no code of it is passed by.
+// The same of any list: with zeros for its index no cell is passed by.
 pub fn codes_fit(list: &[u8], s: &[u8]) -> bool
     ensures { λ r. ⌜ r ≡ codesFit (cells 2 (now (list .entry))) (codes (now (s .entry))) ⌝ }
 {

@@ -22,7 +22,7 @@ fn side_by(first: &[u8; 26], list: &[u8], most: usize, s: &[u8]) -> bool
     codes::codes_fit_by(first, list, s)
 }
 
-// The same of any list: no code of it is passed by.
+// The same of any list: with zeros for its index no code is passed by.
 pub fn side(list: &[u8], most: usize, s: &[u8]) -> bool
     ensures { λ r. ⌜ r ≡ sideFits (cells 2 (now (list .entry))) most (codes (now (s .entry))) ⌝ }
 {

@@ -6,7 +6,7 @@ use mathlib.Core.List.{List}
 use native.Mathlib.Omega.{arith}
 use lib.ListN.{getD}
 use Rattle.alphabet.specs.Alphabet.{letter}
-use Rattle.codes.proofs.Pairs.{code-some, rank-space, rank-behind, letter-bounds, letter-passes, letter-no-space}
+use Rattle.codes.proofs.Pairs.{code-some, rank-space, rank-behind, letter-bounds, index-letter, letter-no-space}
 use borrow.Author.Needs.{needs}
 use Rattle.codes.proofs.rank_by.Statement.{statement}
 use Rattle.codes.proofs.rank_by.Tie as tie
@@ -60,7 +60,7 @@ returns c =
     let t = i .before in
     let s = start (t .before) in
     let f = n .wide2 .result in
-    let passed = letter-passes (s .args .first .now) _ (s .pre .1) _ (i .wide .result) f (begins t) (i .wide .ensures .0) (n .wide2 .ensures .0) in
+    let passed = index-letter (s .args .first .now) _ (s .pre .1) _ (i .wide .result) f (begins t) (i .wide .ensures .0) (n .wide2 .ensures .0) in
     c .cell-behind .ensures
     ∙ rank-behind (s .args .w .now) (s .pre .0) (letter-no-space _ (begins t)) (s .args .list .now) f _ passed (read (t .before) .second-of .ensures)
 
