@@ -11,9 +11,8 @@ use borrow.Author.Tests.{ne-eqb}
 use Rattle.text.specs.Words.{Word, join, upTo, before, behind}
 use Rattle.text.specs.Lent.{front}
 use Rattle.text.proofs.Index.{rest, piece}
-use Rattle.text.proofs.Lent.{store, lent}
+use Rattle.text.proofs.Lent.{store, lent, Writing, begin, due, room, onward, all-written}
 use Rattle.space.specs.Hyphens.{behindHyphen}
-use Rattle.canonical.proofs.Turns.{Writing, begin, due, room, onward, all-written}
 use Rattle.kinds.specs.declared.Role.{Role}
 use Rattle.message.specs.Reading.{leadOf}
 use Rattle.message.proofs.Nth.{field-at}

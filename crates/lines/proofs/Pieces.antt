@@ -9,7 +9,7 @@ use Rattle.text.specs.Words.{Word}
 use Rattle.text.specs.Lent.{front}
 use Rattle.pieces.specs.Pieces.{whiteAhead, pieceEnd, piecesOf}
 use Rattle.pieces.proofs.Walk.{to-front, next-piece, no-piece}
-use Rattle.canonical.proofs.Turns.{Writing, begin, due, all-written}
+use Rattle.text.proofs.Lent.{Writing, begin, due, all-written}
 use Rattle.lines.specs.Lines.{each}
 use Rattle.lines.proofs.Writing.{part-written}
 

@@ -10,8 +10,7 @@ use lib.Seq.{drop-drop, take-at, drop-at, set-at, length-take-le, drop-append-ad
 use Rattle.io.specs.Counts.{Counts}
 use Rattle.text.specs.Lent.{front}
 use Rattle.text.proofs.Index.{drop-here}
-use Rattle.text.proofs.Lent.{length-front}
-use Rattle.canonical.proofs.Turns.{Writing, room, onward}
+use Rattle.text.proofs.Lent.{length-front, Writing, room, onward}
 use Rattle.kinds.specs.declared.MessageType.{MessageType}
 use Rattle.kinds.specs.Kinds.{typesRead}
 use Rattle.kinds.proofs.Names.{each}

@@ -5,14 +5,14 @@ use mathlib.Core.Bool.{Bool, true, false, cond, _&&_}
 use mathlib.Core.List.{List, [], _∷_, _++_, append-assoc, append-nil}
 use native.Mathlib.Omega.{arith}
 use lib.Dec.{eqb}
-use lib.ListN.{length, getD, take, drop, set, length-append, length-drop, take-append-drop}
+use lib.ListN.{length, getD, take, drop, set, length-append, length-drop, length-set, take-append-drop}
 use lib.Seq.{drop-drop, length-take-le, take-at, drop-at, getD-append-seam}
 use borrow.Author.Tests.{eqb-true}
 use Rattle.alphabet.specs.Alphabet.{white}
 use Rattle.text.specs.Lent.{front}
 use Rattle.text.proofs.Tests.{both}
 use Rattle.text.proofs.Index.{drop-here, drop-end}
-use Rattle.text.proofs.Lent.{store, lent, length-front, next-out, next-rest, next-fits, whole-out}
+use Rattle.text.proofs.Lent.{store, lent, Writing, begin, due, onward, all-written, as-long}
 use Rattle.space.specs.Reduced.{opens, standsForRun, kept, reducedFrom, reduced}
 use Rattle.space.specs.Part.{reducedPart, lastOf, withPart}
 use Rattle.space.specs.Stays.{regular, allRegular}
@@ -86,41 +86,12 @@ part-rest x a (suc n) (b ∷ s) t =
     rest-step x a n b s (white b) (standsForRun a s) refl refl t (part-rest (x ++ (b ∷ [])) (opens b) n s (λ h w. ap opens (last-snoc x b)))
     (part-rest (x ++ (32 ∷ [])) a n s) (part-rest x a n s)
 
--- WRITING: of the whole the first n bytes stand at the front of buf, the bytes behind them are as they were, and `left` is left to write
-pub record Writing (whole buf₀ buf : List ℕ) (n : ℕ) (left : List ℕ) : Type 0 where
-  pub room : length buf ≡ length buf₀
-  pub most : n ≤ length whole
-  pub ahead : drop n whole ≡ left
-  pub written : buf ≡ take n whole ++ drop n buf₀
-
-due : {whole buf₀ buf left : List ℕ} {n : ℕ} (next : List ℕ) → Writing whole buf₀ buf n left → left ≡ next → Writing whole buf₀ buf n next
-due next t e = record { room = t .room; most = t .most; ahead = t .ahead ∙ e; written = t .written }
-
--- w is written, and the rest is left
-write : (whole buf₀ buf : List ℕ) (n : ℕ) (w rest : List ℕ) → Writing whole buf₀ buf n (w ++ rest) → n + length w ≤ length buf
-    → Writing whole buf₀ (take n buf ++ front w (drop n buf)) (n + length w) rest
-write whole buf₀ buf n w rest t h =
-    let long : n + length w + length rest ≡ length whole = next-fits whole buf₀ buf n (t .written) (t .most) w rest (t .ahead) in
-    let d : length (drop n buf) ≡ length buf - n = length-drop n buf in
-    let f : length (front w (drop n buf)) ≡ length (drop n buf) = length-front w (drop n buf) (omega arith) in
-    let k : length (take n buf) ≡ n = length-take-le n buf (omega arith) in
-    record {
-      room = length-append (take n buf) (front w (drop n buf)) ∙ omega (arith, t .room);
-      most = omega arith;
-      ahead = next-rest whole buf₀ buf n (t .written) (t .most) w rest (t .ahead);
-      written = next-out whole buf₀ buf n (t .written) (t .most) w rest (t .ahead);
-    }
-
-written-all : (whole buf₀ buf : List ℕ) (n : ℕ) → Writing whole buf₀ buf n [] → (n ≡ length whole) × (buf ≡ front whole buf₀)
-written-all whole buf₀ buf n t =
-    let e : n ≡ length whole = omega (arith, t .most, ap length (t .ahead), length-drop n whole) in
-    (e, whole-out whole buf₀ buf n (t .written) e)
-
 -- ONE BYTE AFTER ANOTHER: from `from` to i they are reduced, behind the `at` bytes that were written before, and stand in buf up to n
 pub record Bytewise (msg buf₀ : List ℕ) (from to at : ℕ) (buf : List ℕ) (last n i : ℕ) : Type 0 where
   pub begun : from ≤ i
   pub inside : i ≤ to
   pub short : n + from ≤ at + i
+  pub room : length buf ≡ length buf₀
   pub writing : Writing (withPart (take at buf₀) (to - from) (drop from msg)) buf₀ buf n (reducedPart (opens last) (to - i) (drop i msg))
 
 pub bytes-start : (msg buf : List ℕ) (from to at last : ℕ) → from ≤ to → at ≤ length buf → last ≡ lastOf (take at buf)
@@ -132,11 +103,11 @@ bytes-start msg buf from to at last h l e =
       begun = omega arith;
       inside = h;
       short = omega arith;
+      room = refl;
       writing = record {
-        room = refl;
-        most = omega (arith, length-append (take at buf) w);
+        inside = omega (arith, length-append (take at buf) w);
         ahead = drop-at (take at buf) w at k ∙ rw e;
-        written = rw (take-at (take at buf) w at k) (sym (take-append-drop at buf));
+        held = rw (take-at (take at buf) w at k) (sym (take-append-drop at buf));
       };
     }
 
@@ -161,7 +132,8 @@ module _ (msg buf₀ : List ℕ) (from to at : ℕ) (buf : List ℕ) (last n i :
           begun = omega (arith, t .begun);
           inside = omega arith;
           short = omega (arith, t .short);
-          writing = rw (store buf n x r) (write _ buf₀ buf n (x ∷ []) rest (due (x ∷ rest) (t .writing) e) (omega arith));
+          room = length-set buf n x ∙ t .room;
+          writing = onward (x ∷ []) rest (due (t .writing) e) (set buf n x) (store buf n x r);
         }
 
     pub byte-stored : n < length buf → white (getD msg i 0) ≡ false
@@ -179,29 +151,30 @@ module _ (msg buf₀ : List ℕ) (from to at : ℕ) (buf : List ℕ) (last n i :
           begun = omega (arith, t .begun);
           inside = omega arith;
           short = omega (arith, t .short);
-          writing = due (reducedPart (opens last) (to - (i + 1)) (drop (i + 1) msg)) (t .writing) (here ∙ rw (e, s));
+          room = t .room;
+          writing = due (t .writing) (here ∙ rw (e, s));
         }
 
   pub bytes-end : to ≤ i → let whole = withPart (take at buf₀) (to - from) (drop from msg) in (n ≡ length whole) × (buf ≡ front whole buf₀)
   unfolding reducedPart
   bytes-end h =
       let z : to - i ≡ 0 = omega arith in
-      written-all _ buf₀ buf n (due [] (t .writing) (rw z))
+      all-written (due (t .writing) (rw z))
 
 -- ONE PART AFTER ANOTHER: up to i the message is reduced, and stands in buf up to n
 pub record Partwise (msg buf₀ buf : List ℕ) (n i : ℕ) : Type 0 where
   pub short : n ≤ i
   pub inside : i ≤ length msg
+  pub room : length buf ≡ length buf₀
   pub writing : Writing (reduced msg) buf₀ buf n (reducedFrom (opens (lastOf (take n buf))) (drop i msg))
 
 pub parts-start : (msg buf : List ℕ) → Partwise msg buf buf 0 0
 unfolding reduced opens
-parts-start msg buf =
-    record { short = omega arith; inside = omega arith; writing = record { room = refl; most = omega arith; ahead = refl; written = refl } }
+parts-start msg buf = record { short = omega arith; inside = omega arith; room = refl; writing = begin (reduced msg) buf }
 
 pub parts-end : (msg buf₀ buf : List ℕ) (n i : ℕ) → Partwise msg buf₀ buf n i → length msg ≤ i → (n ≡ length (reduced msg)) × (buf ≡ front (reduced msg) buf₀)
 unfolding reducedFrom
-parts-end msg buf₀ buf n i t h = written-all (reduced msg) buf₀ buf n (due [] (t .writing) (rw (drop-end msg i h)))
+parts-end msg buf₀ buf n i t h = all-written (due (t .writing) (rw (drop-end msg i h)))
 
 module _ (msg buf₀ buf : List ℕ) (n i : ℕ) (t : Partwise msg buf₀ buf n i) (room : length msg ≤ length buf₀) (to : ℕ) (h : i ≤ to) (l : to ≤ length msg) where
   -- what is left of the bytes from i up to `to`
@@ -209,7 +182,7 @@ module _ (msg buf₀ buf : List ℕ) (n i : ℕ) (t : Partwise msg buf₀ buf n 
   part = reducedPart (opens (lastOf (take n buf))) (to - i) (drop i msg)
 
   few : n + (to - i) ≤ length buf
-  few = omega (arith, t .short, t .writing .room)
+  few = omega (arith, t .short, t .room)
 
   next : (mid : List ℕ) (r : ℕ) → mid ≡ take n buf ++ front part (drop n buf) → r ≡ n + length part → Partwise msg buf₀ mid r to
   unfolding front
@@ -223,12 +196,9 @@ module _ (msg buf₀ buf : List ℕ) (n i : ℕ) (t : Partwise msg buf₀ buf n 
       let k : i + (to - i) ≡ to = omega arith in
       let b : drop (to - i) (drop i msg) ≡ drop to msg = drop-drop (to - i) i msg ∙ ap (λ (j : ℕ). drop j msg) k in
       let rest = reducedFrom (opens (lastOf x)) (drop (to - i) (drop i msg)) in
-      let y = due (part ++ rest) (t .writing) (part-rest (take n buf) (opens (lastOf (take n buf))) (to - i) (drop i msg) (λ u v. refl)) in
-      record {
-        short = omega (arith, t .short);
-        inside = l;
-        writing = rw (z, q, ← b, e) (write (reduced msg) buf₀ buf n part rest y (omega (arith, few)));
-      }
+      let y = due (t .writing) (part-rest (take n buf) (opens (lastOf (take n buf))) (to - i) (drop i msg) (λ u v. refl)) in
+      let w = onward part rest y mid e in
+      record { short = omega (arith, t .short); inside = l; room = as-long w (omega (arith, few, t .room)); writing = rw (z, q, ← b) w }
 
   pub part-reduced : (mid : List ℕ) (r : ℕ) → r ≡ length (withPart (take n buf) (to - i) (drop i msg))
       → mid ≡ front (withPart (take n buf) (to - i) (drop i msg)) buf → Partwise msg buf₀ mid r to

@@ -5,10 +5,9 @@ use mathlib.Core.List.{List, [], _∷_}
 use mathlib.Core.Path.{_≡_, refl, sym, ap, _∙_}
 use native.Mathlib.Omega.{arith}
 use lib.ListN.{length, getD, drop, length-set}
-use Rattle.text.proofs.Lent.{store}
+use Rattle.text.proofs.Lent.{store, Writing, begin, due, room, onward, all-written}
 use Rattle.text.proofs.Index.{drop-end}
 use Rattle.canonical.specs.Canonical.{sorted}
-use Rattle.canonical.proofs.Turns.{Writing, begin, due, room, onward, all-written}
 use Rattle.canonical.proofs.Steps.{sorted-take, sorted-skip}
 use borrow.Author.Needs.{needs}
 use Rattle.canonical.proofs.put_sorted.Statement.{statement}

@@ -5,7 +5,7 @@ use mathlib.Core.Bool.{true}
 use mathlib.Core.List.{List, [], _∷_, _++_, append-nil}
 use native.Mathlib.Omega.{arith}
 use lib.ListN.{length, take, drop, length-set, length-drop}
-use Rattle.text.proofs.Lent.{lent, store}
+use Rattle.text.proofs.Lent.{lent, store, Writing, begin, due, room, onward, all-written}
 use Rattle.text.specs.Words.{split, join, after}
 use Rattle.text.proofs.Index.{rest, split-at}
 use Rattle.supplement.specs.declared.Stage.{Stage}
@@ -14,7 +14,6 @@ use Rattle.supplement.specs.Walk.{step, walked}
 use Rattle.supplement.proofs.Walk.{walk-fits, walked-next}
 use Rattle.supplement.proofs.Steps.{oblique-second}
 use Rattle.canonical.specs.Rewriting.{rewrite, rewritten, rewrittenText, settled}
-use Rattle.canonical.proofs.Turns.{Writing, begin, due, room, onward, all-written}
 use Rattle.canonical.proofs.Words.{spaced, text-at, text-last, text-next}
 use Rattle.canonical.proofs.Fitting.{none-refused, settled-rest}
 use borrow.Author.Needs.{needs}

@@ -4,7 +4,7 @@ use mathlib.Core.Path.{sym}
 use mathlib.Core.List.{List, [], _++_, append-nil}
 use native.Mathlib.Omega.{arith}
 use Rattle.alphabet.specs.Text.{bytes}
-use Rattle.canonical.proofs.Turns.{Writing, begin, due, all-written}
+use Rattle.text.proofs.Lent.{Writing, begin, due, all-written}
 use Rattle.lines.specs.Lines.{numbered, refusedLine}
 use Rattle.lines.proofs.Writing.{part-fits, part-written}
 use borrow.Author.Needs.{needs}
