@@ -1,17 +1,17 @@
 -- The signs that a word begins with: where they end, and what may stand there. Assumes nothing.
 use Prim.Native.Nat.{ℕ, zero, suc, _+_, _-_, _<_, _≤_}
 use mathlib.Core.Path.{_≡_, refl, sym, ap, _∙_}
-use mathlib.Core.Bool.{Bool, true, false, cond, _&&_, false≢true, true≢false}
+use mathlib.Core.Bool.{Bool, true, false, _&&_, true≢false}
 use mathlib.Core.List.{List, [], _∷_}
 use native.Mathlib.Omega.{arith}
-use lib.Dec.{leb, eqb}
+use lib.Dec.{leb}
 use lib.ListN.{length, take, drop, getD, length-drop}
 use lib.Seq.{drop-drop, take-length, length-take-le}
-use borrow.Author.Tests.{eqb-true, le-ltb, le-leb, lt-leb}
+use borrow.Author.Tests.{le-ltb, le-leb, lt-leb}
 use Rattle.alphabet.specs.Text.{bytes}
 use Rattle.alphabet.specs.Alphabet.{digit, sign}
 use Rattle.text.specs.Words.{Word, upTo, holds, before, all, leading, same}
-use Rattle.text.proofs.Index.{find-here, find-next, find-end, all-leading}
+use Rattle.text.proofs.Index.{find-here, find-next, find-end, at-upTo, all-leading, leading-take, upTo-leading, leading-before}
 use Rattle.text.proofs.Tests.{both, all-free, same-eq, same-other, of-elem}
 use Rattle.text.proofs.Joined.{holds-free, upTo-free}
 use Rattle.shape.specs.Shape.{fits, copies, wide}
@@ -22,53 +22,6 @@ use Rattle.route.specs.Field15.{pairFits, wordFits, elementFits}
 use Rattle.route.proofs.Points.{known}
 use Rattle.route.proofs.Digits.{nines}
 use Rattle.route.proofs.RouteWords.{known-free, pair-parts, Formed, a-climb, a-change, a-last, an-indicator, a-plain, formed}
-
--- BYTES AT THE FRONT THAT PASS A TEST
-
-module _ (p : ℕ → Bool) where
-  pub leading-take : (n : ℕ) (s : List ℕ) → leading p s < n → leading p (take n s) ≡ leading p s
-  leading-take zero s h = absurd (omega arith)
-  leading-take (suc n) [] h = refl
-  leading-take (suc n) (b ∷ s) h = go (leading-take n s) (p b) h
-    where
-      go : (leading p s < n → leading p (take n s) ≡ leading p s)
-          → (t : Bool) → cond t (suc (leading p s)) 0 < suc n → cond t (suc (leading p (take n s))) 0 ≡ cond t (suc (leading p s)) 0
-      go ih true h = ap suc (ih (omega arith))
-      go ih false h = refl
-
-  -- a byte that does not pass it stands behind them
-  module _ (c : ℕ) (other : p c ≡ false) where
-    pub upTo-leading : (s : List ℕ) → upTo c s ≡ leading p s + upTo c (drop (leading p s) s)
-    upTo-leading [] = refl
-    upTo-leading (b ∷ s) = go (upTo-leading s) (p b) refl (eqb b c) refl
-      where
-        go : upTo c s ≡ leading p s + upTo c (drop (leading p s) s)
-            → (t : Bool) → p b ≡ t → (u : Bool) → eqb b c ≡ u
-            → cond u 0 (suc (upTo c s)) ≡ cond t (suc (leading p s)) 0 + upTo c (drop (cond t (suc (leading p s)) 0) (b ∷ s))
-        go ih true e true f = absurd (false≢true (sym other ∙ ap p (sym (eqb-true b c f)) ∙ e))
-        go ih true e false f = omega (arith, ih)
-        go ih false e true f = rw f
-        go ih false e false f = rw f (omega arith)
-
-    -- where all bytes before c pass it, c is what ends them
-    leading-before : (s : List ℕ) → all p (before c s) ≡ true → leading p s ≡ upTo c s
-    leading-before [] e = refl
-    leading-before (b ∷ s) e = go (leading-before s) (eqb b c) refl e
-      where
-        go : (all p (before c s) ≡ true → leading p s ≡ upTo c s)
-            → (u : Bool) → eqb b c ≡ u → all p (take (cond u 0 (suc (upTo c s))) (b ∷ s)) ≡ true → cond (p b) (suc (leading p s)) 0 ≡ cond u 0 (suc (upTo c s))
-        go ih true f e = rw (ap p (eqb-true b c f) ∙ other)
-        go ih false f e = let h = both (p b) (all p (before c s)) e in rw (h .0) (ap suc (ih (h .1)))
-
--- what stands at the first c
-at-upTo : (c : ℕ) (s : List ℕ) → upTo c s < length s → getD s (upTo c s) 0 ≡ c
-at-upTo c [] h = absurd (omega arith)
-at-upTo c (b ∷ s) h = go (at-upTo c s) (eqb b c) refl h
-  where
-    go : (upTo c s < length s → getD s (upTo c s) 0 ≡ c)
-        → (u : Bool) → eqb b c ≡ u → cond u 0 (suc (upTo c s)) < suc (length s) → getD (b ∷ s) (cond u 0 (suc (upTo c s))) 0 ≡ c
-    go ih true f h = eqb-true b c f
-    go ih false f h = ih (omega arith)
 
 -- A WORD OF SIGNS
 

@@ -2,7 +2,7 @@
 -- Assumes nothing.
 use Prim.Native.Nat.{ℕ, zero, suc, _+_, _-_, _*_, _/_, _<_, _≤_}
 use mathlib.Core.Path.{_≡_, refl, sym, ap, _∙_}
-use mathlib.Core.Bool.{Bool, true, false, cond, not, _&&_, and-assoc, and-true}
+use mathlib.Core.Bool.{Bool, true, false, cond, not, _&&_, false≢true, and-assoc, and-true}
 use mathlib.Core.List.{List, [], _∷_}
 use native.Mathlib.Omega.{arith}
 use native.Mathlib.Numerals.{add-one}
@@ -11,7 +11,7 @@ use lib.Dec.{leb, eqb}
 use lib.ListN.{length, take, drop, getD, drop-of-length-le, length-drop}
 use lib.Seq.{drop-cons, drop-drop, take-all}
 use lib.Arith.{lt-of-le-ne}
-use borrow.Author.Tests.{eq-eqb, ne-eqb, lt-ltb, le-ltb, le-leb, lt-leb, leb-false, not-true}
+use borrow.Author.Tests.{eq-eqb, eqb-true, ne-eqb, lt-ltb, le-ltb, le-leb, lt-leb, leb-false, not-true}
 use Rattle.text.specs.Words.{Word, split, onto, after, upTo, holds, before, behind, leading, all, free, null, same, rankFrom, firstCells, cells}
 use Rattle.text.specs.Places.{Stepped}
 use Rattle.text.proofs.Tests.{both}
@@ -44,6 +44,16 @@ find-next c s i h e = rw (drop-here s i h, ne-eqb (getD s i 0) c e)
 
 pub find-end : (c : ℕ) (s : List ℕ) (i : ℕ) → length s ≤ i → upTo c (drop i s) ≡ 0
 find-end c s i h = rw (drop-end s i h)
+
+-- what stands at the first c
+pub at-upTo : (c : ℕ) (s : List ℕ) → upTo c s < length s → getD s (upTo c s) 0 ≡ c
+at-upTo c [] h = absurd (omega arith)
+at-upTo c (b ∷ s) h = go (at-upTo c s) (eqb b c) refl h
+  where
+    go : (upTo c s < length s → getD s (upTo c s) 0 ≡ c)
+        → (u : Bool) → eqb b c ≡ u → cond u 0 (suc (upTo c s)) < suc (length s) → getD (b ∷ s) (cond u 0 (suc (upTo c s))) 0 ≡ c
+    go ih true f h = eqb-true b c f
+    go ih false f h = ih (omega arith)
 
 -- n bytes that are not c are passed at once
 over-free : (c n : ℕ) (s : List ℕ) → n ≤ length s → free c (take n s) ≡ true → upTo c s ≡ n + upTo c (drop n s)
@@ -96,6 +106,41 @@ all-leading p (b ∷ s) = go (all-leading p s) (p b) refl
     go : all p (take (leading p s) s) ≡ true → (t : Bool) → p b ≡ t → all p (take (cond t (suc (leading p s)) 0) (b ∷ s)) ≡ true
     go ih true e = rw e ih
     go ih false e = refl
+
+module _ (p : ℕ → Bool) where
+  pub leading-take : (n : ℕ) (s : List ℕ) → leading p s < n → leading p (take n s) ≡ leading p s
+  leading-take zero s h = absurd (omega arith)
+  leading-take (suc n) [] h = refl
+  leading-take (suc n) (b ∷ s) h = go (leading-take n s) (p b) h
+    where
+      go : (leading p s < n → leading p (take n s) ≡ leading p s)
+          → (t : Bool) → cond t (suc (leading p s)) 0 < suc n → cond t (suc (leading p (take n s))) 0 ≡ cond t (suc (leading p s)) 0
+      go ih true h = ap suc (ih (omega arith))
+      go ih false h = refl
+
+  -- a byte that does not pass it stands behind them
+  module _ (c : ℕ) (other : p c ≡ false) where
+    pub upTo-leading : (s : List ℕ) → upTo c s ≡ leading p s + upTo c (drop (leading p s) s)
+    upTo-leading [] = refl
+    upTo-leading (b ∷ s) = go (upTo-leading s) (p b) refl (eqb b c) refl
+      where
+        go : upTo c s ≡ leading p s + upTo c (drop (leading p s) s)
+            → (t : Bool) → p b ≡ t → (u : Bool) → eqb b c ≡ u
+            → cond u 0 (suc (upTo c s)) ≡ cond t (suc (leading p s)) 0 + upTo c (drop (cond t (suc (leading p s)) 0) (b ∷ s))
+        go ih true e true f = absurd (false≢true (sym other ∙ ap p (sym (eqb-true b c f)) ∙ e))
+        go ih true e false f = omega (arith, ih)
+        go ih false e true f = rw f
+        go ih false e false f = rw f (omega arith)
+
+    -- where all bytes before c pass it, c is what ends them
+    pub leading-before : (s : List ℕ) → all p (before c s) ≡ true → leading p s ≡ upTo c s
+    leading-before [] e = refl
+    leading-before (b ∷ s) e = go (leading-before s) (eqb b c) refl e
+      where
+        go : (all p (before c s) ≡ true → leading p s ≡ upTo c s)
+            → (u : Bool) → eqb b c ≡ u → all p (take (cond u 0 (suc (upTo c s))) (b ∷ s)) ≡ true → cond (p b) (suc (leading p s)) 0 ≡ cond u 0 (suc (upTo c s))
+        go ih true f e = rw (ap p (eqb-true b c f) ∙ other)
+        go ih false f e = let h = both (p b) (all p (before c s)) e in rw (h .0) (ap suc (ih (h .1)))
 
 -- EQUAL BYTES
 
