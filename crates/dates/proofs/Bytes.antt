@@ -12,9 +12,10 @@ use Rattle.text.proofs.Tests.{both, and-both, all-append, all-drop, same-eq}
 use Rattle.text.proofs.Joined.{join-split, seam}
 use Rattle.other.specs.Rules.{date}
 use Rattle.other.specs.Field18.{Worded, spelt, group, fromKey, firstWords, under, wordsUnder}
+use Rattle.other.proofs.Field18.{spelt-group}
 use Rattle.dates.specs.Dates.{dof, dateIn, dated, keyIn, keysBehind, placed, withDate}
 use Rattle.dates.proofs.Dates.{date-long}
-use Rattle.dates.proofs.Items.{words-grouped, item-of}
+use Rattle.dates.proofs.Items.{item-of}
 
 -- HOW LONG IT IS
 
@@ -82,7 +83,7 @@ dated-words (w ∷ ws) n = go (dated-words ws) (holds 47 w) refl n
           arith,
           long-word 4 (behind 47 w) w ws l,
           long-front (behind 47 w) (group ws .loose) (spelt (group ws .grouped)),
-          ap (λ (vs : List Word). length (join 32 (behind 47 w ∷ vs))) (words-grouped ws),
+          ap (λ (vs : List Word). length (join 32 (behind 47 w ∷ vs))) (spelt-group ws),
         )
 
     choose : (null (under dof (group ws .grouped)) ≡ false → 4 + length (under dof (group ws .grouped)) ≤ length (join 32 ws))

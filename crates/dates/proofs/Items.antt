@@ -12,6 +12,7 @@ use Rattle.text.proofs.Joined.{seam}
 use Rattle.other.specs.declared.Rule.{Rule}
 use Rattle.other.specs.Rules.{base, rankIn, ruleIn, date}
 use Rattle.other.specs.Field18.{Worded, spelt, put, group, itemsFit, fromKey, has, under}
+use Rattle.other.proofs.Field18.{spelt-group}
 use Rattle.dates.specs.Dates.{dof, dated, keysBehind, placed}
 use Rattle.dates.proofs.Dates.{Ruled, Fitting, fit-parts, fit-cons, dated-item, dof-day}
 
@@ -39,16 +40,6 @@ inserted-some d (i ∷ is) = go (same (i .key) dof) (elem (i .key) keysBehind)
 
 -- AMONG WORDS
 
--- the words of the items are what was grouped
-pub words-grouped : (ws : List Word) → group ws .loose ++ spelt (group ws .grouped) ≡ ws
-words-grouped [] = refl
-words-grouped (w ∷ ws) = go (words-grouped ws) (holds 47 w) refl
-  where
-    go : group ws .loose ++ spelt (group ws .grouped) ≡ ws
-        → (b : Bool) → holds 47 w ≡ b → put w (group ws) .loose ++ spelt (put w (group ws) .grouped) ≡ w ∷ ws
-    go ih true e = rw e (cc (seam 47 w e))
-    go ih false e = rw e (cc)
-
 -- the item that a word begins
 abbrev pub item-of : Word → List Word → Worded
 item-of w ws = record { key = before 47 w; first = behind 47 w; more = group ws .loose }
@@ -66,8 +57,8 @@ placed-items d (w ∷ ws) = go (placed-items d ws) (holds 47 w) refl
         ≡ spelt
         (cond a (record { key = dof; first = d; more = group ws .loose } ∷ group ws .grouped)
         (cond b (dateItem d ∷ (item-of w ws ∷ group ws .grouped)) (item-of w ws ∷ inserted d (group ws .grouped))))
-    choose ih e true b = ap (λ (t : List Word). dated d ∷ t) (sym (words-grouped ws))
-    choose ih e false true = cc (seam 47 w e, words-grouped ws)
+    choose ih e true b = ap (λ (t : List Word). dated d ∷ t) (sym (spelt-group ws))
+    choose ih e false true = cc (seam 47 w e, spelt-group ws)
     choose ih e false false = cc (seam 47 w e)
 
     go : placed (dated d) ws ≡ group ws .loose ++ spelt (inserted d (group ws .grouped)) → (b : Bool) → holds 47 w ≡ b

@@ -24,7 +24,7 @@ use Rattle.other.proofs.Items.{null-map, items-valid, items-spelled, wo
 -- WORDS INTO ITEMS AND BACK
 
 -- the items' words are what was grouped
-spelt-group : (ws : List Word) → group ws .loose ++ spelt (group ws .grouped) ≡ ws
+pub spelt-group : (ws : List Word) → group ws .loose ++ spelt (group ws .grouped) ≡ ws
 spelt-group [] = refl
 spelt-group (w ∷ ws) = go (spelt-group ws) (holds 47 w) refl
   where
