@@ -54,9 +54,6 @@ module _ (s : List ℕ) (e : ℕ) (at : e ≡ 0 + upTo 32 s) where
   pub holds-is : ltb e (length s) ≡ holds 32 s
   holds-is = ap (λ (k : ℕ). ltb k (length s)) there
 
-pub from-is : (long n : ℕ) → long < n → 0 ≡ long - n
-from-is long n h = omega arith
-
 -- CALLS WITH A SLOT
 
 module _ (firm slot long : ℕ) (verb s : List ℕ) where

@@ -1,7 +1,7 @@
 -- A message in its frame: the first `(` and the last `)` stay, and the fields between them are, one by one, the reductions of those sent. Assumes nothing.
 use Prim.Native.Nat.{ℕ, suc, _+_, _-_, _≤_, _<_}
 use mathlib.Core.Path.{_≡_, refl, ap, _∙_}
-use mathlib.Core.Bool.{true, false}
+use mathlib.Core.Bool.{true}
 use mathlib.Core.List.{List, [], _∷_, _++_, map}
 use native.Mathlib.Omega.{arith}
 use lib.ListN.{length, getD, take, drop, length-append}
@@ -9,7 +9,7 @@ use lib.Seq.{split-at, take-at, getD-at}
 use Rattle.text.specs.Words.{split}
 use Rattle.text.proofs.Index.{drop-end}
 use Rattle.space.specs.Reduced.{reducedFrom, reduced}
-use Rattle.space.specs.Fields.{fieldFrom, reducedField, inner, Framed}
+use Rattle.space.specs.Fields.{reducedField, inner, Framed}
 use Rattle.space.proofs.Bytes.{opening-solid, closing-solid, opening-opens, closing-closes}
 use Rattle.space.proofs.Fields.{enclosed, field-by-field}
 
@@ -18,10 +18,6 @@ use Rattle.space.proofs.Fields.{enclosed, field-by-field}
 pub first-stays : (m : List ℕ) → reduced (40 ∷ m) ≡ 40 ∷ reducedFrom true m
 unfolding reduced reducedFrom
 first-stays m = rw (opening-solid, opening-opens)
-
-pub last-stays : (m : List ℕ) → reduced (m ++ (41 ∷ [])) ≡ fieldFrom false m ++ (41 ∷ [])
-unfolding reduced reducedFrom
-last-stays m = enclosed 41 [] closing-solid closing-closes false m
 
 pub framed : (x : List ℕ) → reduced (40 ∷ (x ++ (41 ∷ []))) ≡ 40 ∷ (reducedField x ++ (41 ∷ []))
 unfolding reducedField reducedFrom

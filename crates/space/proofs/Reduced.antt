@@ -4,12 +4,8 @@ use mathlib.Core.Path.{_≡_, refl, sym}
 use mathlib.Core.Bool.{Bool, true, false, cond, not, _&&_}
 use mathlib.Core.List.{List, [], _∷_}
 use native.Mathlib.Omega.{arith}
-use lib.ListN.{length, take}
-use lib.Seq.{take-append-seam}
+use lib.ListN.{length}
 use Rattle.alphabet.specs.Alphabet.{white}
-use Rattle.text.specs.Words.{all}
-use Rattle.text.specs.Lent.{front}
-use Rattle.text.proofs.Tests.{both}
 use Rattle.space.specs.Reduced.{opens, standsForRun, kept, reducedFrom, reduced}
 use Rattle.space.proofs.Bytes.{space-white}
 
@@ -28,11 +24,6 @@ shorter a (b ∷ bs) = kept-length (white b) (standsForRun a bs) b _ _ (shorter 
 pub never-longer : (m : List ℕ) → length (reduced m) ≤ length m
 unfolding reduced
 never-longer m = shorter false m
-
--- what `space::reduce` wrote, read back from the scratch
-pub taken-back : (m buf : List ℕ) (n : ℕ) → n ≡ length (reduced m) → take n (front (reduced m) buf) ≡ reduced m
-unfolding front
-taken-back m buf n e = rw e (take-append-seam (reduced m) _)
 
 -- ONCE IS ENOUGH
 
@@ -84,21 +75,3 @@ solid-from a (b ∷ bs) = solid-step a b bs (white b) (standsForRun a bs) refl r
 pub same-solid : (m : List ℕ) → solid (reduced m) ≡ solid m
 unfolding reduced
 same-solid m = solid-from false m
-
--- what holds of the space and of every byte of a message holds of every byte of its reduction
-
-kept-all : (p : ℕ → Bool) → p 32 ≡ true → (w s : Bool) (b : ℕ) (x : List ℕ) → p b ≡ true → all p x ≡ true → all p (kept w s b x) ≡ true
-kept-all p t true true b x e f = rw t f
-kept-all p t true false b x e f = f
-kept-all p t false s b x e f = rw e f
-
-all-from : (p : ℕ → Bool) → p 32 ≡ true → (a : Bool) (m : List ℕ) → all p m ≡ true → all p (reducedFrom a m) ≡ true
-unfolding reducedFrom
-all-from p t a [] e = refl
-all-from p t a (b ∷ bs) e =
-    let h = both (p b) (all p bs) e in
-    kept-all p t (white b) (standsForRun a bs) b _ (h .0) (all-from p t (cond (white b) a (opens b)) bs (h .1))
-
-pub every-byte : (p : ℕ → Bool) → p 32 ≡ true → (m : List ℕ) → all p m ≡ true → all p (reduced m) ≡ true
-unfolding reduced
-every-byte p t m e = all-from p t false m e

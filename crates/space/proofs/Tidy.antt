@@ -2,15 +2,15 @@
 use Prim.Native.Nat.{ℕ}
 use mathlib.Core.Path.{_≡_, refl, sym, ap, _∙_}
 use mathlib.Core.Bool.{Bool, true, false, false≢true}
-use mathlib.Core.List.{List, [], _∷_, _++_, append-assoc, append-cancel-right}
+use mathlib.Core.List.{List, [], _∷_, _++_, append-assoc}
 use Rattle.alphabet.specs.Alphabet.{white}
 use Rattle.text.specs.Words.{Word, join, all, tidyByte, tidyWord, tidy}
 use Rattle.text.proofs.Tests.{both}
 use Rattle.text.proofs.Joined.{join-split}
 use Rattle.space.specs.Reduced.{opens, standsForRun, reducedFrom, reduced}
 use Rattle.space.specs.Fields.{standsInField, fieldFrom, reducedField}
-use Rattle.space.proofs.Bytes.{space-white, hyphen-solid, closing-solid, closing-closes, hyphen-opens, tidy-solid, tidy-opens, tidy-closes}
-use Rattle.space.proofs.Fields.{cut, enclosed}
+use Rattle.space.proofs.Bytes.{space-white, hyphen-solid, closing-solid, hyphen-opens, tidy-solid, tidy-opens, tidy-closes}
+use Rattle.space.proofs.Fields.{cut}
 use Rattle.space.proofs.Frame.{first-stays}
 
 -- A TIDY WORD stays as it is, and what stands behind it is not just after `(` or `-`
@@ -89,13 +89,6 @@ contents-stay a (c ∷ (d ∷ cs)) e =
 -- a message whose fields are tidy is its own reduction
 pub tidy-stays : (cs : List (List ℕ)) → all tidy cs ≡ true → reduced (40 ∷ (join 45 cs ++ (41 ∷ []))) ≡ 40 ∷ (join 45 cs ++ (41 ∷ []))
 tidy-stays cs e = first-stays (join 45 cs ++ (41 ∷ [])) ∙ ap (λ (l : List ℕ). 40 ∷ l) (contents-stay true cs e)
-
--- and so is a tidy content
-pub tidy-field : (c : List ℕ) → tidy c ≡ true → reducedField c ≡ c
-unfolding reducedField reducedFrom
-tidy-field c e =
-    append-cancel-right (fieldFrom true c) c (41 ∷ [])
-    (sym (enclosed 41 [] closing-solid closing-closes true c) ∙ content-stays true c (41 ∷ []) e ∙ ap (λ (l : List ℕ). c ++ l) (closing-byte false))
 
 -- A RUN AT THE FRONT OF A FIELD stays one space, also where nothing else stands there
 
