@@ -1,17 +1,17 @@
 -- The place of a form that is cut at the first c. Assumes nothing.
 use Prim.Native.Nat.{ℕ, suc, _+_, _<_, _≤_}
 use mathlib.Core.Path.{_≡_, refl, ap, subst}
-use mathlib.Core.Bool.{Bool, true, false, _&&_, _||_, not, cond, and-true, and-false, false≢true}
+use mathlib.Core.Bool.{Bool, true, false, _&&_, _||_, not, cond, and-true, and-false}
 use mathlib.Core.List.{List, [], _∷_}
 use native.Mathlib.Omega.{arith}
 use native.Mathlib.Nat.{add-suc, suc-add}
 use lib.Dec.{eqb}
 use lib.ListN.{length, take, drop, drop-of-length-le}
-use lib.Seq.{take-all}
-use borrow.Author.Tests.{eqb-true, eq-eqb, ltb-true, ltb-false, lt-ltb}
+use lib.Seq.{drop-cons, take-all}
+use borrow.Author.Tests.{eq-eqb, ltb-true, ltb-false}
 use Rattle.text.specs.Words.{null, free, upTo, holds, before, behind, leading}
 use Rattle.text.proofs.Tests.{both}
-use Rattle.text.proofs.Index.{upTo-le}
+use Rattle.text.proofs.Index.{upTo-le, at-upTo}
 use Rattle.places.specs.Place.{IsPlace}
 use Rattle.places.specs.Parts.{thenFits, thenPlace, firstFits, firstPlace, cutPlace}
 use Rattle.places.proofs.Place.{place-of-language}
@@ -34,13 +34,9 @@ front-upTo c (b ∷ s) = go (eqb b c) (front-upTo c s)
     go false e = ap suc e
 
 drop-held : (c : ℕ) (s : List ℕ) → holds c s ≡ true → drop (upTo c s) s ≡ c ∷ behind c s
-drop-held c [] h = absurd (false≢true h)
-drop-held c (b ∷ s) h = go (λ l. drop-held c s (lt-ltb (upTo c s) (length s) l)) (eqb b c) refl (ltb-true (upTo c (b ∷ s)) (length (b ∷ s)) h)
-  where
-    go : (upTo c s < length s → drop (upTo c s) s ≡ c ∷ behind c s) → (x : Bool) → eqb b c ≡ x → cond x 0 (suc (upTo c s)) < suc (length s)
-        → drop (cond x 0 (suc (upTo c s))) (b ∷ s) ≡ c ∷ drop (suc (cond x 0 (suc (upTo c s)))) (b ∷ s)
-    go ih true e l = ap (λ (y : ℕ). y ∷ s) (eqb-true b c e)
-    go ih false e l = ih (omega arith)
+drop-held c s h =
+    let l : upTo c s < length s = ltb-true (upTo c s) (length s) h in
+    rw (drop-cons s (upTo c s) 0 l, at-upTo c s l)
 
 not-held : (c : ℕ) (s : List ℕ) → holds c s ≡ false → upTo c s ≡ length s
 not-held c s h = let l : length s ≤ upTo c s = ltb-false (upTo c s) (length s) h in let m = upTo-le c s in omega arith
