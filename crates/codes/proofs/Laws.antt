@@ -41,6 +41,13 @@ module _ (s : List ℕ) (at : ℕ) (h : at < length s) where
   pub code-two : at + 1 < length s → digit (getD s (at + 1) 0) ≡ true → codes (drop at s) ≡ take (at + 1 + 1 - at) (drop at s) ∷ codes (drop (at + 1 + 1) s)
   code-two l e = rw (two, drop-here s at h, drop-here s (at + 1) l, e)
 
+  -- its second byte
+  pub no-digit : 32 ≡ getD (take (at + 1 - at) (drop at s)) 1 32
+  no-digit = rw (one, drop-here s at h)
+
+  pub its-digit : at + 1 < length s → getD s (at + 1) 0 ≡ getD (take (at + 1 + 1 - at) (drop at s)) 1 32
+  its-digit l = rw (two, drop-here s at h, drop-here s (at + 1) l)
+
 -- some codes, of some bytes
 pub null-codes : (c : ℕ) (s : List ℕ) → null (codes (c ∷ s)) ≡ false
 null-codes c [] = refl

@@ -133,11 +133,6 @@ code-shape (c ∷ (d ∷ (x ∷ w))) e = go (digit d) e
     go true e = absurd (let z : _≡_ {A = ℕ} 0 1 = cc in omega arith)
     go false e = absurd (let z : _≡_ {A = ℕ} 0 1 = cc in omega arith)
 
-pub second-some : (w : Word) (d : ℕ) → 1 < length w → getD w 1 0 ≡ getD w 1 d
-second-some [] d h = absurd (omega arith)
-second-some (x ∷ []) d h = absurd (omega arith)
-second-some (x ∷ (y ∷ w)) d h = refl
-
 -- no cell's word begins with a space
 no-space : (w : Word) → getD w 0 0 ≡ 32 → (k : ℕ) (s : List ℕ) → rankFrom k w (pairs s) ≡ 0
 no-space w e k [] = refl

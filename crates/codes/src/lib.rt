@@ -7,19 +7,31 @@ ghost use lib.ListN.{length, take, drop, getD};
 ghost use Rattle.text.specs.Words.{before, elem, rank, rankFrom, cells};
 ghost use Rattle.codes.specs.Codes.{codes, codesFit, isIndex};
 
-// Where the code that begins at `at` ends: behind the digit that follows it, if there is one.
-fn code_end(s: &[u8], at: usize) -> usize
+// Where a code ends, and its digit: a space where it has none, as in a list's cell.
+struct Code {
+    end: usize,
+    digit: u8,
+}
+
+// The code that begins at `at`: it ends behind the digit that follows it, if there is one.
+fn code_at(s: &[u8], at: usize) -> Code
     requires { ⌜ at < length (now s) ⌝ }
-    ensures { λ r. ⌜ codes (drop at (now (s .entry))) ≡ take (r - at) (drop at (now (s .entry))) ∷ codes (drop r (now (s .entry))) ⌝ }
-    ensures { λ r. ⌜ (at < r) × (r ≤ length (now (s .entry))) ⌝ }
+    ensures { λ r. ⌜ codes (drop at (now (s .entry))) ≡ take (r .end - at) (drop at (now (s .entry))) ∷ codes (drop (r .end) (now (s .entry))) ⌝ }
+    ensures { λ r. ⌜ (at < r .end) × (r .end ≤ length (now (s .entry))) ⌝ }
+    ensures { λ r. ⌜ r .digit ≡ getD (take (r .end - at) (drop at (now (s .entry)))) 1 32 ⌝ }
 {
     let next = at + 1;
     if next < s.len() {
-        if alphabet::is_digit(s[next]) {
-            return next + 1;
+        let d = s[next];
+        if alphabet::is_digit(d) {
+            let end = next + 1;
+            return Code { end, digit: d };
         }
     }
-    next
+    Code {
+        end: next,
+        digit: b' ',
+    }
 }
 
 // Whether w is one of the codes from `from` on.
@@ -29,7 +41,8 @@ fn comes(w: &[u8], s: &[u8], from: usize) -> bool
 {
     let mut at = from;
     while at < s.len() {
-        let e = code_end(s, at);
+        let c = code_at(s, at);
+        let e = c.end;
         if text::same_bytes(w, &s[at..e]) {
             return true;
         }
@@ -66,30 +79,22 @@ fn cell_behind(f: usize, b: u8, c: u8, list: &[u8]) -> usize
     0
 }
 
-// The second byte of a code's cell: its digit, or a space.
-fn second_of(w: &[u8]) -> u8
-    ensures { λ r. ⌜ r ≡ getD (now (w .entry)) 1 32 ⌝ }
-{
-    if w.len() < 2 { b' ' } else { w[1] }
-}
-
 // The place of a code in a list, counted from 1; 0 where it has none. A code that begins with a letter is looked for by the list's index; none begins with a
 // space, since the word of a cell has none.
-fn rank_by(first: &[u8; 26], w: &[u8], list: &[u8]) -> usize
-    requires { ⌜ codes (now w) ≡ now w ∷ [] ⌝ }
+fn rank_by(first: &[u8; 26], w: &[u8], d: u8, list: &[u8]) -> usize
+    requires { ⌜ (codes (now w) ≡ now w ∷ []) × (d ≡ getD (now w) 1 32) ⌝ }
     requires { ⌜ isIndex (now first) (cells 2 (now list)) ≡ true ⌝ }
     ensures { λ r. ⌜ r ≡ rank (now (w .entry)) (cells 2 (now (list .entry))) ⌝ }
 {
     let b = w[0];
-    let c = second_of(w);
     if alphabet::is_letter(b) {
         let i = wide(b - b'A');
-        return cell_behind(wide(first[i]), b, c, list);
+        return cell_behind(wide(first[i]), b, d, list);
     }
     if b == b' ' {
         return 0;
     }
-    cell_behind(0, b, c, list)
+    cell_behind(0, b, d, list)
 }
 
 // Whether each code is in the list, in cells of two bytes, and none comes twice. `first` is the list's index; `seen` marks the ranks of the codes before, and a
@@ -101,10 +106,11 @@ pub fn codes_fit_by(first: &[u8; 26], list: &[u8], s: &[u8]) -> bool
     let mut seen = [false; 64];
     let mut at = 0;
     while at < s.len() {
-        let e = code_end(s, at);
+        let c = code_at(s, at);
+        let e = c.end;
         let w = &s[at..e];
         at = e;
-        let rank = rank_by(first, w, list);
+        let rank = rank_by(first, w, c.digit, list);
         if rank == 0 {
             return false;
         }

@@ -21,7 +21,7 @@ abbrev μ-loop : tie.MeasureT-loop
 
 -- where a code's rank is known
 module _ (c : tie.After-rank-by Inv-loop μ-loop) where
-  abbrev ended : tie.After-code-end Inv-loop μ-loop
+  abbrev ended : tie.After-code-at Inv-loop μ-loop
   ended = c .before .before
 
   abbrev looped : tie.At-loop Inv-loop μ-loop
@@ -30,8 +30,8 @@ module _ (c : tie.After-rank-by Inv-loop μ-loop) where
 loop-holds : tie.Need-loop-holds Inv-loop μ-loop
 loop-holds c = (search needs, refl, rest-starts _ refl _ _)
 
-code-end-requires : tie.Need-code-end-requires Inv-loop μ-loop
-code-end-requires c κs = search needs
+code-at-requires : tie.Need-code-at-requires Inv-loop μ-loop
+code-at-requires c κs = search needs
 
 sub-w : tie.Need-sub-w Inv-loop μ-loop
 sub-w c = search needs
@@ -47,13 +47,13 @@ rank-by-requires c κs =
     let e = c .before in
     let l = e .before .before in
     let b = l .before .before .before in
-    (code-alone (drop (l .loop .at) (b .args .s .now)) _ _ (e .code-end .ensures .0), b .pre)
+    ((code-alone (drop (l .loop .at) (b .args .s .now)) _ _ (e .code-at .ensures .0), e .code-at .ensures .1 .1), b .pre)
 
 returns : tie.Need-returns Inv-loop μ-loop
 returns c =
     let r = c .before in
     let l = looped r .loop in
-    not-listed _ (l .seen) _ _ _ _ _ (l .inv .2) (ended r .code-end .ensures .0) (r .rank-by .ensures) (c .if1 .taken)
+    not-listed _ (l .seen) _ _ _ _ _ (l .inv .2) (ended r .code-at .ensures .0) (r .rank-by .ensures) (c .if1 .taken)
 
 array-read-if3 : tie.Need-array-read-if3 Inv-loop μ-loop
 array-read-if3 c = search needs
@@ -62,7 +62,7 @@ returns-2 : tie.Need-returns-2 Inv-loop μ-loop
 returns-2 c =
     let r = c .before .before .before in
     let l = looped r .loop in
-    seen-before _ (l .seen) _ _ _ _ _ (l .inv .2) (ended r .code-end .ensures .0) (r .rank-by .ensures) (c .if3 .taken)
+    seen-before _ (l .seen) _ _ _ _ _ (l .inv .2) (ended r .code-at .ensures .0) (r .rank-by .ensures) (c .if3 .taken)
 
 array-write-seen : tie.Need-array-write-seen Inv-loop μ-loop
 array-write-seen c = search needs
@@ -77,7 +77,7 @@ loop-again c =
     let l = looped r .loop in (
       search needs,
       length-set (l .seen) (r .rank-by .result) _ ∙ l .inv .1,
-      marked _ (l .seen) _ _ _ _ _ (l .inv .2) (ended r .code-end .ensures .0) (r .rank-by .ensures) (n .if1 .left) (omega arith) (c .if3 .left),
+      marked _ (l .seen) _ _ _ _ _ (l .inv .2) (ended r .code-at .ensures .0) (r .rank-by .ensures) (n .if1 .left) (omega arith) (c .if3 .left),
     )
 
 comes-requires : tie.Need-comes-requires Inv-loop μ-loop
@@ -89,7 +89,7 @@ returns-3 c =
     let r = n .before in
     let l = looped r .loop in
     let e = sym (c .before .comes .ensures) ∙ c .if4 .taken in
-    comes-again _ (l .seen) _ _ _ _ _ (l .inv .2) (ended r .code-end .ensures .0) (r .rank-by .ensures) (n .if1 .left) e
+    comes-again _ (l .seen) _ _ _ _ _ (l .inv .2) (ended r .code-at .ensures .0) (r .rank-by .ensures) (n .if1 .left) e
 
 loop-less-2 : tie.Need-loop-less-2 Inv-loop μ-loop
 loop-less-2 c = search needs
@@ -102,7 +102,7 @@ loop-again-2 c =
     let e = sym (c .before .comes .ensures) ∙ c .if4 .left in (
       search needs,
       l .inv .1,
-      comes-once _ (l .seen) _ _ _ _ _ (l .inv .2) (ended r .code-end .ensures .0) (r .rank-by .ensures) (n .if1 .left) (omega arith) e,
+      comes-once _ (l .seen) _ _ _ _ _ (l .inv .2) (ended r .code-at .ensures .0) (r .rank-by .ensures) (n .if1 .left) (omega arith) e,
     )
 
 returns-4 : tie.Need-returns-4 Inv-loop μ-loop
@@ -116,7 +116,7 @@ codes-fit-by-spec =
     Inv-loop
     μ-loop
     loop-holds
-    code-end-requires
+    code-at-requires
     sub-w
     part-w-start
     part-w-end

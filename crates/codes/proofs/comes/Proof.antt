@@ -18,8 +18,8 @@ abbrev μ-loop : tie.MeasureT-loop
 loop-holds : tie.Need-loop-holds Inv-loop μ-loop
 loop-holds c = (search needs, refl)
 
-code-end-requires : tie.Need-code-end-requires Inv-loop μ-loop
-code-end-requires c κs = search needs
+code-at-requires : tie.Need-code-at-requires Inv-loop μ-loop
+code-at-requires c κs = search needs
 
 sub-same-bytes : tie.Need-sub-same-bytes Inv-loop μ-loop
 sub-same-bytes c = search needs
@@ -36,7 +36,7 @@ same-bytes-requires c κs = search needs
 returns : tie.Need-returns Inv-loop μ-loop
 returns c =
     let e = c .before .before .before in
-    sym (e .before .before .loop .inv .1 ∙ rw (e .code-end .ensures .0, sym (c .before .same-bytes .ensures) ∙ c .if1 .taken))
+    sym (e .before .before .loop .inv .1 ∙ rw (e .code-at .ensures .0, sym (c .before .same-bytes .ensures) ∙ c .if1 .taken))
 
 loop-less : tie.Need-loop-less Inv-loop μ-loop
 loop-less c = search needs
@@ -44,7 +44,7 @@ loop-less c = search needs
 loop-again : tie.Need-loop-again Inv-loop μ-loop
 loop-again c =
     let e = c .before .before .before in
-    (search needs, e .before .before .loop .inv .1 ∙ rw (e .code-end .ensures .0, sym (c .before .same-bytes .ensures) ∙ c .if1 .left))
+    (search needs, e .before .before .loop .inv .1 ∙ rw (e .code-at .ensures .0, sym (c .before .same-bytes .ensures) ∙ c .if1 .left))
 
 returns-2 : tie.Need-returns-2 Inv-loop μ-loop
 returns-2 c = sym (c .before .loop .inv .1 ∙ rw (drop-end _ (c .before .loop .at) (c .loop-test .left)))
@@ -56,7 +56,7 @@ comes-spec =
     Inv-loop
     μ-loop
     loop-holds
-    code-end-requires
+    code-at-requires
     sub-same-bytes
     part-same-bytes-start
     part-same-bytes-end

@@ -13,11 +13,8 @@ use Rattle.codes.proofs.rank_by.Tie as tie
 
 -- where it is known whether the code begins with a letter
 module _ (c : tie.After-is-letter) where
-  abbrev read : tie.After-second-of
-  read = c .before
-
   abbrev start : tie.Start
-  start = read .before .before .before .before
+  start = c .before .before .before .before
 
   abbrev w : List ℕ
   w = start .args .w .now
@@ -30,10 +27,7 @@ module _ (c : tie.Then1) where
   bounds = letter-bounds _ begins
 
 shared-slice-read-b : tie.Need-shared-slice-read-b
-shared-slice-read-b c = let s = c .before .before .before in code-some (s .args .w .now) (s .pre .0)
-
-second-of-requires : tie.Need-second-of-requires
-second-of-requires c κs = search needs
+shared-slice-read-b c = let s = c .before .before .before in code-some (s .args .w .now) (s .pre .0 .0)
 
 is-letter-requires : tie.Need-is-letter-requires
 is-letter-requires c κs = search needs
@@ -62,12 +56,12 @@ returns c =
     let f = n .wide2 .result in
     let passed = index-letter (s .args .first .now) _ (s .pre .1) _ (i .wide .result) f (begins t) (i .wide .ensures .0) (n .wide2 .ensures .0) in
     c .cell-behind .ensures
-    ∙ rank-behind (s .args .w .now) (s .pre .0) (letter-no-space _ (begins t)) (s .args .list .now) f _ passed (read (t .before) .second-of .ensures)
+    ∙ rank-behind (s .args .w .now) (s .pre .0 .0) (letter-no-space _ (begins t)) (s .args .list .now) f _ passed (s .pre .0 .1)
 
 returns-2 : tie.Need-returns-2
 returns-2 c =
     let s = start (c .before .before) in
-    sym (rank-space (s .args .w .now) (s .pre .0) (c .if2 .taken) (s .args .list .now))
+    sym (rank-space (s .args .w .now) (s .pre .0 .0) (c .if2 .taken) (s .args .list .now))
 
 cell-behind-requires-2 : tie.Need-cell-behind-requires-2
 cell-behind-requires-2 c κs = search needs
@@ -78,14 +72,13 @@ returns-3 c =
     let l = o .before .before in
     let s = start l in
     c .cell-behind2 .ensures
-    ∙ rank-behind (s .args .w .now) (s .pre .0) (o .if2 .left) (s .args .list .now) 0 _ refl (read l .second-of .ensures)
+    ∙ rank-behind (s .args .w .now) (s .pre .0 .0) (o .if2 .left) (s .args .list .now) 0 _ refl (s .pre .0 .1)
 
 pub rank-by-spec : {M : Type 1} → statement M
 rank-by-spec =
     tie.close
     (tie.spec
     shared-slice-read-b
-    second-of-requires
     is-letter-requires
     sub-wide
     wide-requires
