@@ -125,10 +125,3 @@ pub fn codes_fit_by(first: &[u8; 26], list: &[u8], s: &[u8]) -> bool
     }
     true
 }
-
-// The same of any list: with zeros for its index no cell is passed by.
-pub fn codes_fit(list: &[u8], s: &[u8]) -> bool
-    ensures { λ r. ⌜ r ≡ codesFit (cells 2 (now (list .entry))) (codes (now (s .entry))) ⌝ }
-{
-    codes_fit_by(&[0u8; 26], list, s)
-}

@@ -6,7 +6,7 @@ ghost use Rattle.codes.specs.Codes.{codes, isIndex};
 ghost use Rattle.equipment.specs.Field10.{present, sideFits, fits10};
 
 // Whether a side fits: N alone, or one or more codes of the list, none twice, in at most so many bytes. `first` is the list's index.
-fn side_by(first: &[u8; 26], list: &[u8], most: usize, s: &[u8]) -> bool
+pub fn side_by(first: &[u8; 26], list: &[u8], most: usize, s: &[u8]) -> bool
     requires { ⌜ isIndex (now first) (cells 2 (now list)) ≡ true ⌝ }
     ensures { λ r. ⌜ r ≡ sideFits (cells 2 (now (list .entry))) most (codes (now (s .entry))) ⌝ }
 {
@@ -22,18 +22,11 @@ fn side_by(first: &[u8; 26], list: &[u8], most: usize, s: &[u8]) -> bool
     codes::codes_fit_by(first, list, s)
 }
 
-// The same of any list: with zeros for its index no code is passed by.
-pub fn side(list: &[u8], most: usize, s: &[u8]) -> bool
-    ensures { λ r. ⌜ r ≡ sideFits (cells 2 (now (list .entry))) most (codes (now (s .entry))) ⌝ }
-{
-    side_by(&[0u8; 26], list, most, s)
-}
-
 // The lists' indexes: how many codes stand before the first that begins with A, B, C, .. Z, a byte for each; where none begins with it, all of them.
-const EQUIPMENT_INDEX: [u8; 26] =
+pub const EQUIPMENT_INDEX: [u8; 26] =
     *b"\x00\x01\x02\x03\x04\x07\x08\x09\x0a\x0b\x12\x13\x14\x2a\x17\x18\x2a\x21\x22\x23\x24\x25\x26\x27\x28\x29";
 
-const SURVEILLANCE_INDEX: [u8; 26] =
+pub const SURVEILLANCE_INDEX: [u8; 26] =
     *b"\x00\x09\x01\x0f\x02\x11\x10\x03\x04\x11\x11\x05\x11\x11\x11\x06\x11\x11\x07\x11\x0b\x0d\x11\x08\x11\x11";
 
 // Whether the equipment fits, left of the oblique, in the present edition.

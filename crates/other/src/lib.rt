@@ -34,7 +34,7 @@ fn is_status(w: &[u8]) -> bool
 }
 
 // The index of PBN's list: how many codes stand before the first that begins with A, B, C, .. Z, a byte for each; where none begins with it, all of them.
-const APPROVALS_INDEX: [u8; 26] =
+pub const APPROVALS_INDEX: [u8; 26] =
     *b"\x00\x01\x07\x0b\x18\x18\x18\x18\x18\x18\x18\x0f\x18\x18\x10\x18\x18\x18\x14\x16\x18\x18\x18\x18\x18\x18";
 
 // PBN: 1 to 8 codes of two bytes, none twice.

@@ -10,11 +10,11 @@ use Rattle.code_places.proofs.with_digit.Statement.{statement}
 use Rattle.code_places.proofs.with_digit.Tie as tie
 
 abbrev Inv-loop : tie.InvT-loop
-Inv-loop list most p ds i₀ i =
+Inv-loop first list most p ds i₀ i =
     (i ≤ length ds) × (withDigit (someCodes (cells 2 list) most) p ds ≡ withDigit (someCodes (cells 2 list) most) p (drop i ds))
 
 abbrev μ-loop : tie.MeasureT-loop
-μ-loop list most p ds i₀ i = length ds - i
+μ-loop first list most p ds i₀ i = length ds - i
 
 -- the loop's beginning
 module _ (c : tie.At-loop Inv-loop μ-loop) where

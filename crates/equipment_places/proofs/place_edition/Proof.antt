@@ -33,7 +33,7 @@ module _ (c : tie.After-find) where
   right = sidePlace (cells 2 (start .args .right .now)) (start .args .n)
 
 -- where the left side was tried
-module _ (c : tie.After-side) where
+module _ (c : tie.After-side-by) where
   abbrev looked : tie.After-find
   looked = c .before .before .before
 
@@ -62,11 +62,11 @@ returns c =
     cut-none 47 (fit f) (left f) (right f) (content f) (f .find .result) (f .find .ensures .0)
     (c .side-place .result) (none .if1 .taken) (c .side-place .ensures)
 
-slice-aggregate-side : tie.Need-slice-aggregate-side
-slice-aggregate-side c = sym (length-take-le _ _ (c .before .before .find .ensures .1 .1))
+slice-aggregate-side-by : tie.Need-slice-aggregate-side-by
+slice-aggregate-side-by c = sym (length-take-le _ _ (c .before .before .find .ensures .1 .1))
 
-side-requires : tie.Need-side-requires
-side-requires c κs = search needs
+side-by-requires : tie.Need-side-by-requires
+side-by-requires c κs = search needs
 
 slice-aggregate-side-place-2 : tie.Need-slice-aggregate-side-place-2
 slice-aggregate-side-place-2 c =
@@ -83,7 +83,7 @@ returns-2 c =
     let tried = off .before in
     let f = looked tried in
     cut-off 47 (fit f) (left f) (right f) (content f) (f .find .result) (f .find .ensures .0)
-    (c .side-place2 .result) (sym (tried .side .ensures) ∙ not-true _ (off .if2 .taken)) (c .side-place2 .ensures)
+    (c .side-place2 .result) (sym (tried .side-by .ensures) ∙ not-true _ (off .if2 .taken)) (c .side-place2 .ensures)
 
 add-result : tie.Need-add-result
 add-result c = search needs
@@ -114,7 +114,7 @@ returns-3 c =
     let some = tried .before .before in
     let f = some .before in
     cut-on 47 (fit f) (left f) (right f) (content f) (f .find .result) (f .find .ensures .0)
-    (c .side-place3 .result) (some .if1 .left) (f .find .ensures .1 .1) (sym (tried .side .ensures) ∙ not-false _ (on .if2 .left)) (c .side-place3 .ensures)
+    (c .side-place3 .result) (some .if1 .left) (f .find .ensures .1 .1) (sym (tried .side-by .ensures) ∙ not-false _ (on .if2 .left)) (c .side-place3 .ensures)
 
 pub place-edition-spec : {M : Type 1} → statement M
 place-edition-spec =
@@ -124,8 +124,8 @@ place-edition-spec =
     slice-aggregate-side-place
     side-place-requires
     returns
-    slice-aggregate-side
-    side-requires
+    slice-aggregate-side-by
+    side-by-requires
     slice-aggregate-side-place-2
     side-place-requires-2
     returns-2

@@ -1,4 +1,5 @@
 -- `equipment_places::place_field10` meets its contract. Assumes nothing.
+use mathlib.Core.Path.{refl}
 use Rattle.equipment.specs.Field10.{present}
 use borrow.Author.Needs.{needs}
 use Rattle.equipment_places.proofs.place_field10.Statement.{statement}
@@ -11,7 +12,7 @@ slice-aggregate-place-edition-2 : tie.Need-slice-aggregate-place-edition-2
 slice-aggregate-place-edition-2 c = search needs
 
 place-edition-requires : tie.Need-place-edition-requires
-place-edition-requires c κs = search needs
+place-edition-requires c κs = (refl, refl)
 
 returns : tie.Need-returns
 unfolding present

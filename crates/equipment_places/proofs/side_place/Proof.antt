@@ -13,8 +13,8 @@ slice-aggregate-matched-of c = search needs
 matched-of-requires : tie.Need-matched-of-requires
 matched-of-requires c κs = search needs
 
-codes-place-requires : tie.Need-codes-place-requires
-codes-place-requires c κs = search needs
+codes-place-by-requires : tie.Need-codes-place-by-requires
+codes-place-by-requires c κs = search needs
 
 larger-of-requires : tie.Need-larger-of-requires
 larger-of-requires c κs = search needs
@@ -23,7 +23,7 @@ returns : tie.Need-returns
 unfolding sidePlace
 returns c =
     let alone = c .before .before .matched-of in
-    let codes = c .before .codes-place in
+    let codes = c .before .codes-place-by in
     c .larger-of .ensures ∙ ap (λ (p : ℕ). larger p (codes .result)) (alone .ensures) ∙ ap (larger _) (codes .ensures)
 
 pub side-place-spec : {M : Type 1} → statement M
@@ -32,6 +32,6 @@ side-place-spec =
     (tie.spec
     slice-aggregate-matched-of
     matched-of-requires
-    codes-place-requires
+    codes-place-by-requires
     larger-of-requires
     returns)

@@ -1,4 +1,4 @@
--- `code_places::codes_place` meets its contract. Assumes nothing.
+-- `code_places::codes_place_by` meets its contract. Assumes nothing.
 use Prim.Native.Nat.{_+_, _-_, _≤_}
 use mathlib.Core.Path.{_≡_, sym, _∙_}
 use mathlib.Core.List.{[]}
@@ -11,15 +11,15 @@ use Rattle.places.proofs.Index.{passes-stop, passes-next, passes-end}
 use Rattle.code_places.specs.Codes.{goesOn, codesPlace}
 use borrow.Author.Needs.{needs}
 use native.Mathlib.Omega.{arith}
-use Rattle.code_places.proofs.codes_place.Statement.{statement}
-use Rattle.code_places.proofs.codes_place.Tie as tie
+use Rattle.code_places.proofs.codes_place_by.Statement.{statement}
+use Rattle.code_places.proofs.codes_place_by.Tie as tie
 
 abbrev Inv-loop : tie.InvT-loop
-Inv-loop list most s i₀ i =
+Inv-loop first list most s i₀ i =
     (i ≤ length s) × (passes (goesOn (cells 2 list) most) [] s ≡ i + passes (goesOn (cells 2 list) most) (take i s) (drop i s))
 
 abbrev μ-loop : tie.MeasureT-loop
-μ-loop list most s i₀ i = length s - i
+μ-loop first list most s i₀ i = length s - i
 
 -- the loop's beginning
 module _ (c : tie.At-loop Inv-loop μ-loop) where
@@ -67,8 +67,8 @@ returns-2 c =
     let a = start l .args in
     omega (arith, passes-end (goesOn (cells 2 (a .list .now)) (a .most)) (a .s .now) (l .loop .i) (c .loop-test .left))
 
-pub codes-place-spec : {M : Type 1} → statement M
-codes-place-spec =
+pub codes-place-by-spec : {M : Type 1} → statement M
+codes-place-by-spec =
     tie.close
     (tie.spec
     Inv-loop
