@@ -5,7 +5,7 @@ use Prim.Native.Nat.{ℕ, _<_, _≤_}
 use lib.Dec.{leb, ltb, eqb}
 use borrow.Author.Tests.{le-leb, lt-leb}
 use Rattle.alphabet.specs.Text.{bytes}
-use Rattle.alphabet.specs.Alphabet.{classOf, inAlphabet, innerByte, letter, digit, octal, sign, text, white, oneOf, lowMarks}
+use Rattle.alphabet.specs.Alphabet.{classOf, inAlphabet, innerByte, letter, digit, octal, sign, text, white, oneOf, marks}
 use Rattle.alphabet.proofs.Every.{agree}
 
 -- THE COMPARISONS
@@ -25,12 +25,10 @@ last-test false = refl
 pub sign-tests : (b : ℕ) → b < 256 → sign b ≡ cond (ltb b 48 || ltb 90 b) false (leb b 57 || leb 65 b)
 sign-tests = agree sign (λ b. cond (ltb b 48 || ltb 90 b) false (leb b 57 || leb 65 b)) tt
 
--- a byte of a text word is one of these, or a colon, or one of six marks, of which four stand below the digits
-pub text-tests : (b : ℕ) → b < 256
-    → text b ≡ cond (ltb b 48 || ltb 90 b) (oneOf b lowMarks) (cond (leb b 58 || leb 65 b) true (eqb b 61 || eqb b 63))
+-- a byte of a text word is one of these or one of seven marks
+pub text-marks : (b : ℕ) → b < 256 → text b ≡ (sign b || oneOf b marks)
 unfolding inAlphabet text white
-text-tests =
-    agree text (λ b. cond (ltb b 48 || ltb 90 b) (oneOf b lowMarks) (cond (leb b 58 || leb 65 b) true (eqb b 61 || eqb b 63))) tt
+text-marks = agree text (λ b. sign b || oneOf b marks) tt
 
 -- a byte that may stand between the parentheses is one of a text word, an oblique, a hyphen or white space
 pub inner-tests : (b : ℕ) → b < 256 → innerByte b ≡ (text b || (oneOf b (bytes "/-") || white b))

@@ -54,9 +54,9 @@ abbrev pub innerBytes : List ℕ → ℕ
 innerBytes [] = 0
 innerBytes (b ∷ s) = cond (innerByte b) (suc (innerBytes s)) 0
 
--- the marks of a text word that stand below the digits
-abbrev pub lowMarks : List ℕ
-lowMarks = bytes ".,+'"
+-- the marks of a text word
+abbrev pub marks : List ℕ
+marks = bytes "?:.,'=+"
 
 -- a byte of a text word: of the alphabet, other than white space and ( ) - /
 unfoldable pub text : ℕ → Bool

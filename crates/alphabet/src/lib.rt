@@ -10,7 +10,7 @@ ghost use Rattle.alphabet.specs.Alphabet.{
   text,
   white,
   oneOf,
-  lowMarks,
+  marks,
   innerByte,
   inAlphabet,
   known,
@@ -55,36 +55,39 @@ pub fn is_sign(b: u8) -> bool
     (b <= b'9') | (b'A' <= b)
 }
 
-// A mark of a text word that stands below the digits.
-fn is_low_mark(b: u8) -> bool
-    ensures { λ r. ⌜ r ≡ oneOf b lowMarks ⌝ }
+// A mark that may stand in a text word.
+fn is_mark(b: u8) -> bool
+    ensures { λ r. ⌜ r ≡ oneOf b marks ⌝ }
 {
+    if b == b'?' {
+        return true;
+    }
+    if b == b':' {
+        return true;
+    }
     if b == b'.' {
         return true;
     }
     if b == b',' {
         return true;
     }
-    if b == b'+' {
-        return true;
-    }
-    b == b'\''
-}
-
-// A byte of a text word: of the alphabet, other than white space and ( ) - /. The same holds for the digits, the colon behind them and the letters.
-pub fn is_text(b: u8) -> bool
-    ensures { λ r. ⌜ r ≡ text b ⌝ }
-{
-    if (b < b'0') | (b'Z' < b) {
-        return is_low_mark(b);
-    }
-    if (b <= b':') | (b'A' <= b) {
+    if b == b'\'' {
         return true;
     }
     if b == b'=' {
         return true;
     }
-    b == b'?'
+    b == b'+'
+}
+
+// A byte of a text word: of the alphabet, other than white space and ( ) - /.
+pub fn is_text(b: u8) -> bool
+    ensures { λ r. ⌜ r ≡ text b ⌝ }
+{
+    if is_sign(b) {
+        return true;
+    }
+    is_mark(b)
 }
 
 // Space, CR or LF.
