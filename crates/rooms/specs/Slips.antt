@@ -27,6 +27,17 @@ module _ (H : House) where
   freesOther =
       record { Kept = Board H; start = empty H; answer = said H; next = λ b c. putFreed (firmOf (c .by)) b (said H b c); shows = λ b. b }
 
+  -- a keeper that shows all it keeps, and leaves on the board what it answers
+  abbrev answering : (Option Firm → Board H → Act (H .Message) → Said H) → Keeper H
+  answering by =
+      record {
+        Kept = Board H;
+        start = empty H;
+        answer = λ b c. by (firmOf (c .by)) b (c .does);
+        next = λ b c. put H (firmOf (c .by)) b (by (firmOf (c .by)) b (c .does));
+        shows = λ b. b;
+      }
+
   -- one whose answer to an update depends on the other firm: 19 while the other holds a strip
   abbrev byOther : Option Firm → Board H → Act (H .Message) → Said H
   byOther none b a = noFirm
@@ -35,14 +46,7 @@ module _ (H : House) where
   byOther (some f) b (clear k) = saidTo H (some f) b (clear k)
 
   abbrev pub asksOther : Keeper H
-  asksOther =
-      record {
-        Kept = Board H;
-        start = empty H;
-        answer = λ b c. byOther (firmOf (c .by)) b (c .does);
-        next = λ b c. put H (firmOf (c .by)) b (byOther (firmOf (c .by)) b (c .does));
-        shows = λ b. b;
-      }
+  asksOther = answering byOther
 
   -- one that gives the highest empty slot
   abbrev highestFrom : ℕ → ℕ → List (Option (H .Strip)) → ℕ
@@ -58,14 +62,7 @@ module _ (H : House) where
   byHighest (some f) b (clear k) = saidTo H (some f) b (clear k)
 
   abbrev pub takesHighest : Keeper H
-  takesHighest =
-      record {
-        Kept = Board H;
-        start = empty H;
-        answer = λ b c. byHighest (firmOf (c .by)) b (c .does);
-        next = λ b c. put H (firmOf (c .by)) b (byHighest (firmOf (c .by)) b (c .does));
-        shows = λ b. b;
-      }
+  takesHighest = answering byHighest
 
   -- one that asks whether there is room for the first firm, whoever files
   abbrev byFirst : Option Firm → Board H → Act (H .Message) → Said H
@@ -76,14 +73,7 @@ module _ (H : House) where
   byFirst (some f) b (clear k) = saidTo H (some f) b (clear k)
 
   abbrev pub asksFirst : Keeper H
-  asksFirst =
-      record {
-        Kept = Board H;
-        start = empty H;
-        answer = λ b c. byFirst (firmOf (c .by)) b (c .does);
-        next = λ b c. put H (firmOf (c .by)) b (byFirst (firmOf (c .by)) b (c .does));
-        shows = λ b. b;
-      }
+  asksFirst = answering byFirst
 
   -- one that counts the shared room by who filed first: a strip that was filed when the firm's own 6 were taken keeps its shared room until that very
   -- strip is cleared
