@@ -1,7 +1,7 @@
 -- Text words told byte by byte, a block of bytes at a time, and passed at once. Assumes nothing.
 use Prim.Native.Nat.{ℕ, zero, suc, _+_, _-_, _<_, _≤_}
 use mathlib.Core.Path.{_≡_, refl, sym, ap, _∙_}
-use mathlib.Core.Bool.{Bool, true, false, cond, _&&_, _||_, not, and-assoc, and-true, false≢true}
+use mathlib.Core.Bool.{Bool, true, false, cond, _&&_, _||_, not, false≢true}
 use mathlib.Core.List.{List, [], _∷_, _++_}
 use native.Mathlib.Omega.{arith}
 use lib.Dec.{leb, ltb, eqb}
@@ -11,6 +11,7 @@ use borrow.Author.Tests.{eq-eqb, ne-eqb, eqb-true, eqb-false, ltb-true, ltb-fals
 use Rattle.alphabet.specs.Alphabet.{text, inAlphabet, white}
 use Rattle.alphabet.proofs.Every.{agree}
 use Rattle.text.specs.Words.{Word, split, onto, after, upTo, all, free, null, textWord}
+use Rattle.text.specs.Pairs.{allPairs}
 use Rattle.text.proofs.Index.{drop-here, find-here, split-cut, null-split}
 use Rattle.text.proofs.Tests.{both, and-both}
 use Rattle.other.specs.Rules.{Edition18, ruleIn, wordFits, single, moreFits}
@@ -33,32 +34,11 @@ text-flat = agree flat text tt
 pub plain-is : (b c : ℕ) → b < 256 → (flat b || (eqb b 32 && not (eqb c 32))) ≡ plain b c
 plain-is b c h = ap (λ (t : Bool). t || (eqb b 32 && not (eqb c 32))) (text-flat b h)
 
--- A BLOCK, gathered: `fine` says it of the bytes before i
-
-short-plain : (s : List ℕ) → length s ≤ 1 → allPlain s ≡ true
-unfolding allPlain
-short-plain [] h = refl
-short-plain (b ∷ []) h = refl
-short-plain (b ∷ (c ∷ s)) h = absurd (omega arith)
-
-module _ (s : List ℕ) (i : ℕ) (fine : Bool) where
-  pub plain-next : (r : Bool) → 0 < i → i < length s → r ≡ plain (getD s (i - 1) 0) (getD s i 0)
-      → (fine && r) && allPlain (drop (i + 1 - 1) s) ≡ fine && allPlain (drop (i - 1) s)
-  unfolding allPlain
-  plain-next r z h e =
-      let k : i - 1 + 1 ≡ i = omega arith in
-      let n : i + 1 - 1 ≡ i = omega arith in
-      let l : i - 1 < length s = omega arith in
-      rw (e, n, drop-here s (i - 1) l, k, drop-here s i h) (and-assoc fine _ _)
-
-  pub plain-end : 0 < i → length s ≤ i → fine ≡ fine && allPlain (drop (i - 1) s)
-  plain-end z h = rw (short-plain (drop (i - 1) s) (rw length-drop (omega arith))) (sym (and-true fine))
-
 -- BLOCKS: one more behind those before, and fewer bytes of them
 
 plain-on : (n m k : ℕ) (t : List ℕ) → k ≡ n + m → n < length t → allPlain (take (suc n) t) ≡ true → allPlain (take (suc m) (drop n t)) ≡ true
     → allPlain (take (suc k) t) ≡ true
-unfolding allPlain
+unfolding allPairs
 plain-on zero m k t q h e f = let z : k ≡ m = omega arith in rw z f
 plain-on (suc n) m zero t q h e f = absurd (omega arith)
 plain-on (suc n) m (suc k) [] q h e f = absurd (omega arith)
@@ -68,7 +48,7 @@ plain-on (suc n) m (suc k) (b ∷ (c ∷ t)) q h e f =
     and-both (plain b c) _ (g .0) (plain-on n m k (c ∷ t) (omega arith) (omega arith) (g .1) f)
 
 plain-front : (n m : ℕ) (t : List ℕ) → n ≤ m → allPlain (take m t) ≡ true → allPlain (take n t) ≡ true
-unfolding allPlain
+unfolding allPairs
 plain-front zero m t h e = refl
 plain-front (suc n) zero t h e = absurd (omega arith)
 plain-front (suc n) (suc m) [] h e = refl
@@ -102,7 +82,7 @@ strict (suc k) c u n e l = rw n (onto-words c (split 32 (take k u)) (rw n at l))
 
 -- plain bytes up to a space at n
 plain-loose : (n : ℕ) (u : List ℕ) → n < length u → getD u n 0 ≡ 32 → allPlain (take (suc n) u) ≡ true → loose (split 32 (take n u)) ≡ true
-unfolding allPlain
+unfolding allPairs
 plain-loose zero u h e p = refl
 plain-loose (suc n) [] h e p = absurd (omega arith)
 plain-loose (suc n) (b ∷ []) h e p = absurd (omega arith)
@@ -121,7 +101,7 @@ plain-loose (suc n) (b ∷ (c ∷ u)) h e p =
 
 plain-words : (n : ℕ) (t : List ℕ) → n < length t → getD t 0 0 ≡ 32 → getD t n 0 ≡ 32 → allPlain (take (suc n) t) ≡ true
     → all textWord (after 32 (take n t)) ≡ true
-unfolding allPlain
+unfolding allPairs
 plain-words zero t h z e p = refl
 plain-words (suc n) [] h z e p = absurd (omega arith)
 plain-words (suc n) (b ∷ []) h z e p = absurd (omega arith)
@@ -164,11 +144,12 @@ fit-over ed k (w ∷ ws) vs e =
 
 module _ (s : List ℕ) (from : ℕ) where
   pub plain-none : allPlain (take (from + 1 - from) (drop from s)) ≡ true
+  unfolding allPairs
   plain-none = let n : from + 1 - from ≡ 1 = omega arith in rw n (first (drop from s))
     where
       first : (t : List ℕ) → allPlain (take 1 t) ≡ true
-      first [] = short-plain [] (omega arith)
-      first (b ∷ t) = short-plain (b ∷ []) (omega arith)
+      first [] = refl
+      first (b ∷ t) = refl
 
   pub plain-block : (i : ℕ) → from ≤ i → 16 < length s - i → allPlain (take (i + 1 - from) (drop from s)) ≡ true
       → allPlain (take (i + 16 + 1 - i) (drop i s)) ≡ true → allPlain (take (i + 16 + 1 - from) (drop from s)) ≡ true

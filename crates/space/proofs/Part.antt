@@ -15,6 +15,7 @@ use Rattle.text.proofs.Index.{drop-here, drop-end}
 use Rattle.text.proofs.Lent.{store, lent, Writing, begin, due, onward, all-written, as-long}
 use Rattle.space.specs.Reduced.{opens, standsForRun, kept, reducedFrom, reduced}
 use Rattle.space.specs.Part.{reducedPart, lastOf, withPart}
+use Rattle.text.specs.Pairs.{allPairs}
 use Rattle.space.specs.Stays.{regular, allRegular}
 use Rattle.space.proofs.Reduced.{kept-length}
 use Rattle.space.proofs.Stays.{Told, told-behind, regular-stays}
@@ -34,7 +35,7 @@ kept-same stands b rest true e =
 kept-same stands b rest false e = refl
 
 part-regular : (a : Bool) (n : ℕ) (s : List ℕ) → n < length s → allRegular (take (suc n) s) ≡ true → reducedPart a n s ≡ take n s
-unfolding reducedPart allRegular
+unfolding reducedPart allPairs
 part-regular a zero s h e = refl
 part-regular a (suc n) [] h e = absurd (omega arith)
 part-regular a (suc n) (b ∷ []) h e = absurd (omega arith)

@@ -1,7 +1,7 @@
 -- A message is its own reduction exactly where each of its bytes stays as it is. Assumes nothing.
 use Prim.Native.Nat.{ℕ, zero, suc, _+_, _-_, _<_, _≤_}
 use mathlib.Core.Path.{_≡_, refl, sym, _∙_}
-use mathlib.Core.Bool.{Bool, true, false, cond, not, _&&_, _||_, and-assoc, and-true, or-true, false≢true}
+use mathlib.Core.Bool.{Bool, true, false, cond, not, _&&_, _||_, or-true, false≢true}
 use mathlib.Core.List.{List, [], _∷_}
 use native.Mathlib.Omega.{arith}
 use lib.Dec.{ltb, leb, eqb}
@@ -11,6 +11,7 @@ use lib.Seq.{drop-drop, getD-drop}
 use borrow.Author.Tests.{eq-eqb, ne-eqb, eqb-true, eqb-false, ltb-false, leb-false, not-true}
 use Rattle.alphabet.specs.Alphabet.{white}
 use Rattle.text.specs.Words.{same}
+use Rattle.text.specs.Pairs.{allPairs}
 use Rattle.text.proofs.Tests.{both, and-false, same-lengths}
 use Rattle.text.proofs.Index.{drop-here, drop-end, rest}
 use Rattle.space.specs.Reduced.{opens, closes, standsForRun, reducedFrom, reduced}
@@ -97,25 +98,6 @@ pub regular-is : (b c : ℕ) → not (ltb b 32 || (eqb b 32 && ((leb c 32 || eqb
 unfolding closes
 regular-is b c = rw (either-of-two (leb c 32) (eqb c 45) (eqb c 41))
 
-short-regular : (s : List ℕ) → length s ≤ 1 → allRegular s ≡ true
-unfolding allRegular
-short-regular [] h = refl
-short-regular (b ∷ []) h = refl
-short-regular (b ∷ (c ∷ s)) h = absurd (omega arith)
-
-module _ (s : List ℕ) (i : ℕ) (fine : Bool) where
-  pub regular-next : (r : Bool) → 0 < i → i < length s → r ≡ regular (getD s (i - 1) 0) (getD s i 0)
-      → (fine && r) && allRegular (drop (i + 1 - 1) s) ≡ fine && allRegular (drop (i - 1) s)
-  unfolding allRegular
-  regular-next r z h e =
-      let k : i - 1 + 1 ≡ i = omega arith in
-      let n : i + 1 - 1 ≡ i = omega arith in
-      let l : i - 1 < length s = omega arith in
-      rw (e, n, drop-here s (i - 1) l, k, drop-here s i h) (and-assoc fine _ _)
-
-  pub regular-end : 0 < i → length s ≤ i → fine ≡ fine && allRegular (drop (i - 1) s)
-  regular-end z h = rw (short-regular (drop (i - 1) s) (rw length-drop (omega arith))) (sym (and-true fine))
-
 -- a byte above the space in the code is no white space
 solid-over : (b : ℕ) → 32 < b → white b ≡ false
 unfolding white
@@ -143,7 +125,7 @@ regular-stays a b c s e = go (eqb b 32) refl (h .1)
 
 -- regular bytes stay
 pub block-stays : (n p : ℕ) (m : List ℕ) → n < length m → allRegular (take (suc n) m) ≡ true → allStay p m ≡ allStay (getD (p ∷ m) n 0) (drop n m)
-unfolding allStay allRegular
+unfolding allStay allPairs
 block-stays zero p m h e = refl
 block-stays (suc n) p [] h e = absurd (omega arith)
 block-stays (suc n) p (b ∷ []) h e = absurd (omega arith)

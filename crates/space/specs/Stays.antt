@@ -6,6 +6,7 @@ use mathlib.Core.List.{List, [], _∷_}
 use lib.Dec.{ltb, leb, eqb}
 use Rattle.alphabet.specs.Text.{bytes}
 use Rattle.alphabet.specs.Alphabet.{white}
+use Rattle.text.specs.Pairs.{allPairs}
 use Rattle.space.specs.Reduced.{opens, closes, standsForRun}
 
 -- whether b stays as it is: it is no white space, or a space that stands for its run. p: the byte before it; the list: what is behind it
@@ -23,10 +24,8 @@ abbrev pub regular : ℕ → ℕ → Bool
 regular b c = not (ltb b 32 || (eqb b 32 && (leb c 32 || closes c)))
 
 -- whether each byte but the last is
-unfoldable pub allRegular : List ℕ → Bool
-allRegular [] = true
-allRegular (b ∷ []) = true
-allRegular (b ∷ (c ∷ s)) = regular b c && allRegular (c ∷ s)
+abbrev pub allRegular : List ℕ → Bool
+allRegular s = allPairs regular s
 
 -- EXAMPLES, computed
 
@@ -39,5 +38,5 @@ unfolding allStay standsForRun opens closes white
 stay-not = (refl, refl, refl, refl)
 
 regular-bytes : (allRegular (bytes "(A B- CD)") ≡ true) × (allRegular (bytes "- -") ≡ false) × (allRegular (bytes "A\nB") ≡ false)
-unfolding allRegular closes
+unfolding allPairs closes
 regular-bytes = (refl, refl, refl)

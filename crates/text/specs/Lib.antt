@@ -1,4 +1,5 @@
 pub mod Words
 pub mod Kinds
+pub mod Pairs
 pub mod Places
 pub mod Lent

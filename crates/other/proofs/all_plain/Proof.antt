@@ -5,8 +5,8 @@ use mathlib.Core.Bool.{_&&_}
 use lib.ListN.{length, drop}
 use borrow.Author.Needs.{needs}
 use native.Mathlib.Omega.{arith}
-use Rattle.other.specs.Plain.{allPlain}
-use Rattle.other.proofs.Plain.{plain-next, plain-end}
+use Rattle.text.proofs.Pairs.{pairs-next, pairs-end}
+use Rattle.other.specs.Plain.{plain, allPlain}
 use Rattle.other.proofs.all_plain.Statement.{statement}
 use Rattle.other.proofs.all_plain.Tie as tie
 
@@ -42,12 +42,12 @@ loop-again c =
     let t = c .before .before .before in
     let l = t .before .loop in
     let s = t .before .before .before .args .s .now in
-    (omega arith, plain-next s (l .i) (l .fine) _ (l .inv .0) (t .loop-test .taken) (c .is-plain .ensures) ∙ l .inv .1)
+    (omega arith, pairs-next plain s (l .i) (l .fine) _ (l .inv .0) (t .loop-test .taken) (c .is-plain .ensures) ∙ l .inv .1)
 
 returns : tie.Need-returns Inv-loop μ-loop
 returns c =
     let l = c .before .loop in
-    plain-end (c .before .before .before .args .s .now) (l .i) (l .fine) (l .inv .0) (c .loop-test .left) ∙ l .inv .1
+    pairs-end plain (c .before .before .before .args .s .now) (l .i) (l .fine) (l .inv .0) (c .loop-test .left) ∙ l .inv .1
 
 pub all-plain-spec : {M : Type 1} → statement M
 all-plain-spec =

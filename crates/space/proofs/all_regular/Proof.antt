@@ -5,8 +5,8 @@ use mathlib.Core.Bool.{_&&_}
 use lib.ListN.{length, drop}
 use borrow.Author.Needs.{needs}
 use native.Mathlib.Omega.{arith}
-use Rattle.space.specs.Stays.{allRegular}
-use Rattle.space.proofs.Stays.{regular-next, regular-end}
+use Rattle.text.proofs.Pairs.{pairs-next, pairs-end}
+use Rattle.space.specs.Stays.{regular, allRegular}
 use Rattle.space.proofs.all_regular.Statement.{statement}
 use Rattle.space.proofs.all_regular.Tie as tie
 
@@ -42,12 +42,12 @@ loop-again c =
     let t = c .before .before .before in
     let l = t .before .loop in
     let s = t .before .before .before .args .s .now in
-    (omega arith, regular-next s (l .i) (l .fine) _ (l .inv .0) (t .loop-test .taken) (c .is-regular .ensures) ∙ l .inv .1)
+    (omega arith, pairs-next regular s (l .i) (l .fine) _ (l .inv .0) (t .loop-test .taken) (c .is-regular .ensures) ∙ l .inv .1)
 
 returns : tie.Need-returns Inv-loop μ-loop
 returns c =
     let l = c .before .loop in
-    regular-end (c .before .before .before .args .s .now) (l .i) (l .fine) (l .inv .0) (c .loop-test .left) ∙ l .inv .1
+    pairs-end regular (c .before .before .before .args .s .now) (l .i) (l .fine) (l .inv .0) (c .loop-test .left) ∙ l .inv .1
 
 pub all-regular-spec : {M : Type 1} → statement M
 all-regular-spec =
