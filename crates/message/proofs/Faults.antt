@@ -1,6 +1,6 @@
 -- A message's fields are without fault exactly where each fits and no entry names a field twice. Assumes nothing.
-use Prim.Native.Nat.{ℕ, suc, _<_}
-use mathlib.Core.Path.{_≡_, refl, sym, ap, _∙_}
+use Prim.Native.Nat.{ℕ, suc, _+_, _<_}
+use mathlib.Core.Path.{_≡_, refl, sym, ap, subst, _∙_}
 use mathlib.Core.Bool.{Bool, true, false, _&&_, not, cond, false≢true}
 use mathlib.Core.List.{List, [], _∷_, map}
 use native.Mathlib.Omega.{arith}
@@ -12,13 +12,16 @@ use Rattle.text.specs.Words.{Word, all}
 use Rattle.text.proofs.Tests.{both, and-both}
 use Rattle.records.specs.Records.{fitAll}
 use Rattle.kinds.specs.declared.Form.{Form}
+use Rattle.kinds.specs.declared.MessageType.{MessageType}
+use Rattle.kinds.specs.Kinds.{formsOf}
 use Rattle.forms.specs.Field22.{whichOf}
 use Rattle.forms.specs.Forms.{fieldOf, isEntry, rankIn, faultOf}
 use Rattle.forms.proofs.Forms.{fault-fits, fits-fault, fault-once}
 use Rattle.forms.proofs.Field22.{fitting}
 use Rattle.forms.proofs.Faults.{fault-none}
+use Rattle.message.specs.declared.Fault.{Fault}
 use Rattle.message.specs.declared.Fault.the-variants.{Clear, At}
-use Rattle.message.specs.Reading.{faultFrom}
+use Rattle.message.specs.Reading.{faultFrom, faultIn}
 use Rattle.message.specs.Message.{ranksIn, noneTwice}
 
 -- none of xs is one of earlier
@@ -142,3 +145,29 @@ faultless-clear earlier j (f ∷ fs) (c ∷ cs) k = go (faultless-clear (rankIn 
         let m : fresh (rankIn f c ∷ earlier) (ranksIn fs cs) ≡ true
         = ap (λ (r : ℕ). fresh (r ∷ earlier) (ranksIn fs cs)) w ∙ fresh-more 0 earlier (ranksIn fs cs) (ranks-some fs cs (h .1)) new in
         rw (eq-eqb (faultOf (oneOf (rankIn f c) earlier) f c) 0 z) (ih (record { fit = h .1; new = m; once = once }))
+
+-- THE FIELD OF A FAULT is one of the fields
+
+abbrev FaultBefore : ℕ → Fault → Type 0
+FaultBefore n Clear = Unit
+FaultBefore n (At number j) = j < n
+
+fault-before : (earlier : List ℕ) (i : ℕ) (fs : List Form) (cs : List Word) → FaultBefore (i + length cs) (faultFrom earlier i fs cs)
+fault-before earlier i [] cs = tt
+fault-before earlier i (f ∷ fs) [] = tt
+fault-before earlier i (f ∷ fs) (c ∷ cs) =
+    go (eqb (faultOf (oneOf (rankIn f c) earlier) f c) 0) (fault-before (rankIn f c ∷ earlier) (suc i) fs cs)
+  where
+    further : Fault
+    further = faultFrom (rankIn f c ∷ earlier) (suc i) fs cs
+
+    go : (b : Bool) → FaultBefore (suc i + length cs) further
+        → FaultBefore (i + suc (length cs)) (cond b further (At (faultOf (oneOf (rankIn f c) earlier) f c) i))
+    go true h = let z : suc i + length cs ≡ i + suc (length cs) = omega arith in subst (λ (n : ℕ). FaultBefore n further) z h
+    go false h = omega arith
+
+pub fault-inside : (t : MessageType) (n : ℕ) (cs : List Word) (number j : ℕ) → faultIn t n cs ≡ At number j → j < length cs
+unfolding faultIn
+fault-inside t n cs number j e =
+    let inside : j < 0 + length cs = subst (FaultBefore (0 + length cs)) e (fault-before [] 0 (formsOf t n) cs) in
+    omega arith

@@ -1,6 +1,6 @@
 // Reading a message: its answer, and its spelling written to the room that is lent.
 ghost use mathlib.Core.Path.{_≡_};
-ghost use mathlib.Core.Bool.{true, _&&_};
+ghost use mathlib.Core.Bool.{true, _&&_, cond};
 ghost use mathlib.Core.List.{[], _∷_};
 ghost use Prim.Native.Nat.{_≤_, _<_};
 ghost use lib.Dec.{leb, eqb};
@@ -8,11 +8,13 @@ ghost use lib.ListN.{length, drop, getD};
 ghost use Rattle.text.specs.Words.{split, same};
 ghost use Rattle.space.specs.Reduced.{reduced};
 ghost use Rattle.text.specs.Lent.{front};
-ghost use Rattle.space.specs.Hyphens.{behindHyphen};
+ghost use Rattle.space.specs.Hyphens.{behindHyphen, placeOfHyphen};
+ghost use Rattle.space.specs.Places.{sentPlace};
 ghost use Rattle.outer.specs.declared.Outer as Outer;
 ghost use Rattle.outer.specs.Outer.{most, outer};
 ghost use Rattle.kinds.specs.Kinds.{formsOf, mostFields, leastOf, greatestOf};
 ghost use Rattle.forms.specs.Forms.{fieldOf, writtenOf};
+ghost use Rattle.form_places.specs.Places.{placeIn};
 ghost use Rattle.message.specs.Ends.{Ends};
 ghost use Rattle.message.specs.Reading.{
   isClear,
@@ -22,7 +24,6 @@ ghost use Rattle.message.specs.Reading.{
   spelledFrom,
   isPlan,
   placeInPlan,
-  placeOfFault,
   Counted,
   countOf,
   three,
@@ -305,17 +306,15 @@ fn read_explained(
     read_room(t, count, msg, s, ends, out)
 }
 
-// The place of a field that has number 7, 8 or 9: its `-`, or 0 for field 3; for 7 the first byte at which no content that fits could go on.
-fn fault_place(number: u8, t: MessageType, count: usize, j: usize, msg: &[u8], s: &[u8]) -> usize
-    requires { ⌜ Counted t (now msg) count (now s) ⌝ }
-    ensures { λ r. ⌜ r ≡ placeOfFault number t j (now (msg .entry)) ⌝ }
+// The place of field j, of this form and content, that has number 7, 8 or 9: its `-`, or 0 for field 3; for 7 the first byte at which no content that fits
+// could go on.
+fn fault_place(number: u8, form: Form, j: usize, w: &[u8], msg: &[u8]) -> usize
+    ensures { λ r. ⌜ r ≡ cond (eqb number 7) (sentPlace j (placeIn form (now (w .entry))) (now (msg .entry))) (placeOfHyphen j (now (msg .entry))) ⌝ }
 {
     if number != 7 {
         return space::place_of_hyphen(msg, j);
     }
-    let at = onward(s, Cursor { at: 0 }, j);
-    let n = form_places::place_in(t.form_at(count, j), at.part(s, b'-'));
-    space::place_sent(msg, j, n)
+    space::place_sent(msg, j, form_places::place_in(form, w))
 }
 
 // Numbers 7 to 11, for the text of a message whose fields are as many as its type allows.
@@ -326,11 +325,15 @@ fn read_text(t: MessageType, count: usize, msg: &[u8], s: &[u8], out: &mut [u8])
 {
     let ends = field_ends(s);
     match fields_fault(t, count, s, &ends) {
-        Fault::At { number, field } => Answer::Refused {
-            number,
-            field: t.form_at(count, field).number(),
-            place: fault_place(number, t, count, field, msg, s),
-        },
+        Fault::At { number, field } => {
+            let form = t.form_at(count, field);
+            let w = content_at(s, &ends, field);
+            Answer::Refused {
+                number,
+                field: form.number(),
+                place: fault_place(number, form, field, w, msg),
+            }
+        }
         Fault::Clear => read_explained(t, count, msg, s, &ends, out),
     }
 }

@@ -1,7 +1,8 @@
 -- `message::read_text` meets its contract. Assumes nothing.
 use mathlib.Core.Path.{refl, sym, _∙_}
 use lib.ListN.{length}
-use Rattle.message.proofs.Steps.{field-fault, fields-clear}
+use Rattle.message.proofs.Faults.{fault-inside}
+use Rattle.message.proofs.Steps.{field-fault, fault-placed, fields-clear}
 use borrow.Author.Needs.{needs}
 use Rattle.message.proofs.read_text.Statement.{statement}
 use Rattle.message.proofs.read_text.Tie as tie
@@ -28,13 +29,17 @@ enum-known-number c = search needs
 form-at-requires : tie.Need-form-at-requires
 form-at-requires c κs = search needs
 
+content-at-requires : tie.Need-content-at-requires
+content-at-requires c κs =
+    let n = c .before .before .before in
+    let d = n .before .before in
+    (ended d .field-ends .ensures, fault-inside _ _ _ _ _ (sym (d .fields-fault .ensures) ∙ n .number .given .1))
+
 number-requires : tie.Need-number-requires
 number-requires c κs = search needs
 
 fault-place-requires : tie.Need-fault-place-requires
-fault-place-requires c κs =
-    let n = c .before .before .before in
-    start (n .before .before) .pre .0
+fault-place-requires c κs = search needs
 
 enum-told : tie.Need-enum-told
 enum-told c = search needs
@@ -47,11 +52,14 @@ read-explained-requires c κs =
 
 returns : tie.Need-returns
 returns c =
-    let n = c .before .before .before .before in
+    let content = c .before .before in
+    let form = content .before .before in
+    let n = form .before .before in
     let d = n .before .before in
     rw (
       field-fault _ _ _ _ (start d .pre .0) (length (start d .args .out .now)) _ _ (sym (d .fields-fault .ensures) ∙ n .number .given .1),
-      ← c .before .before .form-at .ensures,
+      ← fault-placed _ _ _ _ (start d .pre .0) _ _ _ _ (form .form-at .ensures) (content .content-at .ensures),
+      ← form .form-at .ensures,
       ← c .before .number2 .ensures,
       ← c .fault-place .ensures,
     ) (refl, refl)
@@ -75,6 +83,7 @@ read-text-spec =
     fields-fault-requires
     enum-known-number
     form-at-requires
+    content-at-requires
     number-requires
     fault-place-requires
     enum-told
