@@ -1,7 +1,7 @@
 -- What is wrong with an entry: nothing exactly where it fits and no earlier entry has its number. Assumes nothing.
 use Prim.Native.Nat.{ℕ, _<_}
 use mathlib.Core.Path.{_≡_, refl, sym, ap, ap₂, _∙_}
-use mathlib.Core.Bool.{Bool, true, false, cond, _&&_, false≢true}
+use mathlib.Core.Bool.{Bool, true, false, cond, _&&_}
 use mathlib.Core.List.{List, [], _∷_}
 use native.Mathlib.Omega.{arith}
 use lib.Dec.{ltb, eqb}
@@ -44,11 +44,7 @@ none-fits again s e =
 pub fault-none : (s : List ℕ) → fault22 false s ≡ 0 → fits22 s ≡ true
 fault-none s e = none-fits false s e .1
 
--- an entry that repeats a number is never right
-pub again-wrong : (s : List ℕ) → fault22 true s ≡ 0 → ⊥
-again-wrong s e = false≢true (sym (none-fits true s e .0))
-
--- and is 9 wherever it has a rank, whatever its content
+-- an entry that repeats a number is 9 wherever it has a rank, whatever its content
 pub again-nine : (s : List ℕ) → holds 47 s ≡ true → 0 < whichOf s → fault22 true s ≡ 9
 unfolding fault22
 again-nine s h n = rw (rank-numbered s h n, ne-eqb (whichOf s) 0 (λ q. omega (arith, n, q)))

@@ -148,25 +148,6 @@ written-read f s e =
     let w = written-canonical f s e in
     (ap (fieldOf f .fits) w ∙ b .0, ap (fieldOf f .recordOf) w ∙ b .1)
 
--- an entry is written as it was sent
-entry-written : (f : Form) (s : List ℕ) → isEntry f ≡ true → writtenOf f s ≡ s
-entry-written f s e = ap (λ (g : Form). writtenOf g s) (entry-is f e)
-
-pub written-rank : (f : Form) (s : List ℕ) → rankIn f (writtenOf f s) ≡ rankIn f s
-written-rank f s = go (isEntry f) refl
-  where
-    go : (b : Bool) → isEntry f ≡ b → cond b (whichOf (writtenOf f s)) 0 ≡ cond b (whichOf s) 0
-    go true q = ap whichOf (entry-written f s q)
-    go false q = refl
-
--- what is written of a content without fault is without fault
-pub written-fault : (again : Bool) (f : Form) (s : List ℕ) → faultOf again f s ≡ 0 → faultOf again f (writtenOf f s) ≡ 0
-written-fault again f s e = go (isEntry f) refl e
-  where
-    go : (b : Bool) → isEntry f ≡ b → faultOf again f s ≡ 0 → cond b (fault22 again (writtenOf f s)) (cond (fieldOf f .fits (writtenOf f s)) 0 7) ≡ 0
-    go true q e = ap (fault22 again) (entry-written f s q) ∙ (rw q at e)
-    go false q e = rw (written-read f s (fault-fits again f s e) .0)
-
 -- BY THE NUMBER OF A FORM
 
 -- one form has the number 19

@@ -56,17 +56,6 @@ module _ {A : Type 0} where
       go ih true p q = record { item = i; one = List·Memᴰ·head refl; of-key = same-eq (i .key) key p }
       go ih false p q = let o = ih q in record { item = o .item; one = List·Memᴰ·tail (o .one); of-key = o .of-key }
 
-  pub item-has : (is : List (Keyed A)) (i : Keyed A) → List·Memᴰ i is → has (i .key) is ≡ true
-  item-has [] i m = absurd (List·Memᴰ·not-nil m)
-  item-has (j ∷ is) i m = ⊎-elim here (λ n. later (same (j .key) (i .key)) (item-has is i n)) (List·Memᴰ·cases-cons m)
-    where
-      here : i ≡ j → has (i .key) (j ∷ is) ≡ true
-      here e = rw (ap (λ (x : Keyed A). same (j .key) (x .key)) e ∙ same-self (j .key))
-
-      later : (b : Bool) → has (i .key) is ≡ true → not (null (cond b (j ∷ is) (fromKey (i .key) is))) ≡ true
-      later true h = refl
-      later false h = h
-
 -- nothing is found under a key that there is no item of
 pub none-under : (key : Word) (is : List Worded) → has key is ≡ false → under key is ≡ []
 none-under key is e = go (fromKey key is) e

@@ -14,7 +14,7 @@ use Rattle.racks.specs.declared.Held.{Held}
 use Rattle.racks.specs.declared.Held.the-variants.{Nothing, Flight}
 use Rattle.racks.specs.declared.Place.{Place}
 use Rattle.racks.specs.Places.{stripIn, heldAt, base, boardIn, heldTo, shownAs, shownTo, partOf}
-use Rattle.racks.proofs.Racks.{base-most, board-at, board-past}
+use Rattle.racks.proofs.Racks.{board-at, board-past}
 
 module _ (f : Firm) (slot : ℕ) (ps : List Place) where
   -- the slots past the ninth hold nothing
@@ -23,9 +23,6 @@ module _ (f : Firm) (slot : ℕ) (ps : List Place) where
 
   pub held-here : (from : ℕ) → from ≡ base f → slot < 10 → heldAt ps (from + slot) ≡ heldTo f slot ps
   held-here from e h = ap (λ (i : ℕ). heldAt ps (i + slot)) e ∙ rw (lt-leb 10 slot h)
-
-  pub place-inside : slot < 10 → base f + slot < 20
-  place-inside h = omega (arith, base-most f)
 
   -- where a flight stands the slot is one of the ten
   pub flight-inside : (held : Strip) (n : ℕ) → heldTo f slot ps ≡ Flight held n → slot < 10
