@@ -1,6 +1,7 @@
 //! The proved reader, the second reader and the yardstick on the same inputs.
 //!
-//! `bench check` compares their answers. `bench times` measures the first two, turn by turn in one run: how long each takes, and how many times as long.
+//! `bench check` compares their answers. `bench times` measures the first beside each of the others, turn by turn in one run: how long each takes, and how
+//! many times as long.
 //! `bench sets` writes the inputs whose instructions are counted, for count.rs.
 #![cfg_attr(emulated, no_main)]
 
@@ -21,16 +22,21 @@ use readers::{Answer, Reader};
 const ROUNDS: usize = 15;
 const AT_LEAST: Duration = Duration::from_secs(2);
 
-/// The time of one round of each reader, in nanoseconds.
+/// The time of one round of the proved reader and of another, in nanoseconds.
 #[derive(Default)]
 struct Times {
     proved: f64,
-    second: f64,
+    other: f64,
 }
 
 impl Times {
     fn ratio(&self) -> f64 {
-        self.proved / self.second
+        self.proved / self.other
+    }
+
+    fn add(&mut self, times: &Times) {
+        self.proved += times.proved;
+        self.other += times.other;
     }
 }
 
@@ -43,60 +49,94 @@ fn timed(reader: Reader, inputs: &[Input]) -> f64 {
 
 /// The round whose ratio is the median. In a round the two readers run right behind one another, at the same speed of the machine for the most part;
 /// the least times of each, from different rounds, may be of different speeds where others use the machine too.
-fn measured(inputs: &[Input]) -> Times {
+fn measured(inputs: &[Input], other: Reader) -> Times {
     let start = Instant::now();
     let mut rounds = Vec::new();
     while rounds.len() < ROUNDS || start.elapsed() < AT_LEAST {
-        rounds.push(Times { proved: timed(Reader::Proved, inputs), second: timed(Reader::Second, inputs) });
+        rounds.push(Times { proved: timed(Reader::Proved, inputs), other: timed(other, inputs) });
     }
     rounds.sort_by(|a, b| a.ratio().total_cmp(&b.ratio()));
     rounds.swap_remove(rounds.len() / 2)
 }
 
-/// A row: how many bytes, then for each reader nanoseconds a message and a byte, then the ratio.
-fn row(name: &str, count: usize, bytes: usize, times: &Times) {
-    let (count, bytes) = (count as f64, bytes as f64);
-    println!(
-        "{name:<22} {:>6.0} {:>10.0} {:>8.1} {:>10.0} {:>8.1} {:>6.2}",
-        bytes / count,
-        times.proved / count,
-        times.proved / bytes,
-        times.second / count,
-        times.second / bytes,
-        times.ratio()
-    );
+/// What a row shows: how many inputs and bytes, and the times against the second reader and, of plans, against the yardstick.
+#[derive(Default)]
+struct Row {
+    count: usize,
+    bytes: usize,
+    second: Times,
+    yardstick: Option<Times>,
 }
 
-fn speeds(reader: &str, count: usize, bytes: usize, nanoseconds: f64) {
-    let a_second = 1e9 / nanoseconds;
-    println!(
-        "{reader}: {:.0} messages a second, {:.0} bytes a second",
-        count as f64 * a_second,
-        bytes as f64 * a_second
-    );
+impl Row {
+    fn of(inputs: &[Input]) -> Row {
+        Row {
+            count: inputs.len(),
+            bytes: inputs.iter().map(Input::bytes).sum(),
+            second: measured(inputs, Reader::Second),
+            yardstick: inputs.iter().all(Input::is_plan).then(|| measured(inputs, Reader::Yardstick)),
+        }
+    }
+
+    /// All rows as one, with the yardstick where each has it.
+    fn all(rows: &[Row]) -> Row {
+        let yardstick = rows.iter().all(|row| row.yardstick.is_some()).then(Times::default);
+        let mut all = Row { yardstick, ..Row::default() };
+        for row in rows {
+            all.count += row.count;
+            all.bytes += row.bytes;
+            all.second.add(&row.second);
+            all.yardstick.iter_mut().zip(&row.yardstick).for_each(|(sum, times)| sum.add(times));
+        }
+        all
+    }
+
+    /// Bytes, then for each reader nanoseconds a message and a byte, then the ratio; then the yardstick's nanoseconds, and the ratio to it.
+    fn show(&self, name: &str) {
+        let (count, bytes, times) = (self.count as f64, self.bytes as f64, &self.second);
+        print!(
+            "{name:<22} {:>6.0} {:>10.0} {:>8.1} {:>10.0} {:>8.1} {:>6.2}",
+            bytes / count,
+            times.proved / count,
+            times.proved / bytes,
+            times.other / count,
+            times.other / bytes,
+            times.ratio()
+        );
+        if let Some(times) = &self.yardstick {
+            print!(" {:>13.0} {:>6.2}", times.other / count, times.ratio());
+        }
+        println!();
+    }
+
+    fn speed(&self, reader: &str, nanoseconds: f64) {
+        let a_second = 1e9 / nanoseconds;
+        println!(
+            "{reader}: {:.0} messages a second, {:.0} bytes a second",
+            self.count as f64 * a_second,
+            self.bytes as f64 * a_second
+        );
+    }
 }
 
 /// Measures each set of a table; the last row of several is of all of them.
 fn show_times(table: &Table) {
     println!(
-        "\n{:<22} {:>6} {:>10} {:>8} {:>10} {:>8} {:>6}",
-        table.name, "bytes", "proved ns", "a byte", "second ns", "a byte", "ratio"
+        "\n{:<22} {:>6} {:>10} {:>8} {:>10} {:>8} {:>6} {:>13} {:>6}",
+        table.name, "bytes", "proved ns", "a byte", "second ns", "a byte", "ratio", "yardstick ns", "ratio"
     );
-    let (mut all, mut count, mut bytes) = (Times::default(), 0, 0);
+    let mut rows = Vec::new();
     for set in &table.sets {
-        let times = measured(&set.inputs);
-        let set_bytes = set.inputs.iter().map(Input::bytes).sum();
-        row(&set.name, set.inputs.len(), set_bytes, &times);
-        all.proved += times.proved;
-        all.second += times.second;
-        count += set.inputs.len();
-        bytes += set_bytes;
+        let row = Row::of(&set.inputs);
+        row.show(&set.name);
+        rows.push(row);
     }
-    if table.sets.len() > 1 {
-        row("all", count, bytes, &all);
+    let all = Row::all(&rows);
+    if rows.len() > 1 {
+        all.show("all");
     }
-    speeds("proved", count, bytes, all.proved);
-    speeds("second", count, bytes, all.second);
+    all.speed("proved", all.second.proved);
+    all.speed("second", all.second.other);
 }
 
 /// The yardstick does not work out the place of a 7.
