@@ -1,4 +1,6 @@
 // Fields 13, 16 and 17: aerodromes and the times joined to them.
+#![tactic(auto)]
+
 ghost use Rattle.std.specs.Prelude.{◌≡◌, ℕ, take, get_or};
 ghost use Rattle.text.specs.Words.{all, split, text_word};
 ghost use Rattle.aerodromes.specs.Aerodromes.{four_letters, at_clock, at_elapsed, aerodrome_of};
@@ -188,7 +190,7 @@ pub fn has_alternate(s: &[u8], name: &[u8]) -> bool
 }
 
 // An aerodrome by its four bytes.
-#[derive(Drop)]
+#[derive(Clone, Copy)]
 pub struct Aerodrome(pub u8, pub u8, pub u8, pub u8);
 
 // The byte at i, or 0 where there is none.

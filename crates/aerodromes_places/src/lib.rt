@@ -1,4 +1,6 @@
 // Where a content of field 13, 16 or 17 that does not fit goes wrong.
+#![tactic(auto)]
+
 ghost use Rattle.std.specs.Prelude.{◌≡◌};
 ghost use Rattle.places.specs.Words.{ended};
 ghost use Rattle.aerodromes_places.specs.Places.{joined_place, place13, place16, plan, plan_place, place16plan};

@@ -1,4 +1,6 @@
 // The alphabet of a message and the sets of bytes that the forms name, each worked out by comparisons.
+#![tactic(auto)]
+
 ghost use Rattle.std.specs.Prelude.{◌≡◌, ◌≤◌, length};
 ghost use Rattle.alphabet.specs.Alphabet.{
   letter,

@@ -1,4 +1,6 @@
 // The amended plan: what a message makes of the plan that stands on a strip, written part by part.
+#![tactic(auto)]
+
 ghost use Rattle.std.specs.Prelude.{◌≡◌, [], ◌∷◌, ◌++◌, suc, ◌≤◌, length, drop, get_or};
 ghost use Rattle.text.specs.Words.{split};
 ghost use Rattle.message.specs.Reading.{lead_of};

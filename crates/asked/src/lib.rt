@@ -1,4 +1,6 @@
 // The field in force, as the desk asks for it: where its content stands, in the CHG or in the strip.
+#![tactic(auto)]
+
 ghost use Rattle.std.specs.Prelude.{◌≡◌, ◌≤◌, length};
 ghost use Rattle.asked.specs.Asking.{rank_of, is_change, stands_as, is_bare, flight_as, type_as, asked_of, shown, StandsAt};
 ghost use Rattle.force.specs.InForce.{in_force, named_by};
@@ -12,7 +14,7 @@ use opening::Opening;
 use state::Strip;
 
 // Where the content stands, from its first byte to behind its last, or the refusal.
-#[derive(Drop)]
+#[derive(Clone, Copy)]
 pub enum Asked {
     InStrip { from: usize, to: usize },
     InChange { from: usize, to: usize },

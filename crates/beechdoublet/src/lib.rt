@@ -1,4 +1,6 @@
 // The calls for programs in C and Rust. Answers and states go in and out as plain numbers, which include/beechdoublet.h names.
+#![tactic(auto)]
+
 ghost use Rattle.std.specs.Prelude.{◌≡◌, [], ◌∷◌, length};
 ghost use Rattle.message.specs.Reading.{answer_of, out_after};
 ghost use Rattle.asked.specs.Parts.{Shows};

@@ -1,4 +1,6 @@
 // A board of two handlers as plain numbers, ten for each place, and the calls on a board that is so handed in. The strips lie in 36,000 lent bytes.
+#![tactic(auto)]
+
 ghost use Rattle.std.specs.Prelude.{◌≡◌, ◌≤◌, length};
 ghost use Rattle.text.specs.Lent.{front};
 ghost use Rattle.handed.specs.States.{kept};
@@ -16,7 +18,7 @@ use state::Strip;
 const PLACES: usize = 20;
 
 // What a caller's numbers are: `board` is the board that they mean, if `taken`; otherwise they are no board's.
-#[derive(Drop)]
+#[derive(Clone, Copy)]
 pub struct Handed {
     pub board: Board,
     pub taken: bool,

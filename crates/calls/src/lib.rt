@@ -1,10 +1,12 @@
 // The lines of the program `handlers` as calls: a firm, what it asks for, a slot; one space between. A message is the rest of its line.
+#![tactic(auto)]
+
 ghost use Rattle.std.specs.Prelude.{◌≡◌, ◌-◌, drop, length};
 ghost use Rattle.text.specs.Words.{before, behind, holds};
 ghost use Rattle.calls.specs.Lines.{is_number, number_in, place_as, slot_as, verb_as, asked};
 
 // A call on the board. A message is the line from a place on.
-#[derive(Drop)]
+#[derive(Clone, Copy)]
 pub enum Call {
     File { firm: u8, from: usize },
     Update { firm: u8, slot: usize, from: usize },
@@ -12,7 +14,7 @@ pub enum Call {
 }
 
 // What a line asks for.
-#[derive(Drop)]
+#[derive(Clone, Copy)]
 pub enum Ask {
     Calls(Call),
     Look { firm: u8, slot: usize },

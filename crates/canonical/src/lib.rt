@@ -1,4 +1,6 @@
 // Field 19 in its canonical spelling: letters in the order of their set, counts without leading zeros.
+#![tactic(auto)]
+
 ghost use Rattle.std.specs.Prelude.{◌≡◌, true, cond, ◌≤◌, eqb, length, drop, get_or};
 ghost use Rattle.text.specs.Lent.{front};
 ghost use Rattle.supplement.specs.declared.Stage.TheVariants.{Refused};

@@ -1,4 +1,6 @@
 // Why an update is refused: what differs, the missing key, or the state found.
+#![tactic(auto)]
+
 ghost use Rattle.std.specs.Prelude.{◌≡◌};
 ghost use Rattle.text.specs.Words.{split};
 ghost use Rattle.message.specs.Reading.{unexplained_in};
@@ -12,7 +14,7 @@ use state::{State, Strip};
 use strip::{Differences, Offered};
 
 // A key of field 18 that a field wants and does not find.
-#[derive(Drop)]
+#[derive(Clone, Copy)]
 pub enum Key {
     Typ,
     Dep,
@@ -21,7 +23,7 @@ pub enum Key {
 }
 
 // What is shown of an update's answer beside its numbers.
-#[derive(Drop)]
+#[derive(Clone, Copy)]
 pub enum Cause {
     NothingMore,
     Another(Differences),

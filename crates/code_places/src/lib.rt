@@ -1,4 +1,6 @@
 // The place of codes joined without spaces.
+#![tactic(auto)]
+
 ghost use Rattle.std.specs.Prelude.{◌≡◌, true, ◌∷◌, [], ◌++◌};
 ghost use Rattle.text.specs.Words.{cells};
 ghost use Rattle.codes.specs.Codes.{is_index};

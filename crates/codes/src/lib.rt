@@ -1,10 +1,12 @@
 // Codes joined without spaces: a byte with the digit behind it, where there is one.
+#![tactic(auto)]
+
 ghost use Rattle.std.specs.Prelude.{◌≡◌, ℕ, ◌+◌, ◌-◌, ◌*◌, ◌≤◌, ◌<◌, true, [], ◌∷◌, length, take, drop, get_or};
 ghost use Rattle.text.specs.Words.{before, elem, rank, rank_from, cells};
 ghost use Rattle.codes.specs.Codes.{codes, codes_fit, is_index};
 
 // Where a code ends, and its digit: a space where it has none, as in a list's cell.
-#[derive(Drop)]
+#[derive(Clone, Copy)]
 struct Code {
     end: usize,
     digit: u8,

@@ -1,4 +1,6 @@
 // The date in field 18.
+#![tactic(auto)]
+
 ghost use Rattle.std.specs.Prelude.{◌≡◌, ◌++◌, ◌≤◌, length};
 ghost use Rattle.text.specs.Words.{elem};
 ghost use Rattle.dates.specs.Dates.{date_in, flight_date, key_in, keys_behind, with_date, DatePlace, Puts};
@@ -6,7 +8,7 @@ ghost use Rattle.dates.specs.Dates.{date_in, flight_date, key_in, keys_behind, w
 use other::Rule;
 
 // A day, or none.
-#[derive(Drop)]
+#[derive(Clone, Copy)]
 pub enum FlightDate {
     Known {
         year: usize,
@@ -61,7 +63,7 @@ fn is_behind(key: &[u8]) -> bool
 }
 
 // Where an item goes.
-#[derive(Drop)]
+#[derive(Clone, Copy)]
 enum Place {
     Instead { from: usize, to: usize },
     Before(usize),

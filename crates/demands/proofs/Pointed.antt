@@ -62,9 +62,8 @@ module _ (t : MessageType) (m : List ℕ) (k : type_named (three m) ≡ Read t) 
         place_is = there e;
       }
     where
-      there : number ≡ 7
-          → place_of_fault number (form_at t (count_of m) j) j (content_of j m) m ≡ sent_place j (place_in (form_at t (count_of m) j) (content_of j m)) m
-      there e = ap (λ (b : Bool). cond b (place_of7 (form_at t (count_of m) j) j (content_of j m) m) (place_of_hyphen j m)) (eq-eqb number 7 e)
+      there : number ≡ 7 → place_of_fault number t j m ≡ sent_place j (place_in (form_at t (count_of m) j) (content_of j m)) m
+      there e = ap (λ (b : Bool). cond b (place_of7 t j m) (place_of_hyphen j m)) (eq-eqb number 7 e)
 
   count_points : (room : ℕ) → Pointed m (count_as t m room)
   unfolding count_as

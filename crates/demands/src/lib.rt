@@ -1,5 +1,7 @@
 // The demands as contracts of the calls that they speak of, so that the checker ties them to the code: each function here only calls the
 // library's. The statements are in specs/, and beside them the examples of document 01.
+#![tactic(auto)]
+
 ghost use Rattle.demands.specs.Demands.{Reads, Demand1, Demand2};
 ghost use Rattle.demands.specs.Turns.{standing, offer, Updates, Turns};
 ghost use Rattle.demands.specs.Whys.{Why};

@@ -1,5 +1,7 @@
 // The desk: the first accepted FPL of standard input becomes the strip, and each later piece is offered to it. One line for each piece: `OK`,
 // the state and the strip, or `NO`, number, field, place and the cause.
+#![tactic(auto)]
+
 ghost use Rattle.outer.specs.Outer.{most};
 ghost use Rattle.std.specs.Prelude.{◌≡◌, ◌≤◌, length};
 ghost use Rattle.std.proofs.Math.Option.{none};
@@ -12,7 +14,7 @@ use state::{State, Strip};
 use strip::Updated;
 
 // What the desk holds: nothing yet, or a flight's state and how many bytes of a buffer its strip takes.
-#[derive(Drop)]
+#[derive(Clone, Copy)]
 pub enum Held {
     Nothing,
     Flight(Strip, usize),

@@ -1,4 +1,6 @@
 // A label, an oblique and a content whose form goes by the label: the places of such a form.
+#![tactic(auto)]
+
 ghost use Rattle.std.specs.Prelude.{◌≡◌, ◌≤◌, length};
 ghost use Rattle.text.specs.Words.{split};
 ghost use Rattle.entries.specs.Entries.{matched, any_of};

@@ -1,4 +1,6 @@
 // Field 10: equipment, an oblique, surveillance.
+#![tactic(auto)]
+
 ghost use Rattle.std.specs.Prelude.{◌≡◌, true};
 ghost use Rattle.text.specs.Words.{cells};
 ghost use Rattle.codes.specs.Codes.{codes, is_index};

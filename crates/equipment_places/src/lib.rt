@@ -1,4 +1,6 @@
 // The place of a content of field 10 that does not fit.
+#![tactic(auto)]
+
 ghost use Rattle.std.specs.Prelude.{◌≡◌, true};
 ghost use Rattle.text.specs.Words.{cells};
 ghost use Rattle.codes.specs.Codes.{is_index};

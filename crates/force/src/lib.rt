@@ -1,4 +1,6 @@
 // The fields in force: a plan's, or a CHG's where its entries name them.
+#![tactic(auto)]
+
 ghost use Rattle.std.specs.Prelude.{◌≡◌, ℕ, ◌≤◌, ◌<◌, length, drop};
 ghost use Rattle.space.specs.Hyphens.{behind_hyphen};
 ghost use Rattle.force.specs.InForce.{AtEntries, FoundIn, bare};
@@ -7,7 +9,7 @@ use kinds::Form;
 use text::Cursor;
 
 // Where the content of an entry stands in a CHG.
-#[derive(Drop)]
+#[derive(Clone, Copy)]
 pub enum Found {
     At { from: usize, to: usize },
     Nowhere,

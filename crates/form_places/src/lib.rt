@@ -1,4 +1,6 @@
 // Where a content that does not fit goes wrong, for each form by its name.
+#![tactic(auto)]
+
 ghost use Rattle.std.specs.Prelude.{◌≡◌, ◌≤◌};
 ghost use Rattle.form_places.specs.Places.{place_named, place22, place_in};
 

@@ -1,4 +1,6 @@
 // Field 22, and the dispatch over all forms of fields.
+#![tactic(auto)]
+
 ghost use Rattle.std.specs.Prelude.{◌≡◌, ◌≤◌, true, ◌&&◌, ltb, length};
 ghost use Rattle.text.specs.Lent.{front};
 ghost use Rattle.forms.specs.Field22.{field_named, which_of, fits22, numbered, fault22};

@@ -1,4 +1,6 @@
 // A strip's state as eight plain numbers, as callers in other languages hand it in and get it back. include/beechdoublet.h names each number.
+#![tactic(auto)]
+
 ghost use Rattle.std.specs.Prelude.{◌≡◌};
 ghost use Rattle.text.specs.Words.{same};
 ghost use Rattle.handed.specs.States.{arrived_numbers, state_numbers, kept, departure_of, state_of, handed_as};
@@ -8,7 +10,7 @@ use shape::Clock;
 use state::{Departure, State, Strip};
 
 // What a caller's numbers are: a strip's state, or none.
-#[derive(Drop)]
+#[derive(Clone, Copy)]
 pub enum Handed {
     Held(Strip),
     NoState,

@@ -1,6 +1,8 @@
 // Two handlers at one board: each line of standard input is a call by a firm, and gets one line. `1 FILE (FPL-..)`, `1 UPDATE 0 (CHG-..)`, `1 CLEAR 0`,
 // `1 LOOK 0`, `1 LIST`. With an argument, the accepted calls are kept in the file that it names, and are played again at the start; without one the board
 // is empty at the start, and gone when the program ends.
+#![tactic(auto)]
+
 ghost use Rattle.std.specs.Prelude.{◌≡◌, true, false, ◌≤◌, length};
 ghost use Rattle.racks.specs.Places.{Sized};
 ghost use Rattle.board.specs.Turns.{Turned};
@@ -121,7 +123,7 @@ fn serve(board: Board, journal: Journal, bytes: &mut [u8; 36000]) -> Board
 // THE JOURNAL, PLAYED AGAIN
 
 // The board after lines of the journal, how many bytes have come of one more, and whether every line is a call that is accepted.
-#[derive(Drop)]
+#[derive(Clone, Copy)]
 pub struct Played {
     pub board: Board,
     pub torn: usize,

@@ -1,4 +1,6 @@
 // Fields 3, 7, 8 and 9: type and number, identification, rules, aircraft.
+#![tactic(auto)]
+
 ghost use Rattle.std.specs.Prelude.{◌≡◌, ◌≤◌, ◌&&◌, length};
 ghost use Rattle.alphabet.specs.Alphabet.{digit};
 ghost use Rattle.text.specs.Words.{before, all};

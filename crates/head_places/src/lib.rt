@@ -1,4 +1,6 @@
 // Where a content of field 3, 7, 8 or 9 that does not fit goes wrong.
+#![tactic(auto)]
+
 ghost use Rattle.std.specs.Prelude.{◌≡◌, ◌≤◌, length};
 ghost use Rattle.places.specs.Parts.{no_more};
 ghost use Rattle.head_places.specs.Places.{Reaches, unit_then, to_digits, number_then, numbers_place, place3};
@@ -10,7 +12,7 @@ use text::Kind;
 pub const TYPES: [u8; 63] = *b"FPL CHG CNL DLA DEP ARR RQP RQS SPL ALR RCF CPL EST CDN ACP LAM";
 
 // How far some bytes go: to where what follows them begins, or, not on, to where they are stuck.
-#[derive(Drop)]
+#[derive(Clone, Copy)]
 struct Reach {
     at: usize,
     on: bool,

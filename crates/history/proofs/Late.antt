@@ -24,8 +24,7 @@ use Rattle.message.specs.declared.Answer.TheVariants.{Accepted, Refused}
 use Rattle.message.specs.Reading.{count_of, is_plan, unexplained_in, spelling_of, fault_in, room_as, fault_as, count_as, type_as, three, outer_as, answer_of}
 use Rattle.message.proofs.Reached.{Reached, reached_accepted, unexplained_as}
 use Rattle.message.proofs.Valid.{reached_passed}
-use Rattle.message.proofs.Answers.{OuterNumber, outer-number}
-use Rattle.message.proofs.Faults.{FaultNumber, fault_numbers}
+use Rattle.message.proofs.Answers.{OuterNumber, outer-number, FaultNumber, fault-numbers}
 use Rattle.message.proofs.Canonical.{accepted_shorter}
 use Rattle.message.proofs.Plans.{plan_type}
 
@@ -70,7 +69,7 @@ module _ (m : List ℕ) where
 
   fault_in_lem : (t : MessageType) → FaultNumber (fault_in t (count_of m) (contents m))
   unfolding fault_in
-  fault_in_lem t = fault_numbers [] 0 (forms_of t (count_of m)) (contents m)
+  fault_in_lem t = fault-numbers [] 0 (forms_of t (count_of m)) (contents m)
 
   late_count : (t : MessageType) → outer m ≡ Good → type_named (three m) ≡ Read t → (a b : Bool)
       → ltb (count_of m) (least_of t) ≡ a → ltb (greatest_of t) (count_of m) ≡ b → (p q : ℕ)

@@ -1,4 +1,6 @@
 // Lines of the program `handlers`, read from standard input or from its journal, and the journal: a file with a line for each call that was accepted.
+#![tactic(auto)]
+
 ghost use Rattle.std.specs.Prelude.{◌≡◌, true, false, [], ◌≤◌, length};
 ghost use Rattle.journal.specs.Lines.{Answers, fresh, pushed, waits_in, left_in, Lies, Scans, ReadsOn};
 
@@ -8,28 +10,28 @@ use libc::{STDERR_FILENO, STDIN_FILENO};
 const MOST_LINE: usize = 4096;
 
 // Where the accepted calls are kept.
-#[derive(Drop)]
+#[derive(Clone, Copy)]
 pub enum Journal {
     Nowhere,
     At(i32),
 }
 
 // A line as far as it has come: how many bytes of it are in the buffer; or that it is too long.
-#[derive(Drop)]
+#[derive(Clone, Copy)]
 pub struct Waiting {
     pub n: usize,
     pub over: bool,
 }
 
 // What was read and is left: the bytes from one place of the buffer to another.
-#[derive(Drop)]
+#[derive(Clone, Copy)]
 pub struct Reader {
     pub at: usize,
     pub got: usize,
 }
 
 // A line that was read, and what is left behind it: whether it has ended, whether to read on, and whether the rest of it cannot be had.
-#[derive(Drop)]
+#[derive(Clone, Copy)]
 pub struct Taken {
     pub reader: Reader,
     pub waiting: Waiting,

@@ -1,9 +1,11 @@
 // The message types: their names, their fields in order, their least and greatest counts, and what they do to a strip.
+#![tactic(auto)]
+
 ghost use Rattle.std.specs.Prelude.{◌≡◌};
 ghost use Rattle.kinds.specs.Kinds.{least_of, greatest_of, role_of, RowFor, form_at, number_of, type_ranked, type_named};
 
 // The types that are read.
-#[derive(Drop)]
+#[derive(Clone, Copy)]
 pub enum MessageType {
     Fpl,
     Chg,
@@ -17,7 +19,7 @@ pub enum MessageType {
 }
 
 // What a message does to a strip: it files the plan that the strip holds, changes it, delays the flight and so on, or does nothing to it.
-#[derive(Drop)]
+#[derive(Clone, Copy)]
 pub enum Role {
     Files,
     Changes,
@@ -29,7 +31,7 @@ pub enum Role {
 }
 
 // The forms of the fields. In Field13Open the time may be absent; Field16Plan has an elapsed time and alternates; Field22 is one entry.
-#[derive(Drop)]
+#[derive(Clone, Copy)]
 pub enum Form {
     Field3,
     Field7,
@@ -78,7 +80,7 @@ pub const BRIEF_18: usize = 4;
 pub const FIRST_ENTRY: usize = 5;
 
 // What three bytes name: a type that is read, a standard type that is not read, or none.
-#[derive(Drop)]
+#[derive(Clone, Copy)]
 pub enum Named {
     Read(MessageType),
     NotRead,

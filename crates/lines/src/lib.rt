@@ -1,4 +1,6 @@
 // The line of a piece, as `listing` prints it: `OK`, type and spelling, or `NO`, number, field and place.
+#![tactic(auto)]
+
 ghost use Rattle.std.specs.Prelude.{◌≡◌, ◌++◌, ◌+◌, ◌≤◌, length, take, drop};
 ghost use Rattle.text.specs.Lent.{front};
 ghost use Rattle.lines.specs.Lines.{numbered, opening, accepted_line, refused_line, line_more, no_room, Tells};
@@ -7,7 +9,7 @@ use kinds::MessageType;
 use message::Answer;
 
 // What was told of a piece: the answer to it, and how many bytes its line takes.
-#[derive(Drop)]
+#[derive(Clone, Copy)]
 pub struct Told {
     pub answer: Answer,
     pub length: usize,

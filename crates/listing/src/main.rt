@@ -1,4 +1,6 @@
 // Lists messages: each piece of standard input on one line, as `OK`, type and spelling, or as `NO`, number, field and place.
+#![tactic(auto)]
+
 ghost use Rattle.std.specs.Prelude.{◌≡◌, ◌+◌, ◌*◌, ◌≤◌, length};
 ghost use Rattle.io.specs.Counts.{IsPrefixLen};
 ghost use Rattle.text.specs.Lent.{front};

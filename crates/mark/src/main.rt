@@ -3,6 +3,8 @@
 // The line is what stands from behind the last CR or LF before the place to the next CR or LF, or to the piece's end. Where the place is at a CR or LF or
 // just behind the message, something is missing there, and the mark stands behind the line's last byte. Every byte has one column: a tab is shown as
 // a space, any other byte that is not printable as `?`. A refusal with 11, whose place says nothing, does not come up: the room lent is always enough.
+#![tactic(auto)]
+
 ghost use Rattle.std.specs.Prelude.{◌≡◌, ◌+◌, ◌*◌, ◌≤◌, length};
 ghost use Rattle.io.specs.Counts.{IsPrefixLen};
 ghost use Rattle.text.specs.Lent.{front};

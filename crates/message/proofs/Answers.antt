@@ -2,12 +2,14 @@
 -- its front. Assumes nothing.
 use Prim.Native.Nat.{ℕ, suc, ◌-◌, ◌≤◌}
 use mathlib.Core.Path.{◌≡◌, refl, ap, subst}
-use mathlib.Core.Bool.{Bool, true, false, cond}
+use mathlib.Core.Bool.{Bool, true, false, cond, false≢true}
 use mathlib.Core.List.{List, [], ◌∷◌}
 use native.Mathlib.Omega.{arith}
 use lib.Dec.{eqb, ltb}
 use lib.ListN.{length}
-use Rattle.alphabet.specs.Alphabet.{in_alphabet}
+use borrow.Author.Tests.{eqb-true, eqb-false}
+use Rattle.alphabet.specs.Alphabet.{one_of, in_alphabet}
+use Rattle.text.specs.Words.{Word}
 use Rattle.text.specs.Lent.{front}
 use Rattle.space.specs.Hyphens.{place_of_hyphen}
 use Rattle.sent.specs.Sent.{contents}
@@ -15,16 +17,18 @@ use Rattle.outer.specs.declared.Outer.{Outer}
 use Rattle.outer.specs.declared.Outer.TheVariants.{Good, Bad}
 use Rattle.outer.specs.Outer.{closing, parens_from, parens, letters_from, or_else, outer}
 use Rattle.kinds.specs.declared.MessageType.{MessageType}
+use Rattle.kinds.specs.declared.Form.{Form}
 use Rattle.kinds.specs.declared.Named.{Named}
 use Rattle.kinds.specs.declared.Named.TheVariants.{Read, NotRead, NoType}
 use Rattle.kinds.specs.Kinds.{least_of, greatest_of, forms_of, type_named}
+use Rattle.forms.specs.Forms.{rank_in, fault_of}
+use Rattle.forms.proofs.Forms.{fault_number}
 use Rattle.message.specs.declared.Fault.{Fault}
 use Rattle.message.specs.declared.Fault.TheVariants.{Clear, At}
 use Rattle.message.specs.declared.Answer.{Answer}
 use Rattle.message.specs.declared.Answer.TheVariants.{Accepted, Refused}
-use Rattle.message.specs.Reading.{count_of, spelling_of, fault_in, is_plan, unexplained_in, place_in_plan}
+use Rattle.message.specs.Reading.{count_of, spelling_of, fault_from, fault_in, is_plan, unexplained_in, place_in_plan}
 use Rattle.message.specs.Reading.{room_as, explained_as, fault_as, count_as, type_as, three, outer_as, answer_of, written_as, out_after}
-use Rattle.message.proofs.Faults.{FaultNumber, fault_numbers}
 
 -- THE OUTPUT
 
@@ -98,6 +102,36 @@ outer-number m = go (ltb 1800 (length m))
     go true = (omega arith, omega arith)
     go false = first-number (parens m) (letters_from 0 m) (parens-number m) (letters-number 0 m)
 
+-- 7 to 9
+abbrev pub FaultNumber : Fault → Type 0
+FaultNumber Clear = Unit
+FaultNumber (At number j) = (7 ≤ number) × (number ≤ 9)
+
+of_four : (k : ℕ) → one_of k (0 ∷ (7 ∷ (8 ∷ (9 ∷ [])))) ≡ true → (k ≡ 0 → ⊥) → (7 ≤ k) × (k ≤ 9)
+of_four k e z = go (eqb k 0) (eqb k 7) (eqb k 8) (eqb k 9) refl refl refl refl e
+  where
+    go : (a b c d : Bool) → eqb k 0 ≡ a → eqb k 7 ≡ b → eqb k 8 ≡ c → eqb k 9 ≡ d → cond a true (cond b true (cond c true (cond d true false))) ≡ true
+        → (7 ≤ k) × (k ≤ 9)
+    go true b c d p q r s e = absurd (z (eqb-true k 0 p))
+    go false true c d p q r s e = (omega (arith, eqb-true k 7 q), omega (arith, eqb-true k 7 q))
+    go false false true d p q r s e = (omega (arith, eqb-true k 8 r), omega (arith, eqb-true k 8 r))
+    go false false false true p q r s e = (omega (arith, eqb-true k 9 s), omega (arith, eqb-true k 9 s))
+    go false false false false p q r s e = absurd (false≢true e)
+
+pub fault-numbers : (earlier : List ℕ) (j : ℕ) (fs : List Form) (cs : List Word) → FaultNumber (fault_from earlier j fs cs)
+fault-numbers earlier j [] cs = tt
+fault-numbers earlier j (f ∷ fs) [] = tt
+fault-numbers earlier j (f ∷ fs) (c ∷ cs) =
+    go (fault-numbers (rank_in f c ∷ earlier) (suc j) fs cs) (fault_of (one_of (rank_in f c) earlier) f c) (fault_number (one_of (rank_in f c) earlier) f c)
+  where
+    go : FaultNumber (fault_from (rank_in f c ∷ earlier) (suc j) fs cs) → (k : ℕ) → one_of k (0 ∷ (7 ∷ (8 ∷ (9 ∷ [])))) ≡ true
+        → FaultNumber (cond (eqb k 0) (fault_from (rank_in f c ∷ earlier) (suc j) fs cs) (At k j))
+    go ih k e = pick (eqb k 0) refl
+      where
+        pick : (b : Bool) → eqb k 0 ≡ b → FaultNumber (cond b (fault_from (rank_in f c ∷ earlier) (suc j) fs cs) (At k j))
+        pick true p = ih
+        pick false p = of_four k e (eqb-false k 0 p)
+
 -- 1 to 11
 abbrev AnswerNumber : Answer → Type 0
 AnswerNumber (Accepted t n) = Unit
@@ -132,7 +166,7 @@ count-number t m room = go (ltb (count_of m) (least_of t)) (ltb (greatest_of t) 
         (fault_as (fault_in t (count_of m) (contents m)) t m room)))
     go true y = (omega arith, omega arith)
     go false true = (omega arith, omega arith)
-    go false false = fields-number (fault_in t (count_of m) (contents m)) (fault_numbers [] 0 (forms_of t (count_of m)) (contents m)) t m room
+    go false false = fields-number (fault_in t (count_of m) (contents m)) (fault-numbers [] 0 (forms_of t (count_of m)) (contents m)) t m room
 
 type-number : (k : Named) (m : List ℕ) (room : ℕ) → AnswerNumber (type_as k m room)
 type-number NoType m room = (omega arith, omega arith)

@@ -1,5 +1,5 @@
 -- A message's fields are without fault exactly where each fits and no entry names a field twice. Assumes nothing.
-use Prim.Native.Nat.{ℕ, suc, ◌+◌, ◌<◌, ◌≤◌}
+use Prim.Native.Nat.{ℕ, suc, ◌+◌, ◌<◌}
 use mathlib.Core.Path.{◌≡◌, refl, sym, ap, subst, ◌∙◌}
 use mathlib.Core.Bool.{Bool, true, false, ◌&&◌, not, cond, false≢true}
 use mathlib.Core.List.{List, [], ◌∷◌, map}
@@ -16,7 +16,7 @@ use Rattle.kinds.specs.declared.MessageType.{MessageType}
 use Rattle.kinds.specs.Kinds.{forms_of}
 use Rattle.forms.specs.Field22.{which_of}
 use Rattle.forms.specs.Forms.{field_of, is_entry, rank_in, fault_of}
-use Rattle.forms.proofs.Forms.{fault_fits, fits_fault, fault_once, fault_number}
+use Rattle.forms.proofs.Forms.{fault_fits, fits_fault, fault_once}
 use Rattle.forms.proofs.Field22.{fitting}
 use Rattle.forms.proofs.Faults.{fault_none}
 use Rattle.message.specs.declared.Fault.{Fault}
@@ -146,51 +146,28 @@ faultless_clear earlier j (f ∷ fs) (c ∷ cs) k = go (faultless_clear (rank_in
         = ap (λ (r : ℕ). fresh (r ∷ earlier) (ranks_in fs cs)) w ∙ fresh_more 0 earlier (ranks_in fs cs) (ranks_some fs cs h.1) new in
         rw (eq-eqb (fault_of (one_of (rank_in f c) earlier) f c) 0 z) (ih (record { fit = h.1; new = m; once = once }))
 
--- A FAULT is that of one of the fields, and its number is 7, 8 or 9
+-- THE FIELD OF A FAULT is one of the fields
 
-abbrev FaultAmong : ℕ → Fault → Type 0
-FaultAmong n Clear = Unit
-FaultAmong n (At number j) = (j < n) × (7 ≤ number) × (number ≤ 9)
+abbrev FaultBefore : ℕ → Fault → Type 0
+FaultBefore n Clear = Unit
+FaultBefore n (At number j) = j < n
 
-of_four : (k : ℕ) → one_of k (0 ∷ (7 ∷ (8 ∷ (9 ∷ [])))) ≡ true → (k ≡ 0 → ⊥) → (7 ≤ k) × (k ≤ 9)
-of_four k e z = go (eqb k 0) (eqb k 7) (eqb k 8) (eqb k 9) refl refl refl refl e
+fault_before : (earlier : List ℕ) (i : ℕ) (fs : List Form) (cs : List Word) → FaultBefore (i + length cs) (fault_from earlier i fs cs)
+fault_before earlier i [] cs = tt
+fault_before earlier i (f ∷ fs) [] = tt
+fault_before earlier i (f ∷ fs) (c ∷ cs) =
+    go (eqb (fault_of (one_of (rank_in f c) earlier) f c) 0) (fault_before (rank_in f c ∷ earlier) (suc i) fs cs)
   where
-    go : (a b c d : Bool) → eqb k 0 ≡ a → eqb k 7 ≡ b → eqb k 8 ≡ c → eqb k 9 ≡ d → cond a true (cond b true (cond c true (cond d true false))) ≡ true
-        → (7 ≤ k) × (k ≤ 9)
-    go true b c d p q r s e = absurd (z (eqb-true k 0 p))
-    go false true c d p q r s e = (omega (arith, eqb-true k 7 q), omega (arith, eqb-true k 7 q))
-    go false false true d p q r s e = (omega (arith, eqb-true k 8 r), omega (arith, eqb-true k 8 r))
-    go false false false true p q r s e = (omega (arith, eqb-true k 9 s), omega (arith, eqb-true k 9 s))
-    go false false false false p q r s e = absurd (false≢true e)
-
-fault_among : (earlier : List ℕ) (i : ℕ) (fs : List Form) (cs : List Word) → FaultAmong (i + length cs) (fault_from earlier i fs cs)
-fault_among earlier i [] cs = tt
-fault_among earlier i (f ∷ fs) [] = tt
-fault_among earlier i (f ∷ fs) (c ∷ cs) = go (eqb k 0) refl (fault_among (rank_in f c ∷ earlier) (suc i) fs cs)
-  where
-    k : ℕ
-    k = fault_of (one_of (rank_in f c) earlier) f c
-
     further : Fault
     further = fault_from (rank_in f c ∷ earlier) (suc i) fs cs
 
-    go : (b : Bool) → eqb k 0 ≡ b → FaultAmong (suc i + length cs) further → FaultAmong (i + suc (length cs)) (cond b further (At k i))
-    go true p h = let z : suc i + length cs ≡ i + suc (length cs) = omega arith in subst (λ (n : ℕ). FaultAmong n further) z h
-    go false p h =
-        let among = of_four k (fault_number (one_of (rank_in f c) earlier) f c) (eqb-false k 0 p) in
-        (omega arith, among.0, among.1)
+    go : (b : Bool) → FaultBefore (suc i + length cs) further
+        → FaultBefore (i + suc (length cs)) (cond b further (At (fault_of (one_of (rank_in f c) earlier) f c) i))
+    go true h = let z : suc i + length cs ≡ i + suc (length cs) = omega arith in subst (λ (n : ℕ). FaultBefore n further) z h
+    go false h = omega arith
 
 pub fault_inside : (t : MessageType) (n : ℕ) (cs : List Word) (number j : ℕ) → fault_in t n cs ≡ At number j → j < length cs
 unfolding fault_in
-fault_inside t n cs number j e = omega (arith, (subst (FaultAmong (0 + length cs)) e (fault_among [] 0 (forms_of t n) cs)).0)
-
-abbrev pub FaultNumber : Fault → Type 0
-FaultNumber Clear = Unit
-FaultNumber (At number j) = (7 ≤ number) × (number ≤ 9)
-
-pub fault_numbers : (earlier : List ℕ) (j : ℕ) (fs : List Form) (cs : List Word) → FaultNumber (fault_from earlier j fs cs)
-fault_numbers earlier j fs cs = numbered (fault_from earlier j fs cs) (fault_among earlier j fs cs)
-  where
-    numbered : (f : Fault) → FaultAmong (j + length cs) f → FaultNumber f
-    numbered Clear h = tt
-    numbered (At number i) h = (h.1, h.2)
+fault_inside t n cs number j e =
+    let inside : j < 0 + length cs = subst (FaultBefore (0 + length cs)) e (fault_before [] 0 (forms_of t n) cs) in
+    omega arith

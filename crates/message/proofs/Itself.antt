@@ -61,7 +61,7 @@ module _ (t : MessageType) (m : List ℕ) (count : ℕ) (s : List ℕ) (k : Coun
   by_unexplained false q = ap plans (left_unexplained t m count s k most unexplained p refl (eqb-false unexplained 0 q))
 
   by_fault : (f : Fault) → fault_in t count (split 45 s) ≡ f → plans (fields_as t m most) ≡ (is_clear f && eqb unexplained 0)
-  by_fault (At number j) e = ap plans (field_fault t m count s k most number j _ _ e refl refl)
+  by_fault (At number j) e = ap plans (field_fault t m count s k most number j e)
   by_fault Clear e = ap plans (fields_clear t m count s k most e) ∙ by_unexplained (eqb unexplained 0) refl
 
   pub plan_fields_lem : plans (fields_as t m most) ≡ (is_clear (fault_in t count (split 45 s)) && eqb unexplained 0)

@@ -147,7 +147,7 @@ unfolding place_of7
 fields_inside Clear t m room = explained_inside (cond (is_plan t) (unexplained_in (contents m)) 0) t m room
 fields_inside (At number j) t m room = go (eqb number 7)
   where
-    go : (b : Bool) → cond b (place_of7 (form_at t (count_of m) j) j (content_of j m) m) (place_of_hyphen j m) ≤ length m
+    go : (b : Bool) → cond b (place_of7 t j m) (place_of_hyphen j m) ≤ length m
     go true = sent_inside j (place_in (form_at t (count_of m) j) (content_of j m)) m
     go false = hyphen_inside j m
 

@@ -1,18 +1,19 @@
 -- The answers, as the code comes to them: of each number its answer. Assumes nothing.
 use Prim.Native.Nat.{ℕ, suc, ◌-◌, ◌<◌, ◌≤◌}
 use mathlib.Core.Path.{◌≡◌, refl, sym, ap, ap₂, ◌∙◌}
-use mathlib.Core.Bool.{Bool, true, false}
+use mathlib.Core.Bool.{Bool, true, false, cond}
 use mathlib.Core.List.{List, [], ◌∷◌}
 use native.Mathlib.Omega.{arith}
 use lib.Dec.{eqb, leb}
 use lib.ListN.{length, take, drop, get_or, length-take, length-drop}
 use lib.Seq.{drop-append-le, take-append-le}
 use borrow.Author.Tests.{lt-ltb, le-ltb, ne_eqb, leb-true}
-use Rattle.text.specs.Words.{Word, split, before}
+use Rattle.text.specs.Words.{split, before}
 use Rattle.text.specs.Lent.{front}
 use Rattle.space.specs.Reduced.{reduced}
 use Rattle.space.specs.Fields.{inner}
 use Rattle.space.specs.Hyphens.{hyphens, one_more, place_of_hyphen, behind_hyphen}
+use Rattle.space.specs.Places.{sent_place}
 use Rattle.space.proofs.Reduced.{never_longer}
 use Rattle.space.proofs.Frame.{frame_stays}
 use Rattle.sent.specs.Sent.{contents}
@@ -25,10 +26,11 @@ use Rattle.kinds.specs.declared.Form.{Form}
 use Rattle.kinds.specs.Kinds.{least_of, greatest_of, types_read, forms_of, form_at, number_of, most_fields}
 use Rattle.kinds.proofs.Fields.{forms_length}
 use Rattle.kinds.proofs.Names.{each}
+use Rattle.form_places.specs.Places.{place_in}
 use Rattle.message.specs.declared.Fault.{Fault}
 use Rattle.message.specs.declared.Fault.TheVariants.{Clear, At}
 use Rattle.message.specs.declared.Answer.TheVariants.{Accepted, Refused}
-use Rattle.message.specs.Reading.{text_of, count_of, spelled_from, spelling_of, fault_in, is_plan, unexplained_in, place_in_plan, place_of_fault, Counted}
+use Rattle.message.specs.Reading.{text_of, count_of, spelled_from, spelling_of, fault_in, is_plan, unexplained_in, place_in_plan, place_of7, place_of_fault, Counted}
 use Rattle.message.specs.Reading.{room_as, fault_as, fields_as, count_as}
 use Rattle.message.proofs.Nth.{field_at_lem}
 
@@ -69,14 +71,20 @@ module _ (t : MessageType) (m : List ℕ) (count : ℕ) (s : List ℕ) (k : Coun
   fault_is : fault_in t count (split 45 s) ≡ fault_in t (count_of m) (contents m)
   fault_is = ap₂ (fault_in t) k.count_is contents_are
 
-  -- by the form and the content of field j
-  pub field_fault : (room number j : ℕ) (f : Form) (w : Word) → fault_in t count (split 45 s) ≡ At number j → f ≡ form_at t count j
-      → w ≡ get_or (split 45 s) j [] → fields_as t m room ≡ Refused number (number_of f) (place_of_fault number f j w m)
-  field_fault room number j f w e formed cut =
-      let form = formed ∙ ap (λ (n : ℕ). form_at t n j) k.count_is in
-      let content = cut ∙ field_at_lem j s ∙ ap (λ (u : List ℕ). before 45 (behind_hyphen j u)) k.text_is in
-      ap (λ (x : Fault). fault_as x t m room) (sym fault_is ∙ e)
-      ∙ ap₂ (λ (g : Form) (c : Word). Refused number (number_of g) (place_of_fault number g j c m)) (sym form) (sym content)
+  pub field_fault : (room number j : ℕ) → fault_in t count (split 45 s) ≡ At number j
+      → fields_as t m room ≡ Refused number (number_of (form_at t count j)) (place_of_fault number t j m)
+  field_fault room number j e =
+      ap (λ (f : Fault). fault_as f t m room) (sym fault_is ∙ e)
+      ∙ ap (λ (n : ℕ). Refused number (number_of (form_at t n j)) (place_of_fault number t j m)) (sym k.count_is)
+
+  -- the place, by the form and the content of field j
+  pub fault_placed : (number j : ℕ) (f : Form) (w : List ℕ) → f ≡ form_at t count j → w ≡ get_or (split 45 s) j []
+      → cond (eqb number 7) (sent_place j (place_in f w) m) (place_of_hyphen j m) ≡ place_of_fault number t j m
+  unfolding place_of7
+  fault_placed number j f w e d =
+      let form = e ∙ ap (λ (n : ℕ). form_at t n j) k.count_is in
+      let content = d ∙ field_at_lem j s ∙ ap (λ (u : List ℕ). before 45 (behind_hyphen j u)) k.text_is in
+      ap (λ (n : ℕ). cond (eqb number 7) (sent_place j n m) (place_of_hyphen j m)) (ap₂ place_in form content)
 
   pub fields_clear : (room : ℕ) → fault_in t count (split 45 s) ≡ Clear → fields_as t m room ≡ fault_as Clear t m room
   fields_clear room e = ap (λ (f : Fault). fault_as f t m room) (sym fault_is ∙ e)

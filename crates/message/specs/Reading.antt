@@ -72,13 +72,12 @@ fault_in t n cs = fault_from [] 0 (forms_of t n) cs
 abbrev pub content_of : ℕ → List ℕ → Word
 content_of j m = before 45 (behind_hyphen j (text_of m))
 
--- where field j of a message, of this form and content, does not fit: the first byte, as sent, at which no content that fits the form could go on
-unfoldable pub place_of7 : Form → ℕ → Word → List ℕ → ℕ
-place_of7 f j c m = sent_place j (place_in f c) m
+-- where field j of a message does not fit: the first byte, as sent, at which no content that fits its form could go on
+unfoldable pub place_of7 : MessageType → ℕ → List ℕ → ℕ
+place_of7 t j m = sent_place j (place_in (form_at t (count_of m) j) (content_of j m)) m
 
--- the place of a field with number 7, 8 or 9: for 8 and 9 its `-`, or 0 for field 3
-abbrev pub place_of_fault : ℕ → Form → ℕ → Word → List ℕ → ℕ
-place_of_fault number f j c m = cond (eqb number 7) (place_of7 f j c m) (place_of_hyphen j m)
+abbrev pub place_of_fault : ℕ → MessageType → ℕ → List ℕ → ℕ
+place_of_fault number t j m = cond (eqb number 7) (place_of7 t j m) (place_of_hyphen j m)
 
 -- NUMBER 10: the field of an FPL that is left unexplained; 0 for none, and in other types
 
@@ -113,8 +112,7 @@ explained_as field t m room = cond (eqb field 0) (room_as t m room) (Refused 10 
 
 -- 7, 8, 9
 abbrev pub fault_as : Fault → MessageType → List ℕ → ℕ → Answer
-fault_as (At number j) t m room =
-    Refused number (number_of (form_at t (count_of m) j)) (place_of_fault number (form_at t (count_of m) j) j (content_of j m) m)
+fault_as (At number j) t m room = Refused number (number_of (form_at t (count_of m) j)) (place_of_fault number t j m)
 fault_as Clear t m room = explained_as (cond (is_plan t) (unexplained_in (contents m)) 0) t m room
 
 abbrev pub fields_as : MessageType → List ℕ → ℕ → Answer

@@ -1,19 +1,22 @@
 // Reading a message: its answer, and its spelling written to the room that is lent.
-ghost use Rattle.std.specs.Prelude.{◌≡◌, true, ◌&&◌, [], ◌∷◌, ◌≤◌, ◌<◌, leb, eqb, length, drop, get_or};
+#![tactic(auto)]
+
+ghost use Rattle.std.specs.Prelude.{◌≡◌, true, ◌&&◌, cond, [], ◌∷◌, ◌≤◌, ◌<◌, leb, eqb, length, drop, get_or};
 ghost use Rattle.text.specs.Words.{split, same};
 ghost use Rattle.space.specs.Reduced.{reduced};
 ghost use Rattle.text.specs.Lent.{front};
-ghost use Rattle.space.specs.Hyphens.{behind_hyphen};
+ghost use Rattle.space.specs.Hyphens.{behind_hyphen, place_of_hyphen};
+ghost use Rattle.space.specs.Places.{sent_place};
 ghost use Rattle.outer.specs.declared.Outer as Outer;
 ghost use Rattle.outer.specs.Outer.{most, outer};
 ghost use Rattle.kinds.specs.Kinds.{forms_of, most_fields, least_of, greatest_of};
 ghost use Rattle.forms.specs.Forms.{field_of, written_of};
+ghost use Rattle.form_places.specs.Places.{place_in};
 ghost use Rattle.message.specs.Ends.{Ends, Noted};
 ghost use Rattle.message.specs.Reading.{
   is_clear,
   fault_in,
   unexplained_in,
-  place_of_fault,
   lead_of,
   spelled_from,
   is_plan,
@@ -38,13 +41,13 @@ use outer::Outer;
 use text::Cursor;
 
 // What is wrong with a message's fields: a number and the place of the field, counted from 0.
-#[derive(Drop)]
+#[derive(Clone, Copy)]
 pub enum Fault {
     Clear,
     At { number: u8, field: usize },
 }
 
-#[derive(Drop)]
+#[derive(Clone, Copy)]
 pub enum Answer {
     Accepted(MessageType, usize),
     Refused { number: u8, field: u8, place: usize },
@@ -335,7 +338,7 @@ fn read_explained(
 // The place of field j, of this form and content, that has number 7, 8 or 9: its `-`, or 0 for field 3; for 7 the first byte at which no content that fits
 // could go on.
 fn fault_place(number: u8, form: Form, j: usize, w: &[u8], msg: &[u8]) -> usize
-    ensures { result ≡ place_of_fault number form j w.now msg.now }
+    ensures { result ≡ cond (eqb number 7) (sent_place j (place_in form w.now) msg.now) (place_of_hyphen j msg.now) }
 {
     if number != 7 {
         return space::place_of_hyphen(msg, j);

@@ -1,4 +1,6 @@
 // How a strip is opened for a message: the strip is tested, and the message is read.
+#![tactic(auto)]
+
 ghost use Rattle.std.specs.Prelude.{◌≡◌};
 ghost use Rattle.opening.specs.Opening.{canonical_plan, not_read_as, opening_of, scratch_after};
 
@@ -7,7 +9,7 @@ use message::Answer;
 use state::Strip;
 
 // The message's type, and how many bytes its spelling takes; or the refusal.
-#[derive(Drop)]
+#[derive(Clone, Copy)]
 pub enum Opening {
     Read(MessageType, usize),
     Refused { number: u8, field: u8, place: usize },

@@ -1,4 +1,6 @@
 // Field 18, other information: `0` alone, or items.
+#![tactic(auto)]
+
 ghost use Rattle.std.specs.Prelude.{◌≡◌, true, [], ℕ, ◌+◌, ◌-◌, ◌≤◌, ◌<◌, eqb, length, take, drop, get_or};
 ghost use Rattle.alphabet.specs.Alphabet.{one_of, text};
 ghost use Rattle.text.specs.Words.{split, after, up_to, all, free, elem, cells};
@@ -8,7 +10,7 @@ ghost use Rattle.other.specs.Plain.{plain, all_plain};
 ghost use Rattle.other.specs.Field18.{fit_from, fit_more, fits_in, fits18, has_key, words_under, words_from, Found};
 
 // What the words under a key must be: `Free` is any text words.
-#[derive(Drop)]
+#[derive(Clone, Copy)]
 pub enum Rule {
     Status,
     Approvals,

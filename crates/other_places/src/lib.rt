@@ -1,4 +1,6 @@
 // The place of a content of field 18 that does not fit.
+#![tactic(auto)]
+
 ghost use Rattle.std.specs.Prelude.{◌≡◌, ◌<◌, [], ◌++◌, true, length, drop};
 ghost use Rattle.alphabet.specs.Alphabet.{sign, one_of};
 ghost use Rattle.text.specs.Words.{before, cells, leading};

@@ -1,9 +1,11 @@
 // Numbers 1 to 3 of a message as sent: its length, its parentheses, its alphabet.
+#![tactic(auto)]
+
 ghost use Rattle.std.specs.Prelude.{◌≡◌};
 ghost use Rattle.outer.specs.Outer.{parens, letters_from, outer, is_good};
 
 // Good, or the number and the place in the message.
-#[derive(Drop)]
+#[derive(Clone, Copy)]
 pub enum Outer {
     Good,
     Bad { number: u8, place: usize },

@@ -1,4 +1,6 @@
 // The parts of a message that is its own spelling: where a field stands, by its number, and of a plan the parts that the desk works with.
+#![tactic(auto)]
+
 ghost use Rattle.std.specs.Prelude.{◌≡◌, true, map, ℕ, ◌-◌, ◌≤◌, length, take, drop};
 ghost use Rattle.text.specs.Words.{up_to};
 ghost use Rattle.space.specs.Reduced.{reduced};
@@ -19,35 +21,35 @@ use message::Answer;
 use shape::{Clock, ClockRead, Elapsed, ElapsedRead};
 
 // Bytes of a message: the first, and behind the last.
-#[derive(Drop)]
+#[derive(Clone, Copy)]
 pub struct Span {
     pub from: usize,
     pub to: usize,
 }
 
 // Where a field's content stands, or the refusal.
-#[derive(Drop)]
+#[derive(Clone, Copy)]
 pub enum Part {
     At(Span),
     Refused { number: u8, field: u8, place: usize },
 }
 
 // Field 9: how many aircraft, and where their type stands.
-#[derive(Drop)]
+#[derive(Clone, Copy)]
 pub struct Aircraft {
     pub count: usize,
     pub kind: Span,
 }
 
 // Field 13: where the aerodrome's four letters begin, and the off-block time.
-#[derive(Drop)]
+#[derive(Clone, Copy)]
 pub struct OffBlock {
     pub aerodrome: usize,
     pub time: Clock,
 }
 
 // Field 16: where the aerodrome's four letters begin, the elapsed time, how many alternates, and where the letters of each begin, or 0.
-#[derive(Drop)]
+#[derive(Clone, Copy)]
 pub struct Destination {
     pub aerodrome: usize,
     pub elapsed: Elapsed,
@@ -57,7 +59,7 @@ pub struct Destination {
 }
 
 // The parts of a plan; the date is DOF's in field 18.
-#[derive(Drop)]
+#[derive(Clone, Copy)]
 pub struct PlanParts {
     pub identification: Span,
     pub aircraft: Aircraft,
@@ -66,14 +68,14 @@ pub struct PlanParts {
     pub date: FlightDate,
 }
 
-#[derive(Drop)]
+#[derive(Clone, Copy)]
 pub enum Planned {
     Parts(PlanParts),
     Refused { number: u8, field: u8, place: usize },
 }
 
 // How a message is taken: its type, and whether it is its own spelling; or reading's refusal.
-#[derive(Drop)]
+#[derive(Clone, Copy)]
 pub enum Taken {
     As(MessageType, bool),
     Refused { number: u8, field: u8, place: usize },

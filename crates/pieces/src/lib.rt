@@ -1,4 +1,6 @@
 // How the programs cut standard input into pieces, one to a message.
+#![tactic(auto)]
+
 ghost use Rattle.std.specs.Prelude.{◌≡◌, ◌+◌, drop};
 ghost use Rattle.pieces.specs.Pieces.{white_ahead, piece_end};
 

@@ -1,4 +1,6 @@
 // The place of a content that does not fit: the parts that the forms share.
+#![tactic(auto)]
+
 ghost use Rattle.std.specs.Prelude.{◌≡◌, ◌≤◌, length};
 ghost use Rattle.text.specs.Words.{leading};
 ghost use Rattle.text.specs.Kinds.{of_kind};

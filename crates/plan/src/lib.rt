@@ -1,4 +1,6 @@
 // Number 10: what a plan leaves unexplained in field 18.
+#![tactic(auto)]
+
 ghost use Rattle.std.specs.Prelude.{◌≡◌};
 ghost use Rattle.plan.specs.Unexplained.{type_unexplained, departure_unexplained, without_dest, destination_unexplained, unexplained};
 

@@ -1,4 +1,6 @@
 // The places of field 15's points and of its words with no oblique.
+#![tactic(auto)]
+
 ghost use Rattle.std.specs.Prelude.{◌≡◌, ℕ, ◌<◌, length, get_or};
 ghost use Rattle.text.specs.Words.{split};
 ghost use Rattle.point_places.specs.Rows.{meets as may_meet, row_place, rows_place};

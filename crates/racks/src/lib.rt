@@ -1,5 +1,7 @@
 // The racks of a board that two firms share, as places and bytes: ten places for each firm. The strips lie in 36,000 lent bytes, 1,800 for each
 // place; of each place the board has whether a strip stands there, its record and how many bytes it takes.
+#![tactic(auto)]
+
 ghost use Rattle.std.specs.Prelude.{◌≡◌, ◌+◌, ◌≤◌, ◌<◌, [], length, set, replicate};
 ghost use Rattle.rooms.specs.Rooms.{held_in, lowest};
 ghost use Rattle.racks.specs.Places.{in_place, vacant, held_at, base, board_in, held_to, shown_to, part_of, written, Puts};
@@ -8,18 +10,18 @@ use rooms::Firm;
 use state::Strip;
 
 // What stands in a place: nothing, or a flight's record and how many bytes of the place its strip takes.
-#[derive(Drop)]
+#[derive(Clone, Copy)]
 pub enum Held {
     Nothing,
     Flight(Strip, usize),
 }
 
-#[derive(Drop)]
+#[derive(Clone, Copy)]
 pub struct Place {
     pub held: Held,
 }
 
-#[derive(Drop)]
+#[derive(Clone, Copy)]
 pub struct Board {
     pub places: [Place; 20],
 }

@@ -1,1 +1,3 @@
 // Definitions and proofs only: the records of a list of fields.
+
+#![tactic(auto)]

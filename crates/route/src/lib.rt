@@ -1,4 +1,6 @@
 // Field 15: speed and level, then one or more words.
+#![tactic(auto)]
+
 ghost use Rattle.std.specs.Prelude.{◌≡◌, true, ℕ, ◌+◌, ◌-◌, ◌≤◌, ◌<◌, [], ◌∷◌, length, drop};
 ghost use Rattle.alphabet.specs.Alphabet.{sign};
 ghost use Rattle.text.specs.Words.{split, elem, all, leading};

@@ -1,4 +1,6 @@
 // The place of a content of field 15 that does not fit.
+#![tactic(auto)]
+
 ghost use Rattle.std.specs.Prelude.{◌≡◌, ℕ, ◌≤◌, length};
 ghost use Rattle.text.specs.Words.{split};
 ghost use Rattle.shape.specs.Shape.{wides};

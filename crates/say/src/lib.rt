@@ -1,5 +1,7 @@
 // What the programs read and print. No contract can say what is read or printed; what a line says of a time is spelled by a function with one.
 // A program cannot end with a status: what could not be read or written it says on standard error, and ./run ends with status 1 then.
+#![tactic(auto)]
+
 ghost use Rattle.std.specs.Prelude.{◌≡◌, ◌+◌, ◌<◌, ◌≤◌};
 ghost use Rattle.io.specs.Counts.{IsPrefixLen};
 ghost use Rattle.shape.specs.Time.{spell_clock};

@@ -1,4 +1,6 @@
 // What the program `handlers` prints of the board: the answer to a call, a strip, the list of a firm's strips.
+#![tactic(auto)]
+
 use board::{Looked, Verdict};
 use calls::Call;
 use racks::Board;

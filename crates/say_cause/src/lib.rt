@@ -1,4 +1,6 @@
 // What the programs print of a cause, why an update is refused: its names, in capitals, each behind a space.
+#![tactic(auto)]
+
 use causes::{Cause, Key};
 use say::print;
 use strip::Differences;

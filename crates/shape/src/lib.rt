@@ -1,4 +1,6 @@
 // Numbers, times and forms of fixed length.
+#![tactic(auto)]
+
 ghost use Rattle.std.specs.Prelude.{◌≡◌, ℕ, ◌+◌, ◌-◌, ◌<◌, ◌≤◌, length, take, drop};
 ghost use Rattle.alphabet.specs.Alphabet.{one_of};
 ghost use Rattle.text.specs.Words.{split};
@@ -128,20 +130,20 @@ pub fn four(w: &[u8], i: usize) -> usize
 }
 
 // A time of day, as the minute of the day.
-#[derive(Drop)]
+#[derive(Clone, Copy)]
 pub struct Clock(pub u16);
 
 // An elapsed time, in minutes.
-#[derive(Drop)]
+#[derive(Clone, Copy)]
 pub struct Elapsed(pub u16);
 
-#[derive(Drop)]
+#[derive(Clone, Copy)]
 pub enum ClockRead {
     TimeOfDay(Clock),
     NoTimeOfDay,
 }
 
-#[derive(Drop)]
+#[derive(Clone, Copy)]
 pub enum ElapsedRead {
     ElapsedTime(Elapsed),
     NoElapsedTime,

@@ -1,4 +1,6 @@
 // White space reduced into a scratch, and the places of the hyphens in a message as sent.
+#![tactic(auto)]
+
 ghost use Rattle.std.specs.Prelude.{◌≡◌, ℕ, ◌+◌, ◌-◌, ◌≤◌, ◌<◌, length, take, drop, false};
 ghost use Rattle.text.specs.Lent.{front};
 ghost use Rattle.text.specs.Words.{same};

@@ -1,4 +1,6 @@
 // The state of a flight: what it allows, and where an accepted message leaves it.
+#![tactic(auto)]
+
 ghost use Rattle.std.specs.Prelude.{◌≡◌};
 ghost use Rattle.state.specs.State.{allowed_departed, allowed_in, departure_of, next_state, next_of};
 ghost use Rattle.state.specs.State.{sound_clock, sound_departure, sound_landing, sound_arrival, sound};
@@ -6,13 +8,13 @@ ghost use Rattle.state.specs.State.{sound_clock, sound_departure, sound_landing,
 use aerodromes::Aerodrome;
 use shape::Clock;
 
-#[derive(Drop)]
+#[derive(Clone, Copy)]
 pub enum Departure {
     Known(Clock),
     Unknown,
 }
 
-#[derive(Drop)]
+#[derive(Clone, Copy)]
 pub enum State {
     Filed,
     Departed(Clock),
@@ -20,13 +22,13 @@ pub enum State {
     Cancelled,
 }
 
-#[derive(Drop)]
+#[derive(Clone, Copy)]
 pub struct Strip {
     pub state: State,
 }
 
 // What a message says of the state: CHG, DLA, CNL, DEP with the time of its field 13, ARR with its field 17.
-#[derive(Drop)]
+#[derive(Clone, Copy)]
 pub enum Event {
     Change,
     Delay,

@@ -1,4 +1,6 @@
 // The strip: one plan, kept up to date by the messages that are offered to it.
+#![tactic(auto)]
+
 ghost use Rattle.std.specs.Prelude.{◌≡◌, ◌&&◌, not, length, drop};
 ghost use Rattle.text.specs.Words.{split, same};
 ghost use Rattle.aerodromes.specs.Asked.{clock_at};
@@ -12,14 +14,14 @@ use shape::{Clock, ClockRead};
 use state::{Event, Strip};
 
 // What a message of a type does to the state, or that its type is not fit for an update.
-#[derive(Drop)]
+#[derive(Clone, Copy)]
 pub enum Offered {
     Says(Event),
     Unfit,
 }
 
 // Which of the values that are compared differ from the strip's.
-#[derive(Drop)]
+#[derive(Clone, Copy)]
 pub struct Differences {
     pub identification: bool,
     pub aerodrome: bool,
@@ -28,7 +30,7 @@ pub struct Differences {
     pub date: bool,
 }
 
-#[derive(Drop)]
+#[derive(Clone, Copy)]
 pub enum Updated {
     Accepted(Strip, usize),
     Refused { number: u8, field: u8, place: usize },

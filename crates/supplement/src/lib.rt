@@ -1,11 +1,13 @@
 // Field 19, supplementary information, as sent.
+#![tactic(auto)]
+
 ghost use Rattle.std.specs.Prelude.{◌≡◌, cond, eqb, get_or};
 ghost use Rattle.supplement.specs.declared.Stage.TheVariants.{Refused};
 ghost use Rattle.supplement.specs.Field19.{D, by_letter, place as place_of, count, some_of, colour, fits19};
 ghost use Rattle.supplement.specs.Walk.{past as past_of, complete as complete_at, shaded, first as first_of, further as further_of, step as step_of};
 
 // What the last word was read as.
-#[derive(Drop)]
+#[derive(Clone, Copy)]
 pub enum Stage {
     Start,
     Endurance,

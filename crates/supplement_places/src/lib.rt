@@ -1,4 +1,6 @@
 // The place of a content of field 19 that does not fit, word by word.
+#![tactic(auto)]
+
 ghost use Rattle.std.specs.Prelude.{◌≡◌, ◌≤◌, length};
 ghost use Rattle.supplement.specs.Field19.{by_letter};
 ghost use Rattle.supplement_places.specs.Places.{letters_place, first_word_place, further_place, item_place, word_place, stands as stands_at, place19};

@@ -1,4 +1,6 @@
 // Cutting, comparing and copying bytes.
+#![tactic(auto)]
+
 ghost use Rattle.std.specs.Prelude.{◌≡◌, ℕ, ◌+◌, ◌≤◌, ◌<◌, length, drop, get_or};
 ghost use Rattle.text.specs.Words.{split, up_to, before, leading, all, free, text_word, same, elem, rank, rank_from, cells};
 ghost use Rattle.text.specs.Kinds.{of_kind};
@@ -52,7 +54,7 @@ pub fn find_far(s: &[u8], from: usize, c: u8) -> usize
 }
 
 // What a byte may be.
-#[derive(Drop)]
+#[derive(Clone, Copy)]
 pub enum Kind {
     Letter,
     Digit,
@@ -206,7 +208,7 @@ pub fn in_cells(w: &[u8], width: usize, list: &[u8]) -> bool
 }
 
 // A place in a text. Its pieces end at a byte c: words at the space, fields at the hyphen.
-#[derive(Drop)]
+#[derive(Clone, Copy)]
 pub struct Cursor {
     pub at: usize,
 }

@@ -2,6 +2,8 @@
 // `H STATE strip` holds a strip, unchecked; `U message` and `u ROOM message` offer a message to the strip held; `F NUMBER message` asks for
 // the field in force; `W message` asks why the strip held is not updated by a message; `C FORM content` holds a content alone to a form. In a
 // message, strip or content `\` and two hexadecimal digits stand for a byte. A line that asks nothing is answered `BAD LINE`.
+#![tactic(auto)]
+
 ghost use Rattle.std.specs.Prelude.{◌≡◌, ◌+◌, ◌≤◌, ◌<◌, length};
 
 use aerodromes::Aerodrome;
@@ -87,7 +89,7 @@ fn decode(line: &mut Line, from: usize, n: usize) -> usize
 
 // STATES AS WORDS
 
-#[derive(Drop)]
+#[derive(Clone, Copy)]
 enum Said {
     Known(State),
     Nothing,
@@ -154,7 +156,7 @@ fn grounded(b: u8) -> Said {
 // ANSWERS
 
 // What is kept from line to line: how many bytes of a line are gathered, `NONE` where there are too many; how many bytes the strip held has; its state.
-#[derive(Drop)]
+#[derive(Clone, Copy)]
 struct Run {
     gathered: usize,
     length: usize,

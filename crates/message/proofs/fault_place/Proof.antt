@@ -3,7 +3,6 @@ use Prim.Native.Nat.{ℕ}
 use mathlib.Core.Path.{ap, ◌∙◌}
 use borrow.Author.Tests.{eq-eqb, ne_eqb}
 use Rattle.space.specs.Places.{sent_place}
-use Rattle.message.specs.Reading.{place_of7}
 use borrow.Author.Rules.{rules}
 use Rattle.message.proofs.fault_place.Statement.{statement}
 use Rattle.message.proofs.fault_place.Tie as tie
@@ -21,7 +20,6 @@ place-sent-requires : tie.Need-place-sent-requires
 place-sent-requires c κs = search rules
 
 returns-2 : tie.Need-returns-2
-unfolding place_of7
 returns-2 c =
     let placed = c.before in
     let start = placed.before.before.before.before in

@@ -2,7 +2,7 @@
 use mathlib.Core.Path.{refl, sym, ◌∙◌}
 use lib.ListN.{length}
 use Rattle.message.proofs.Faults.{fault_inside}
-use Rattle.message.proofs.Steps.{field_fault, fields_clear}
+use Rattle.message.proofs.Steps.{field_fault, fault_placed, fields_clear}
 use borrow.Author.Rules.{rules}
 use Rattle.message.proofs.read_text.Statement.{statement}
 use Rattle.message.proofs.read_text.Tie as tie
@@ -56,9 +56,10 @@ returns c =
     let form = content.before.before in
     let n = form.before.before in
     let d = n.before.before in
-    let found = sym d.fields-fault.ensures ∙ n.number.given.1 in
     rw (
-      field_fault _ _ _ _ (start d).requires.0 (length (start d).args.out.now) _ _ _ _ found form.form-at.ensures content.content-at.ensures,
+      field_fault _ _ _ _ (start d).requires.0 (length (start d).args.out.now) _ _ (sym d.fields-fault.ensures ∙ n.number.given.1),
+      ← fault_placed _ _ _ _ (start d).requires.0 _ _ _ _ form.form-at.ensures content.content-at.ensures,
+      ← form.form-at.ensures,
       ← c.before.number2.ensures,
       ← c.fault-place.ensures,
     ) (refl, refl)
