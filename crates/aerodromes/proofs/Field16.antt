@@ -1,7 +1,7 @@
 -- Field 16 is proved: alone, in its form with an elapsed time and alternates, and as an entry of a CHG. Assumes nothing.
 use Prim.Native.Nat.{ℕ}
 use mathlib.Core.Path.{◌≡◌, refl, sym, ap, ap₂, ◌∙◌}
-use mathlib.Core.Bool.{Bool, true, false, ◌||◌, cond, or_true}
+use mathlib.Core.Bool.{Bool, true, false, ◌||◌, cond, or-true}
 use mathlib.Core.List.{List}
 use native.Mathlib.Omega.{arith}
 use lib.Dec.{leb}
@@ -127,7 +127,7 @@ module _ (s : List ℕ) where
 
 taken16entry : (r : Field16Entry) → valid16entry r ≡ true → fits16entry (spell16entry r) ≡ true
 taken16entry (bare r) v = rw v
-taken16entry (whole r) v = rw (facts16plan.taken r v) (or_true (fits16 (spell16plan r)))
+taken16entry (whole r) v = rw (facts16plan.taken r v) (or-true (fits16 (spell16plan r)))
 
 back16entry : (r : Field16Entry) → valid16entry r ≡ true → record16entry (spell16entry r) ≡ r
 back16entry (bare r) v = rw v

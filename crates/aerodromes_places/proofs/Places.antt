@@ -1,7 +1,7 @@
 -- The places of fields 13, 16 and 17 are right. Assumes nothing.
 use Prim.Native.Nat.{ℕ, zero, suc, ◌+◌, ◌<◌, ◌≤◌}
 use mathlib.Core.Path.{◌≡◌, refl, sym, ap, ◌∙◌}
-use mathlib.Core.Bool.{Bool, true, false, ◌&&◌, ◌||◌, cond, and_true, and_false, false≢true, true≢false}
+use mathlib.Core.Bool.{Bool, true, false, ◌&&◌, ◌||◌, cond, and-true, and-false, false≢true, true≢false}
 use mathlib.Core.List.{List, [], ◌∷◌, ◌++◌}
 use mathlib.Core.Option.{none, some}
 use native.Mathlib.Omega.{arith}
@@ -38,10 +38,10 @@ module _ (g : List ℕ → Bool) where
   four_is : (s : List ℕ) → fixed_fits letter 4 g s ≡ (four_letters (aerodrome_of s) && g (joined_of s))
   unfolding four_letters
   four_is [] = refl
-  four_is (a ∷ []) = and_false (letter a)
-  four_is (a ∷ b ∷ []) = ap (λ (x : Bool). letter a && x) (and_false (letter b)) ∙ and_false (letter a)
+  four_is (a ∷ []) = and-false (letter a)
+  four_is (a ∷ b ∷ []) = ap (λ (x : Bool). letter a && x) (and-false (letter b)) ∙ and-false (letter a)
   four_is (a ∷ b ∷ c ∷ []) =
-      ap (λ (x : Bool). letter a && (letter b && x)) (and_false (letter c)) ∙ ap (λ (x : Bool). letter a && x) (and_false (letter b)) ∙ and_false (letter a)
+      ap (λ (x : Bool). letter a && (letter b && x)) (and-false (letter c)) ∙ ap (λ (x : Bool). letter a && x) (and-false (letter b)) ∙ and-false (letter a)
   four_is (a ∷ b ∷ c ∷ d ∷ s) = go (letter a) (letter b) (letter c) (letter d)
     where
       go : (x y z u : Bool) → (x && (y && (z && (u && g s)))) ≡ ((x && (y && (z && (u && true)))) && g s)
@@ -86,9 +86,9 @@ alone_is [] = refl
 alone_is (a ∷ []) = refl
 alone_is (a ∷ b ∷ []) = refl
 alone_is (a ∷ b ∷ c ∷ []) = refl
-alone_is (a ∷ b ∷ c ∷ d ∷ []) = and_true (letter a && (letter b && (letter c && (letter d && true))))
+alone_is (a ∷ b ∷ c ∷ d ∷ []) = and-true (letter a && (letter b && (letter c && (letter d && true))))
 alone_is (a ∷ b ∷ c ∷ d ∷ x ∷ w) =
-    and_false (letter a && (letter b && (letter c && (letter d && true)))) ∙ sym (rw (ne_eqb (suc (suc (suc (suc (suc (length w)))))) 4 (omega arith)))
+    and-false (letter a && (letter b && (letter c && (letter d && true)))) ∙ sym (rw (ne_eqb (suc (suc (suc (suc (suc (length w)))))) 4 (omega arith)))
 
 aerodrome_right : (s : List ℕ) → IsPlace four_letters s (aerodrome_place s)
 aerodrome_right s =
@@ -153,7 +153,7 @@ rest_fit (v ∷ vs) n h = rw (ne_eqb (suc n) 0 (omega arith)) (go (leb (suc n) 2
     go true e true ih =
         let z : suc n + length vs ≡ n + suc (length vs) = omega arith in
         ih (leb-true (suc n) 2 e) ∙ ap (λ (m : ℕ). leb m 2 && all four_letters vs) z
-    go true e false ih = none_fits plan vs ∙ sym (and_false (leb (n + suc (length vs)) 2))
+    go true e false ih = none_fits plan vs ∙ sym (and-false (leb (n + suc (length vs)) 2))
     go false e y ih = let l : 2 < suc n = leb-false (suc n) 2 e in none_fits plan vs ∙ sym (rw (lt-leb (n + suc (length vs)) 2 (omega arith)))
 
 plan_is : (s : List ℕ) → content_fits plan 0 s ≡ fits16plan s

@@ -1,7 +1,7 @@
 -- Bytes that may stand between the parentheses, told for a block of them at once. Assumes nothing.
 use Prim.Native.Nat.{ℕ, zero, suc, ◌+◌, ◌-◌, ◌<◌, ◌≤◌}
 use mathlib.Core.Path.{◌≡◌, refl, sym, ap, ◌∙◌}
-use mathlib.Core.Bool.{Bool, true, false, ◌&&◌, and_assoc, and_true, false≢true}
+use mathlib.Core.Bool.{Bool, true, false, ◌&&◌, and_assoc, and-true, false≢true}
 use mathlib.Core.List.{List, [], ◌∷◌}
 use native.Mathlib.Omega.{arith}
 use native.Mathlib.Numerals.{add-one}
@@ -16,7 +16,7 @@ module _ (s : List ℕ) (i : ℕ) (fine : Bool) where
   inner_next r h e = rw (e, add-one, drop-cons s i 0 h) (and_assoc fine (inner_byte (get_or s i 0)) (all_inner (drop (suc i) s)))
 
   pub inner_end : length s ≤ i → fine ≡ fine && all_inner (drop i s)
-  inner_end h = rw (drop_of_length-le s h) (sym (and_true fine))
+  inner_end h = rw (drop_of_length-le s h) (sym (and-true fine))
 
 -- A BLOCK THAT PASSES is passed at once
 

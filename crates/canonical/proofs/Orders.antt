@@ -6,7 +6,7 @@ use mathlib.Core.List.{List, [], ◌∷◌}
 use native.Mathlib.Omega.{arith}
 use lib.Dec.{leb, eqb}
 use lib.ListN.{length}
-use borrow.Author.Tests.{not_true, eqb-true, eqb-false, eq-eqb, ne_eqb, le-leb}
+use borrow.Author.Tests.{not-true, eqb-true, eqb-false, eq-eqb, ne_eqb, le-leb}
 use Rattle.alphabet.specs.Alphabet.{one_of}
 use Rattle.text.specs.Words.{Word, all}
 use Rattle.text.proofs.Tests.{both, and_both, and_false}
@@ -53,7 +53,7 @@ sorted_fit set (x ∷ xs) w e = go (sorted_fit set xs w g.1) (one_of x w)
     g = both (not (one_of x xs)) (letters_fit set xs) h.1
 
     go : letters_fit set (sorted xs w) ≡ true → (t : Bool) → letters_fit set (cond t (x ∷ sorted xs w) (sorted xs w)) ≡ true
-    go ih true = rw (h.0, in_sorted x xs w, not_true (one_of x xs) g.0) ih
+    go ih true = rw (h.0, in_sorted x xs w, not-true (one_of x xs) g.0) ih
     go ih false = ih
 
 some_bytes : (b : ℕ) (w : Word) → one_of b w ≡ true → leb 1 (length w) ≡ true
@@ -130,7 +130,7 @@ sorted_more set (x ∷ xs) b w a = go (sorted_more set xs b w g.1) (eqb b x) ref
         → (c : Bool) → eqb b x ≡ c → length (sorted (x ∷ xs) (b ∷ w)) ≤ suc (length (sorted (x ∷ xs) w))
     go ih true p =
         let i : b ≡ x = eqb-true b x p in
-        let y : one_of b xs ≡ false = ap (λ (n : ℕ). one_of n xs) i ∙ not_true (one_of x xs) g.0 in
+        let y : one_of b xs ≡ false = ap (λ (n : ℕ). one_of n xs) i ∙ not-true (one_of x xs) g.0 in
         rw (eq-eqb x b (sym i), sorted_miss xs b w y) (with_it (one_of x w))
     go ih false p = rw (ne_eqb x b (λ r. eqb-false b x p (sym r))) (without ih (one_of x w))
 

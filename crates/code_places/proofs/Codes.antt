@@ -1,13 +1,13 @@
 -- The place of codes is right, for every list of codes. Assumes nothing.
 use Prim.Native.Nat.{ℕ, zero, suc, ◌+◌, ◌<◌, ◌≤◌}
 use mathlib.Core.Path.{◌≡◌, refl, sym, ap, ◌∙◌, subst}
-use mathlib.Core.Bool.{Bool, true, false, ◌&&◌, ◌||◌, not, cond, false≢true, or_true}
+use mathlib.Core.Bool.{Bool, true, false, ◌&&◌, ◌||◌, not, cond, false≢true, or-true}
 use mathlib.Core.List.{List, [], ◌∷◌, ◌++◌, append_assoc, append-nil}
 use native.Mathlib.Omega.{arith}
 use native.Mathlib.Nat.{not-suc-le-zero}
 use lib.Dec.{leb, eqb}
 use lib.ListN.{length, length-append}
-use borrow.Author.Tests.{leb-true, le-leb, eqb-true, eqb-false, not_true}
+use borrow.Author.Tests.{leb-true, le-leb, eqb-true, eqb-false, not-true}
 use Rattle.alphabet.specs.Text.{bytes}
 use Rattle.alphabet.specs.Alphabet.{digit}
 use Rattle.text.specs.Words.{Word, same, elem}
@@ -65,7 +65,7 @@ fit_front list [] us e = refl
 fit_front list (w ∷ ws) us e =
     let x = both (elem w list) (not (elem w (ws ++ us)) && codes_fit list (ws ++ us)) e in
     let y = both (not (elem w (ws ++ us))) (codes_fit list (ws ++ us)) x.1 in
-    let n : elem w ws ≡ false = elem_front w ws us (not_true (elem w (ws ++ us)) y.0) in
+    let n : elem w ws ≡ false = elem_front w ws us (not-true (elem w (ws ++ us)) y.0) in
     rw (x.0, n, fit_front list ws us y.1)
 
 -- THE DIGITS
@@ -84,7 +84,7 @@ among f p d (suc n) lo l h e = go (eqb d lo) refl (among f p d n (suc lo))
     go true q ih = rw (← eqb-true d lo q, e)
     go false q ih =
         let a : d ≡ lo → ⊥ = eqb-false d lo q in
-        rw (ih (omega arith) (omega arith) e) (or_true (f (p ++ (lo ∷ []))))
+        rw (ih (omega arith) (omega arith) e) (or-true (f (p ++ (lo ∷ []))))
 
 -- what they fit with
 with_one : (f : List ℕ → Bool) (p ds : List ℕ) → with_digit f p ds ≡ true → (t : List ℕ) × (f (p ++ t) ≡ true)
@@ -118,7 +118,7 @@ module _ (list : List Word) (most : ℕ) where
       let f : some_codes list most (b ∷ (q ++ (d ∷ []))) ≡ true
       = shorter b (q ++ (d ∷ [])) u (ap codes (sym w) ∙ c) (ap (some_codes list most) (sym w) ∙ e) in
       let r = digit_range d g in
-      rw (among (some_codes list most) (b ∷ q) d 10 48 r.0 (omega arith) f) (or_true (some_codes list most (b ∷ q)))
+      rw (among (some_codes list most) (b ∷ q) d 10 48 r.0 (omega arith) f) (or-true (some_codes list most (b ∷ q)))
 
   kept : (p t : List ℕ) → some_codes list most (p ++ t) ≡ true → goes_on list most p ≡ true
   kept [] t e = refl

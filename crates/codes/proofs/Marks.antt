@@ -7,7 +7,7 @@ use native.Mathlib.Omega.{arith}
 use lib.Dec.{eqb}
 use lib.ListN.{length, get_or, set}
 use lib.Seq.{get_or-set_same, get_or-set_other}
-use borrow.Author.Tests.{eqb-true, eqb-false, eq-eqb, ne_eqb, not_true}
+use borrow.Author.Tests.{eqb-true, eqb-false, eq-eqb, ne_eqb, not-true}
 use Rattle.text.specs.Words.{Word, all, same, elem, rank_from, rank}
 use Rattle.text.proofs.Tests.{both, and_false, same-eq, same_self, same_other, rank-elem}
 use Rattle.codes.specs.Codes.{codes_fit}
@@ -37,7 +37,7 @@ fresh seen list ws = all (λ w. not (get_or seen (rank w list) false)) ws
 
 none_marked : (seen : List Bool) → all not seen ≡ true → (k : ℕ) → get_or seen k false ≡ false
 none_marked [] e k = refl
-none_marked (b ∷ seen) e zero = not_true b (both (not b) (all not seen) e).0
+none_marked (b ∷ seen) e zero = not-true b (both (not b) (all not seen) e).0
 none_marked (b ∷ seen) e (suc k) = none_marked seen (both (not b) (all not seen) e).1 k
 
 all_fresh : (seen : List Bool) → all not seen ≡ true → (list ws : List Word) → fresh seen list ws ≡ true

@@ -7,7 +7,7 @@ use native.Mathlib.Omega.{arith}
 use native.Mathlib.Numerals.{add-one}
 use lib.Dec.{eqb, leb}
 use lib.ListN.{length, take, drop, get_or, length-drop}
-use borrow.Author.Tests.{eq-eqb, ne_eqb, eqb-true, eqb-false, le-leb, leb-true, not_true}
+use borrow.Author.Tests.{eq-eqb, ne_eqb, eqb-true, eqb-false, le-leb, leb-true, not-true}
 use Rattle.alphabet.specs.Alphabet.{digit, letter}
 use Rattle.text.specs.Words.{Word, up_to, before, same, rank, rank_from, first_cells, cells}
 use Rattle.text.proofs.Index.{drop_here, drop_end, other_cell}
@@ -67,7 +67,7 @@ skip w (suc f) k (v ∷ ws) h =
     let e = both (not (eqb (get_or v 0 0) (get_or w 0 0))) _ h in
     let n : k + suc f ≡ suc k + f = omega arith in
     let o : same w v ≡ false
-    = same_other w v (λ p. eqb-false (get_or v 0 0) (get_or w 0 0) (not_true _ e.0) (ap (λ (u : Word). get_or u 0 0) (sym p))) in
+    = same_other w v (λ p. eqb-false (get_or v 0 0) (get_or w 0 0) (not-true _ e.0) (ap (λ (u : Word). get_or u 0 0) (sym p))) in
     rw (o, n) (skip w f (suc k) ws e.1)
 
 drop_pairs : (f : ℕ) (s : List ℕ) → drop f (pairs s) ≡ pairs (drop (2 * f) s)
@@ -165,7 +165,7 @@ module _ (w : Word) (e : codes w ≡ w ∷ []) where
     where
       go : {v : Word} → Code v → (get_or v 0 0 ≡ 32 → ⊥) → before 32 (get_or v 0 0 ∷ (get_or v 1 32 ∷ [])) ≡ v
       go (one c) n = rw (ne_eqb c 32 n)
-      go (two c d q) n = rw (ne_eqb c 32 n, not_true (eqb d 32) (other digit 32 refl d q))
+      go (two c d q) n = rw (ne_eqb c 32 n, not-true (eqb d 32) (other digit 32 refl d q))
 
   pub rank-behind : (get_or w 0 0 ≡ 32 → ⊥) → (list : List ℕ) (f c : ℕ) → none_begins (get_or w 0 0) (take f (cells 2 list)) ≡ true → c ≡ get_or w 1 32
       → rank_from (f + 1) (before 32 (get_or w 0 0 ∷ (c ∷ []))) (cells 2 (drop (2 * f) list)) ≡ rank w (cells 2 list)
@@ -199,4 +199,4 @@ index_letter first list e b i f l p q =
     rw (z, q) (index_at 65 first list e i)
 
 pub letter_no_space : (b : ℕ) → letter b ≡ true → b ≡ 32 → ⊥
-letter_no_space b l = eqb-false b 32 (not_true _ (other letter 32 refl b l))
+letter_no_space b l = eqb-false b 32 (not-true _ (other letter 32 refl b l))

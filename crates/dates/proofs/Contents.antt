@@ -4,7 +4,7 @@ use mathlib.Core.Path.{◌≡◌, refl, sym, ap, ◌∙◌}
 use mathlib.Core.Bool.{Bool, true, false, cond, not}
 use mathlib.Core.List.{List, [], ◌∷◌, map}
 use native.Mathlib.Omega.{arith}
-use borrow.Author.Tests.{not_true}
+use borrow.Author.Tests.{not-true}
 use Rattle.alphabet.specs.Text.{bytes}
 use Rattle.text.specs.Words.{split, join, null, same}
 use Rattle.text.proofs.Tests.{both, same-eq}
@@ -38,7 +38,7 @@ written_standing s e = go (same s (bytes "0")) refl (fits_spelling field18 field
     go false p h =
         written_some (standing s)
         (sym (null-map (item_of base) (standing s))
-        ∙ not_true (null (map (item_of base) (standing s))) (both (not (null (map (item_of base) (standing s)))) _ h.0).0)
+        ∙ not-true (null (map (item_of base) (standing s))) (both (not (null (map (item_of base) (standing s)))) _ h.0).0)
         ∙ ap (λ (is : List Worded). join 32 (spelt is)) (sym (items_spelled base 0 (standing s) (standing_fit s e))) ∙ h.1
 
 -- of items that fit

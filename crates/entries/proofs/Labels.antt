@@ -1,7 +1,7 @@
 -- One of some labels of one length, and what may follow it: the place. Assumes nothing.
 use Prim.Native.Nat.{ℕ, suc, ◌+◌, ◌≤◌}
 use mathlib.Core.Path.{◌≡◌, refl, sym, ap, ◌∙◌, subst}
-use mathlib.Core.Bool.{Bool, true, false, ◌&&◌, ◌||◌, cond, and_false}
+use mathlib.Core.Bool.{Bool, true, false, ◌&&◌, ◌||◌, cond, and-false}
 use mathlib.Core.List.{List, [], ◌∷◌, ◌++◌}
 use native.Mathlib.Omega.{arith}
 use native.Mathlib.Nat.{zero-add, suc-add}
@@ -111,7 +111,7 @@ module _ (g : List ℕ → Bool) (pg : List ℕ → ℕ) where
       where
         go : (u v : Bool) → some_fit ls s ≡ (elem (take n s) ls && v) → ((u && v) || some_fit ls s) ≡ (cond u true (elem (take n s) ls) && v)
         go true true e = refl
-        go true false e = e ∙ and_false (elem (take n s) ls)
+        go true false e = e ∙ and-false (elem (take n s) ls)
         go false v e = e
 
     -- the place: behind the label, or how far a label is followed

@@ -6,7 +6,7 @@ use mathlib.Core.List.{List, [], ◌∷◌}
 use native.Mathlib.Omega.{arith}
 use lib.Dec.{leb}
 use lib.ListN.{length, length-append}
-use borrow.Author.Tests.{le-leb, not_true}
+use borrow.Author.Tests.{le-leb, not-true}
 use Rattle.text.specs.Words.{Word, null, same, elem}
 use Rattle.text.proofs.Tests.{both, same-eq, same_self, and_false}
 use Rattle.codes.specs.Codes.{concat, codes_fit}
@@ -63,7 +63,7 @@ fit_length list [] e = omega arith
 fit_length list (w ∷ ws) e =
     let h = both (elem w list) _ e in
     let k = both (not (elem w ws)) (codes_fit list ws) h.1 in
-    let left_out = fit_without list w ws (not_true (elem w ws) k.0) k.1 in
+    let left_out = fit_without list w ws (not-true (elem w ws) k.0) k.1 in
     let less : length (concat ws) ≤ length (concat (without w list)) = fit_length (without w list) ws left_out in
     let with-w = length_without w list h.0 in
     simp length-append (omega arith)

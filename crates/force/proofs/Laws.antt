@@ -9,7 +9,7 @@ use native.Mathlib.Omega.{arith}
 use lib.Dec.{ltb, eqb}
 use lib.ListN.{length, drop, get_or, set, length-set}
 use lib.Seq.{get_or-set_same, get_or-set_other, set_comm, drop-cons}
-use borrow.Author.Tests.{eq-eqb, ne_eqb, eqb-true, eqb-false, ltb-true, not_true}
+use borrow.Author.Tests.{eq-eqb, ne_eqb, eqb-true, eqb-false, ltb-true, not-true}
 use Rattle.alphabet.specs.Alphabet.{one_of}
 use Rattle.text.specs.Words.{Word, onto, split, join, up_to, before, behind, holds, all, free}
 use Rattle.text.proofs.Tests.{both, and_both, all_append, all_drop}
@@ -97,7 +97,7 @@ replaced_at cs (e ∷ es) k l h =
     go true q =
         let z = eqb-true (which_of e) k q in
         let gone : lookup k es ≡ none
-        = ap (λ (i : ℕ). lookup i es) (sym z) ∙ lookup_none (which_of e) es (not_true (one_of (which_of e) (ranks_of es)) p.0) in
+        = ap (λ (i : ℕ). lookup i es) (sym z) ∙ lookup_none (which_of e) es (not-true (one_of (which_of e) (ranks_of es)) p.0) in
         ap (λ (o : Option Word). changed_by k o (get_or (replaced cs e) k [])) gone
         ∙ ap (λ (i : ℕ). get_or (replaced cs e) i []) (sym z)
         ∙ replaced_here cs e l
@@ -164,7 +164,7 @@ replaced_moved cs (keep e {es} r) h =
 replaced_moved cs (swap e f {es}) h =
     let p = both (not (one_of (which_of e) (ranks_of (f ∷ es)))) (none_twice (ranks_of (f ∷ es))) h in
     ap (λ (l : List Word). replaced_by l es)
-    (replaced_two cs e f (apart (eqb (which_of e) (which_of f)) refl (not_true (one_of (which_of e) (ranks_of (f ∷ es))) p.0)))
+    (replaced_two cs e f (apart (eqb (which_of e) (which_of f)) refl (not-true (one_of (which_of e) (ranks_of (f ∷ es))) p.0)))
   where
     apart : (b : Bool) → eqb (which_of e) (which_of f) ≡ b → cond b true (one_of (which_of e) (ranks_of es)) ≡ false → which_of e ≡ which_of f → ⊥
     apart true q n = absurd (false≢true (sym n))

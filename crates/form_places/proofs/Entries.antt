@@ -1,7 +1,7 @@
 -- An entry of field 22 is one of eight labels with a content whose form goes by the label, and so has their place. Assumes nothing.
 use Prim.Native.Nat.{ℕ, zero, suc, ◌+◌, ◌<◌, ◌≤◌}
 use mathlib.Core.Path.{◌≡◌, refl, sym, ap, ap₂, subst, ◌∙◌}
-use mathlib.Core.Bool.{Bool, true, false, ◌&&◌, ◌||◌, cond, or_true, false≢true}
+use mathlib.Core.Bool.{Bool, true, false, ◌&&◌, ◌||◌, cond, or-true, false≢true}
 use mathlib.Core.List.{List, [], ◌∷◌}
 use native.Mathlib.Omega.{arith}
 use lib.Dec.{ltb, eqb}
@@ -94,7 +94,7 @@ fits_any zero k n l h s e = absurd (omega arith)
 fits_any (suc m) k n l h s e = go (λ g. fits_any m (suc k) n g (omega arith) s e) (ltb k n) refl
   where
     go : (suc k ≤ n → any_entry (from (suc k) m) s ≡ true) → (x : Bool) → ltb k n ≡ x → (entry_fits (entry_named k) s || any_entry (from (suc k) m) s) ≡ true
-    go ih true q = rw (ih (ltb-true k n q)) (or_true (entry_fits (entry_named k) s))
+    go ih true q = rw (ih (ltb-true k n q)) (or-true (entry_fits (entry_named k) s))
     go ih false q =
         let g : n ≤ k = ltb-false k n q in
         let z : n ≡ k = omega arith in

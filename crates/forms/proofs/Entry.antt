@@ -6,7 +6,7 @@ use mathlib.Core.List.{List, [], ◌∷◌, ◌++◌}
 use native.Mathlib.Omega.{arith}
 use lib.Dec.{leb, ltb, eqb}
 use lib.ListN.{length, get_or}
-use borrow.Author.Tests.{leb-true, ltb-true, le-leb, lt-ltb, eqb-true, ne_eqb, not_true}
+use borrow.Author.Tests.{leb-true, ltb-true, le-leb, lt-ltb, eqb-true, ne_eqb, not-true}
 use Rattle.alphabet.specs.Alphabet.{digit}
 use Rattle.text.specs.Words.{Word, split, onto, holds, before, behind, all, null, free, same, rank, tidy_byte, tidy_word, tidy}
 use Rattle.text.proofs.Tests.{both, and_both, all_imp, other, same-eq, of_elem, rank-elem}
@@ -30,7 +30,7 @@ onto-tidy b (w ∷ ws) t e =
 
 tidy-cons : (b : ℕ) (s : List ℕ) → tidy_byte b ≡ true → tidy s ≡ true → tidy (b ∷ s) ≡ true
 unfolding tidy
-tidy-cons b s t e = rw (not_true (eqb b 32) (other tidy_byte 32 no_space b t)) (onto-tidy b (split 32 s) t e)
+tidy-cons b s t e = rw (not-true (eqb b 32) (other tidy_byte 32 no_space b t)) (onto-tidy b (split 32 s) t e)
 
 tidy-behind : (w : Word) (s : List ℕ) → all tidy_byte w ≡ true → tidy s ≡ true → tidy (w ++ s) ≡ true
 tidy-behind [] s a e = e

@@ -1,7 +1,7 @@
 -- The walk over lines: `by_lines` is the theorem to read; the other laws are what the code's ways out come to. Assumes nothing.
 use Prim.Native.Nat.{ℕ}
 use mathlib.Core.Path.{◌≡◌, refl, sym, ap, subst, fun_ext, ◌∙◌}
-use mathlib.Core.Bool.{Bool, true, false, ◌&&◌, cond, false≢true, and_true, and_assoc}
+use mathlib.Core.Bool.{Bool, true, false, ◌&&◌, cond, false≢true, and-true, and_assoc}
 use mathlib.Core.List.{List, [], ◌∷◌, ◌++◌}
 use native.Mathlib.Omega.{arith}
 use lib.ListN.{length, take, drop, replicate}
@@ -147,7 +147,7 @@ after_snoc [] b w = refl
 after_snoc (v ∷ ws) b w = after_snoc ws (after_waits b v) w
 
 accepted_snoc : (ws : List Waits) (b : Board house) (w : Waits) → all_accepted b (ws ++ (w ∷ [])) ≡ (all_accepted b ws && accepts (after_lines b ws) w)
-accepted_snoc [] b w = and_true (accepts b w)
+accepted_snoc [] b w = and-true (accepts b w)
 accepted_snoc (v ∷ ws) b w =
     ap (λ (t : Bool). accepts b v && t) (accepted_snoc ws (after_waits b v) w)
     ∙ sym (and_assoc (accepts b v) (all_accepted (after_waits b v) ws) (accepts (after_lines (after_waits b v) ws) w))

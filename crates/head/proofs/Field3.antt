@@ -7,7 +7,7 @@ use native.Mathlib.Omega.{arith}
 use lib.Dec.{leb, ltb}
 use lib.ListN.{length, take, drop, take-append-drop, length-append, length-take, length-drop}
 use lib.Seq.{take_at, drop_at, take-append_seam, drop-append_seam}
-use borrow.Author.Tests.{leb-true, ltb-true, lt-ltb, not_true}
+use borrow.Author.Tests.{leb-true, ltb-true, lt-ltb, not-true}
 use Rattle.alphabet.specs.Alphabet.{letter, digit}
 use Rattle.text.specs.Words.{Word, holds, before, behind, all, null, free, elem, tidy_byte, tidy}
 use Rattle.text.proofs.Tests.{both, and_both, all_imp, all_append, all-free, some_length, null-nil}
@@ -189,7 +189,7 @@ spelled_numbers w e = go (null w) refl e
     go false p q = let h = both (number_fits (first w)) _ q in more h.0 (null (others w)) refl h.1
 
 not_null : (w : Word) → 0 < length w → null w ≡ false
-not_null w l = not_true (null w) (some_length w l)
+not_null w l = not-true (null w) (some_length w l)
 
 numbers_back : (ns : List Number) → few_numbers ns ≡ true → (numbers_fit (spell_numbers ns) ≡ true) × (numbers_of (spell_numbers ns) ≡ ns)
 unfolding numbers_fit

@@ -1,13 +1,13 @@
 -- What ties the definitions to the code: runs at an index, and contents that are too short. Assumes nothing.
 use Prim.Native.Nat.{ℕ, suc, ◌+◌, ◌-◌, ◌<◌, ◌≤◌}
 use mathlib.Core.Path.{◌≡◌, refl, ap}
-use mathlib.Core.Bool.{Bool, true, false, cond, ◌&&◌, not, beq, and_true}
+use mathlib.Core.Bool.{Bool, true, false, cond, ◌&&◌, not, beq, and-true}
 use mathlib.Core.List.{List, [], ◌∷◌, ◌++◌}
 use native.Mathlib.Omega.{arith}
 use lib.Dec.{leb}
 use lib.ListN.{length, take, drop, get_or, drop_of_length-le, length-take, length-drop}
 use lib.Seq.{take_all}
-use borrow.Author.Tests.{not_true, leb-true, lt-leb}
+use borrow.Author.Tests.{not-true, leb-true, lt-leb}
 use Rattle.alphabet.specs.Alphabet.{letter, digit}
 use Rattle.text.specs.Words.{Word, all, null, elem}
 use Rattle.text.proofs.Index.{drop_here, drop_end}
@@ -44,13 +44,13 @@ pub numbers_one : (w : Word) → (length w ≡ 0 → ⊥) → length w ≤ lead 
 unfolding numbers_fit
 numbers_one [] h l = absurd (h refl)
 numbers_one (b ∷ w) h l =
-    rw (take_all (lead false (b ∷ w) + 3) (b ∷ w) l, drop_of_length-le (b ∷ w) l) (and_true (number_fits (b ∷ w)))
+    rw (take_all (lead false (b ∷ w) + 3) (b ∷ w) l, drop_of_length-le (b ∷ w) l) (and-true (number_fits (b ∷ w)))
 
 pub numbers_two : (w : Word) → lead false w + 3 < length w → numbers_fit w ≡ (number_fits (first w) && number_fits (others w))
 unfolding numbers_fit
 numbers_two w h =
     let z : 0 < length (others w) = simp length-drop (omega arith) in
-    rw (not_true (null w) (some_length w (omega arith)), not_true (null (others w)) (some_length (others w) z))
+    rw (not-true (null w) (some_length w (omega arith)), not-true (null (others w)) (some_length (others w) z))
 
 -- COUNTS AND RULES, by their length
 
@@ -149,7 +149,7 @@ lead_within d (b ∷ s) = go (lead_within d s) (beq (digit b) d) refl
 
 pub lead_seam : (d : Bool) (k f : Word) → within d k ≡ true → ends d f ≡ true → lead d (k ++ f) ≡ length k
 lead_seam d [] [] e g = refl
-lead_seam d [] (b ∷ f) e g = rw (not_true (beq (digit b) d) g)
+lead_seam d [] (b ∷ f) e g = rw (not-true (beq (digit b) d) g)
 lead_seam d (b ∷ k) f e g =
     let h = both (beq (digit b) d) (within d k) e in
     rw h.0 (ap suc (lead_seam d k f h.1 g))

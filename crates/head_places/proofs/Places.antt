@@ -1,7 +1,7 @@
 -- The places of fields 7, 8 and 9 are right. Assumes nothing.
 use Prim.Native.Nat.{ℕ, suc, ◌≤◌}
 use mathlib.Core.Path.{◌≡◌, refl, ap, ◌∙◌, subst}
-use mathlib.Core.Bool.{Bool, true, false, ◌&&◌, ◌||◌, not, cond, beq, false≢true, and_true, and_false, or_true}
+use mathlib.Core.Bool.{Bool, true, false, ◌&&◌, ◌||◌, not, cond, beq, false≢true, and-true, and-false, or-true}
 use mathlib.Core.List.{List, [], ◌∷◌}
 use native.Mathlib.Omega.{arith}
 use lib.Dec.{leb, eqb, leb-suc-suc}
@@ -45,9 +45,9 @@ two_bytes s = first_fits rules_fit (λ a w. null w || first_fits flight_fits (λ
 eight : (s : List ℕ) → two_bytes s ≡ fits8 s
 unfolding fits8 two_bytes
 eight [] = refl
-eight (a ∷ []) = and_true (rules_fit a)
-eight (a ∷ (b ∷ [])) = ap (λ (x : Bool). rules_fit a && x) (and_true (flight_fits b))
-eight (a ∷ (b ∷ (c ∷ s))) = ap (λ (x : Bool). rules_fit a && x) (and_false (flight_fits b)) ∙ and_false (rules_fit a)
+eight (a ∷ []) = and-true (rules_fit a)
+eight (a ∷ (b ∷ [])) = ap (λ (x : Bool). rules_fit a && x) (and-true (flight_fits b))
+eight (a ∷ (b ∷ (c ∷ s))) = ap (λ (x : Bool). rules_fit a && x) (and-false (flight_fits b)) ∙ and-false (rules_fit a)
 
 pub placed8 : (s : List ℕ) → IsPlace fits8 s (place8 s)
 unfolding place8 two_bytes
@@ -63,8 +63,8 @@ placed8 s =
 -- the wake
 wake : (w : List ℕ) → first_fits wake_fits (λ a. null) w ≡ is_wake w
 wake [] = refl
-wake (b ∷ []) = and_true (wake_fits b)
-wake (b ∷ (c ∷ w)) = rw (ne_eqb (suc (suc (length w))) 1 (omega arith)) (and_false (wake_fits b))
+wake (b ∷ []) = and-true (wake_fits b)
+wake (b ∷ (c ∷ w)) = rw (ne_eqb (suc (suc (length w))) 1 (omega arith)) (and-false (wake_fits b))
 
 wake_right : (s : List ℕ) → IsPlace is_wake s (wake_place s)
 wake_right s =
@@ -155,7 +155,7 @@ count_right : (s : List ℕ) → IsPlace few s (count_place s)
 count_right s =
     place_of_language (λ w. null w || first_fits (between 49 57) second w) few count s (count_place s)
     (maybe_place (first_fits (between 49 57) second) s (count_place s)
-    (first_place_lem (between 49 57) second (λ a. first_place digit (λ b. no_more)) more (λ a e. (48 ∷ [], or_true (leb 50 a && false))) s))
+    (first_place_lem (between 49 57) second (λ a. first_place digit (λ b. no_more)) more (λ a e. (48 ∷ [], or-true (leb 50 a && false))) s))
   where
     more : (a : ℕ) → between 49 57 a ≡ true → (w : List ℕ) → IsPlace (second a) w (first_place digit (λ b. no_more) w)
     more a e w =
@@ -181,7 +181,7 @@ begins (b ∷ w) e =
         let y = both (leb (length v) 4) (letter b && all sign v) x.1 in
         let z = (both (letter b) (all sign v) y.1).0 in
         let l : 65 ≤ b = leb-true 65 b (both (leb 65 b) (leb b 90) z).0 in
-        rw (lt-leb b 57 (omega arith), and_false (leb 48 b))
+        rw (lt-leb b 57 (omega arith), and-false (leb 48 b))
 
 one : aircraft_fits (bytes "AA/H") ≡ true
 unfolding aircraft_fits

@@ -8,7 +8,7 @@ use mathlib.Core.Option.{some}
 use native.Mathlib.Omega.{arith}
 use lib.Dec.{eqb}
 use lib.ListN.{length, drop, length-drop}
-use borrow.Author.Tests.{eq-eqb, not_true}
+use borrow.Author.Tests.{eq-eqb, not-true}
 use Rattle.alphabet.specs.Alphabet.{one_of}
 use Rattle.text.specs.Words.{Word, before, behind, all, same, rank}
 use Rattle.text.proofs.Tests.{both, same-eq, same_self}
@@ -31,7 +31,7 @@ ranks_behind [] gs ds e = refl
 ranks_behind (f ∷ fs) gs [] e = ranks_none gs
 ranks_behind (f ∷ fs) gs (d ∷ ds) e =
     let h = both (not (is_entry f)) (all (λ g. not (is_entry g)) fs) e in
-    ap (λ (b : Bool). cond b (which_of d ∷ ranks_in (fs ++ gs) ds) (ranks_in (fs ++ gs) ds)) (not_true (is_entry f) h.0) ∙ ranks_behind fs gs ds h.1
+    ap (λ (b : Bool). cond b (which_of d ∷ ranks_in (fs ++ gs) ds) (ranks_in (fs ++ gs) ds)) (not-true (is_entry f) h.0) ∙ ranks_behind fs gs ds h.1
 
 -- the ranks of entries alone
 abbrev ranks : List Word → List ℕ
@@ -72,7 +72,7 @@ entry_only number (v ∷ es) o e (Memᴰ.tail i) q = go (entry_only number es h.
     go ih true p =
         let z : which_of v ≡ which_of e = ap (λ (w : Word). rank w labels) (same-eq (before 47 v) number p ∙ sym q) in
         let k : one_of (which_of v) (ranks es) ≡ true = ap (λ (r : ℕ). one_of r (ranks es)) z ∙ one_of_ranks es e i in
-        absurd (false≢true (sym (not_true (one_of (which_of v) (ranks es)) h.0) ∙ k))
+        absurd (false≢true (sym (not-true (one_of (which_of v) (ranks es)) h.0) ∙ k))
     go ih false p = ih
 
 -- the forms of a CHG: five, and entries

@@ -6,7 +6,7 @@ use mathlib.Core.List.{List, [], ◌∷◌, map}
 use native.Mathlib.Omega.{arith}
 use lib.Dec.{eqb}
 use lib.ListN.{length}
-use borrow.Author.Tests.{eqb-true, eqb-false, eq-eqb, ne_eqb, not_true}
+use borrow.Author.Tests.{eqb-true, eqb-false, eq-eqb, ne_eqb, not-true}
 use Rattle.alphabet.specs.Alphabet.{one_of}
 use Rattle.text.specs.Words.{Word, all}
 use Rattle.text.proofs.Tests.{both, and_both}
@@ -132,7 +132,7 @@ faultless_clear earlier j (f ∷ fs) (c ∷ cs) k = go (faultless_clear (rank_in
         let once : (not (one_of (which_of c) (ranks_in fs cs)) && none_twice (ranks_in fs cs)) ≡ true = rw p at k.once in
         let a = both (not (one_of (which_of c) earlier)) (fresh earlier (ranks_in fs cs)) new in
         let b = both (not (one_of (which_of c) (ranks_in fs cs))) (none_twice (ranks_in fs cs)) once in
-        let again : one_of (rank_in f c) earlier ≡ false = ap (λ (r : ℕ). one_of r earlier) w ∙ not_true (one_of (which_of c) earlier) a.0 in
+        let again : one_of (rank_in f c) earlier ≡ false = ap (λ (r : ℕ). one_of r earlier) w ∙ not-true (one_of (which_of c) earlier) a.0 in
         let z : fault_of (one_of (rank_in f c) earlier) f c ≡ 0 = ap (λ (x : Bool). fault_of x f c) again ∙ fits_fault f c h.0 in
         let m : fresh (rank_in f c ∷ earlier) (ranks_in fs cs) ≡ true
         = ap (λ (r : ℕ). fresh (r ∷ earlier) (ranks_in fs cs)) w ∙ fresh_more (which_of c) earlier (ranks_in fs cs) b.0 a.1 in

@@ -9,7 +9,7 @@ use native.Mathlib.Numerals.{add-one}
 use lib.Dec.{eqb}
 use lib.ListN.{length, take, drop, get_or, set, length-set, length-take, length-drop, length-append}
 use lib.Seq.{drop-cons, get_or-set_same, get_or-set_other}
-use borrow.Author.Tests.{eq-eqb, ne_eqb, eqb-true, eqb-false, not_true}
+use borrow.Author.Tests.{eq-eqb, ne_eqb, eqb-true, eqb-false, not-true}
 use Rattle.alphabet.specs.Alphabet.{one_of}
 use Rattle.text.specs.Words.{Word, split, join, after, up_to, all}
 use Rattle.text.specs.Places.{Stepped}
@@ -158,7 +158,7 @@ hyphen_done s u (suc left) h e = absurd (omega arith)
 -- the walk begins with nothing seen
 all_false : (l : List Bool) → all not l ≡ true → (k : ℕ) → get_or l k false ≡ false
 all_false [] e k = refl
-all_false (b ∷ l) e zero = not_true b (both (not b) (all not l) e).0
+all_false (b ∷ l) e zero = not-true b (both (not b) (all not l) e).0
 all_false (b ∷ l) e (suc k) = all_false l (both (not b) (all not l) e).1 k
 
 pub walk_starts : (t : MessageType) (n : ℕ) (s : List ℕ) (seen : List Bool) → length seen ≡ 9 → all not seen ≡ true

@@ -6,7 +6,7 @@ use mathlib.Core.List.{List, [], ◌∷◌, ◌++◌, map, append_assoc}
 use native.Mathlib.Omega.{arith}
 use lib.Dec.{eqb}
 use lib.ListN.{length}
-use borrow.Author.Tests.{eqb-true, not_true}
+use borrow.Author.Tests.{eqb-true, not-true}
 use Rattle.text.specs.Words.{Word, join, all}
 use Rattle.text.proofs.Tests.{both}
 use Rattle.sent.specs.Sent.{message_of}
@@ -81,4 +81,4 @@ all_stay_lem [] (c ∷ cs) l e = absurd (omega arith)
 all_stay_lem (f ∷ fs) [] l e = absurd (omega arith)
 all_stay_lem (f ∷ fs) (c ∷ cs) l e =
     let h = both (not (eqb (number_of f) 19)) (all (λ f. not (eqb (number_of f) 19)) fs) e in
-    ap₂ (λ (w : Word) (ws : List Word). w ∷ ws) (plain_form f c (not_true (eqb (number_of f) 19) h.0)) (all_stay_lem fs cs (omega arith) h.1)
+    ap₂ (λ (w : Word) (ws : List Word). w ∷ ws) (plain_form f c (not-true (eqb (number_of f) 19) h.0)) (all_stay_lem fs cs (omega arith) h.1)

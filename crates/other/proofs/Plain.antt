@@ -7,7 +7,7 @@ use native.Mathlib.Omega.{arith}
 use lib.Dec.{leb, ltb, eqb}
 use lib.ListN.{length, take, drop, get_or, length-drop}
 use lib.Seq.{drop-drop, get_or-drop}
-use borrow.Author.Tests.{eq-eqb, ne_eqb, eqb-true, eqb-false, ltb-true, ltb-false, not_true}
+use borrow.Author.Tests.{eq-eqb, ne_eqb, eqb-true, eqb-false, ltb-true, ltb-false, not-true}
 use Rattle.alphabet.specs.Alphabet.{text, in_alphabet, white}
 use Rattle.alphabet.proofs.Every.{agree}
 use Rattle.text.specs.Words.{Word, split, onto, after, up_to, all, free, null, text_word}
@@ -108,7 +108,7 @@ plain_words (suc n) (b ∷ []) h z e p = absurd (omega arith)
 plain_words (suc n) (b ∷ (c ∷ u)) h z e p =
     let g = both (plain b c) (all_plain (c ∷ take n u)) p in
     let q : not (eqb c 32) ≡ true = rw (z, no_space) at g.0 in
-    strict n c u (not_true (eqb c 32) q) e (plain_loose n (c ∷ u) (omega arith) e g.1)
+    strict n c u (not-true (eqb c 32) q) e (plain_loose n (c ∷ u) (omega arith) e g.1)
 
 -- WORDS THAT FIT ARE PASSED
 

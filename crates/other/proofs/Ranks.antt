@@ -5,7 +5,7 @@ use mathlib.Core.Bool.{Bool, true, false, cond, not, false≢true}
 use mathlib.Core.List.{List, [], ◌∷◌}
 use native.Mathlib.Omega.{arith}
 use lib.ListN.{drop}
-use borrow.Author.Tests.{ne_eqb, not_true}
+use borrow.Author.Tests.{ne_eqb, not-true}
 use Rattle.alphabet.specs.Alphabet.{sign}
 use Rattle.text.specs.Words.{Word, all, same, elem, rank_from}
 use Rattle.text.proofs.Tests.{both, same-eq, rank-elem}
@@ -47,7 +47,7 @@ some_behind (suc n) j m w (v ∷ vs) h q d e = go (same w v) refl (some_behind n
 
     go : (b : Bool) → same w v ≡ b → rank_from m w (drop n vs) ≡ rank_from (suc j) w vs → rank_from m w (drop n vs) ≡ cond b j (rank_from (suc j) w vs)
     go true t ih =
-        absurd (false≢true (sym (not_true (elem v vs) apart.0) ∙ ap (λ (u : Word). elem u vs) (sym (same-eq w v t)) ∙ behind))
+        absurd (false≢true (sym (not-true (elem v vs) apart.0) ∙ ap (λ (u : Word). elem u vs) (sym (same-eq w v t)) ∙ behind))
     go false t ih = ih
 
 -- A KEY behind the one at place `last`

@@ -1,7 +1,7 @@
 -- The place of a date that is none: a date goes on from each of its prefixes. Assumes nothing.
 use Prim.Native.Nat.{ℕ, zero, suc, ◌+◌, ◌*◌, ◌-◌, ◌≤◌}
 use mathlib.Core.Path.{◌≡◌, refl, sym, ap, ◌∙◌}
-use mathlib.Core.Bool.{Bool, true, false, ◌&&◌, ◌||◌, false≢true, or_true}
+use mathlib.Core.Bool.{Bool, true, false, ◌&&◌, ◌||◌, false≢true, or-true}
 use mathlib.Core.List.{List, [], ◌∷◌, ◌++◌}
 use native.Mathlib.Omega.{arith}
 use lib.Dec.{leb, eqb}
@@ -126,7 +126,7 @@ module _ (a b c d e f : ℕ) (is-date : date (a ∷ b ∷ c ∷ d ∷ e ∷ f �
       go : (x : Bool) → eqb f 48 ≡ x → (date (a ∷ b ∷ c ∷ d ∷ e ∷ bytes "1") || (date (a ∷ b ∷ c ∷ d ∷ e ∷ bytes "0") || false)) ≡ true
       go true q =
           let z : date (a ∷ b ∷ c ∷ d ∷ e ∷ 48 ∷ []) ≡ true = ap (λ (y : ℕ). date (a ∷ b ∷ c ∷ d ∷ e ∷ y ∷ [])) (sym (eqb-true f 48 q)) ∙ is-date in
-          rw z (or_true (date (a ∷ b ∷ c ∷ d ∷ e ∷ 49 ∷ [])))
+          rw z (or-true (date (a ∷ b ∷ c ∷ d ∷ e ∷ 49 ∷ [])))
       go false q =
           let n = eqb-false f 48 q in
           let r = digit_range f h.f-digit in

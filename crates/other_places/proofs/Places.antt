@@ -1,14 +1,14 @@
 -- The place of field 18 is right, in every edition whose keys are of signs, no two equal. Assumes nothing.
 use Prim.Native.Nat.{ℕ, zero, suc, ◌+◌, ◌<◌, ◌≤◌}
 use mathlib.Core.Path.{◌≡◌, refl, sym, ap, ◌∙◌}
-use mathlib.Core.Bool.{Bool, true, false, ◌&&◌, ◌||◌, not, cond, true≢false, or_false, and_assoc}
+use mathlib.Core.Bool.{Bool, true, false, ◌&&◌, ◌||◌, not, cond, true≢false, or-false, and_assoc}
 use mathlib.Core.List.{List, [], ◌∷◌, ◌++◌}
 use mathlib.Core.Option.{Option, none, some}
 use native.Mathlib.Omega.{arith}
 use native.Mathlib.Nat.{not-suc-le-zero}
 use lib.Dec.{ltb, eqb}
 use lib.ListN.{length, get_or}
-use borrow.Author.Tests.{ltb-true, ltb-false, lt-ltb, le-ltb, ne_eqb, not_true}
+use borrow.Author.Tests.{ltb-true, ltb-false, lt-ltb, le-ltb, ne_eqb, not-true}
 use Rattle.alphabet.specs.Text.{bytes}
 use Rattle.alphabet.specs.Alphabet.{sign}
 use Rattle.text.specs.Words.{Word, split, all, null, same, elem, free, holds, before, behind, rank_from}
@@ -68,7 +68,7 @@ rank_at j (v ∷ vs) (suc k) d h = go (same (get_or vs k []) v) refl (rank_at (s
     go : (x : Bool) → same (get_or vs k []) v ≡ x → rank_from (suc j) (get_or vs k []) vs ≡ suc j + k → cond x j (rank_from (suc j) (get_or vs k []) vs) ≡ j + suc k
     go true e ih =
         let z : elem v vs ≡ true = ap (λ (u : Word). elem u vs) (sym (same-eq (get_or vs k []) v e)) ∙ elem_at vs k (omega arith) in
-        absurd (true≢false (sym z ∙ not_true (elem v vs) (both (not (elem v vs)) (distinct vs) d).0))
+        absurd (true≢false (sym z ∙ not-true (elem v vs) (both (not (elem v vs)) (distinct vs) d).0))
     go false e ih = omega (arith, ih)
 
 rank_most : (j : ℕ) (w : Word) (vs : List Word) → 0 < j → rank_from j w vs < j + length vs
@@ -119,14 +119,14 @@ module _ (ed : Edition18) where
 
       none_later : same (before 47 w) v ≡ true → Later → any_entry (later_keys ed k (suc j) vs) w ≡ false
       none_later e ih =
-          let n = not_true (elem v vs) (both (not (elem v vs)) (distinct vs) d).0 in
+          let n = not-true (elem v vs) (both (not (elem v vs)) (distinct vs) d).0 in
           let z : elem (before 47 w) vs ≡ false = ap (λ (u : Word). elem u vs) (same-eq (before 47 w) v e) ∙ n in
           ih ∙ ap (λ (r : ℕ). item k r w) (no_rank (suc j) (before 47 w) vs z) ∙ no_item k w
 
       go : (x : Bool) → ltb k j ≡ x → (y : Bool) → same (before 47 w) v ≡ y → Later
           → any_entry (cond x (keyed v (rule_in ed j) ∷ later_keys ed k (suc j) vs) (later_keys ed k (suc j) vs)) w
           ≡ item k (cond y j (rank_from (suc j) (before 47 w) vs)) w
-      go true p true q ih = rw (h, same_swap v (before 47 w), q, none_later q ih, p) (or_false (word_fits (rule_in ed j) (behind 47 w)))
+      go true p true q ih = rw (h, same_swap v (before 47 w), q, none_later q ih, p) (or-false (word_fits (rule_in ed j) (behind 47 w)))
       go true p false q ih = rw (h, same_swap v (before 47 w), q) ih
       go false p true q ih = none_later q ih ∙ sym (rw p)
       go false p false q ih = ih
@@ -150,7 +150,7 @@ module _ (ed : Edition18) where
             → (more k w || any_entry (later_keys ed k 1 ed.keys) w)
             ≡ ended (cond x (next k w) (given (more k w) k))
         go true h = rw (more_oblique k w h, entries_item k 1 ed.keys w apart h) (sym (given_ended (item k (ranked w) w) (ranked w)))
-        go false h = rw (entries_plain k 1 ed.keys w h) (or_false (more k w) ∙ sym (given_ended (more k w) k))
+        go false h = rw (entries_plain k 1 ed.keys w h) (or-false (more k w) ∙ sym (given_ended (more k w) k))
 
     more_right : (k : ℕ) (s : List ℕ) → IsPlace (more k) s (more_place ed k s)
     more_right k s = go (ltb 0 k) (not (single (rule_in ed k)))

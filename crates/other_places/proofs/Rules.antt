@@ -1,7 +1,7 @@
 -- The places of words under a key are right, for each rule. Assumes nothing.
 use Prim.Native.Nat.{ℕ, zero, suc, ◌+◌, ◌-◌, ◌≤◌}
 use mathlib.Core.Path.{◌≡◌, refl, sym, ap, ◌∙◌}
-use mathlib.Core.Bool.{Bool, true, false, ◌&&◌, ◌||◌, false≢true, or_true}
+use mathlib.Core.Bool.{Bool, true, false, ◌&&◌, ◌||◌, false≢true, or-true}
 use mathlib.Core.List.{List, [], ◌∷◌}
 use native.Mathlib.Omega.{arith}
 use native.Mathlib.Nat.{not-suc-le-zero}
@@ -121,7 +121,7 @@ among (suc n) m w l h e = go (eqb m (suc (suc n))) refl (among n m w l)
     go : (x : Bool) → eqb m (suc (suc n)) ≡ x → (m ≤ n + 1 → fixed_fits sign m elapsed w ≡ true → some_signs n w ≡ true)
         → (fixed_fits sign (suc (suc n)) elapsed w || some_signs n w) ≡ true
     go true q ih = rw (ap (λ (k : ℕ). fixed_fits sign k elapsed w) (sym (eqb-true m (suc (suc n)) q)) ∙ e)
-    go false q ih = let d = eqb-false m (suc (suc n)) q in rw (ih (omega arith) e) (or_true (fixed_fits sign (suc (suc n)) elapsed w))
+    go false q ih = let d = eqb-false m (suc (suc n)) q in rw (ih (omega arith) e) (or-true (fixed_fits sign (suc (suc n)) elapsed w))
 
 timed_is : (w : Word) → some_signs 10 w ≡ timed w
 unfolding timed

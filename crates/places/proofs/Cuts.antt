@@ -1,7 +1,7 @@
 -- The place of a form that is cut at the first c. Assumes nothing.
 use Prim.Native.Nat.{ℕ, suc, ◌+◌, ◌<◌, ◌≤◌}
 use mathlib.Core.Path.{◌≡◌, refl, ap, subst}
-use mathlib.Core.Bool.{Bool, true, false, ◌&&◌, ◌||◌, not, cond, and_true, and_false}
+use mathlib.Core.Bool.{Bool, true, false, ◌&&◌, ◌||◌, not, cond, and-true, and-false}
 use mathlib.Core.List.{List, [], ◌∷◌}
 use native.Mathlib.Omega.{arith}
 use native.Mathlib.Nat.{add-suc, suc-add}
@@ -54,7 +54,7 @@ module _ (c : ℕ) (f g : List ℕ → Bool) where
     where
       go : (x : Bool) → holds c s ≡ x → (f (before c s) && first_fits (is c) (λ b. g) (drop (up_to c s) s)) ≡ (x && (f (before c s) && g (behind c s)))
       go true h = rw (drop_held c s h, eq-eqb c c refl)
-      go false h = rw (not_held c s h, drop_of_length-le s {i = length s} (omega arith)) (and_false (f (take (length s) s)))
+      go false h = rw (not_held c s h, drop_of_length-le s {i = length s} (omega arith)) (and-false (f (take (length s) s)))
 
   pub may_is : (s : List ℕ) → may s ≡ cond (holds c s) (f (before c s) && g (behind c s)) (f s)
   may_is s = rw (front_up_to c s) (go (holds c s) refl)
@@ -63,7 +63,7 @@ module _ (c : ℕ) (f g : List ℕ → Bool) where
           → (f (before c s) && (null (drop (up_to c s) s) || first_fits (is c) (λ b. g) (drop (up_to c s) s))) ≡ cond x (f (before c s) && g (behind c s)) (f s)
       go true h = rw (drop_held c s h, eq-eqb c c refl)
       go false h =
-          rw (not_held c s h, drop_of_length-le s {i = length s} (omega arith), take_all (length s) s (omega arith)) (and_true (f s))
+          rw (not_held c s h, drop_of_length-le s {i = length s} (omega arith), take_all (length s) s (omega arith)) (and-true (f s))
 
   module _ (pf pg : List ℕ → ℕ)
       (f-right : (s : List ℕ) → IsPlace f s (pf s)) (g-right : (s : List ℕ) → IsPlace g s (pg s))

@@ -1,7 +1,7 @@
 -- The places of so many bytes of a set, and of a time. Assumes nothing.
 use Prim.Native.Nat.{ℕ, zero, suc, ◌+◌, ◌*◌, ◌-◌, ◌≤◌}
 use mathlib.Core.Path.{◌≡◌, refl, sym, ap, ◌∙◌, subst}
-use mathlib.Core.Bool.{Bool, true, false, ◌&&◌, cond, and_false}
+use mathlib.Core.Bool.{Bool, true, false, ◌&&◌, cond, and-false}
 use mathlib.Core.List.{List, [], ◌∷◌, ◌++◌}
 use native.Mathlib.Omega.{arith}
 use native.Mathlib.Nat.{suc-add, zero-add}
@@ -132,17 +132,17 @@ module _ (most : ℕ) where
 
   time_is : (w : List ℕ) → time_bytes w ≡ time_fits most w
   time_is [] = sym (other [] (λ e. omega arith))
-  time_is (a ∷ []) = and_false (tens most a) ∙ sym (other (a ∷ []) (λ e. omega arith))
+  time_is (a ∷ []) = and-false (tens most a) ∙ sym (other (a ∷ []) (λ e. omega arith))
   time_is (a ∷ b ∷ []) =
-      ap (λ (x : Bool). tens most a && x) (and_false (units most a b)) ∙ and_false (tens most a) ∙ sym (other (a ∷ b ∷ []) (λ e. omega arith))
+      ap (λ (x : Bool). tens most a && x) (and-false (units most a b)) ∙ and-false (tens most a) ∙ sym (other (a ∷ b ∷ []) (λ e. omega arith))
   time_is (a ∷ b ∷ c ∷ []) =
-      ap (λ (x : Bool). tens most a && (units most a b && x)) (and_false (sixty c))
-      ∙ ap (λ (x : Bool). tens most a && x) (and_false (units most a b)) ∙ and_false (tens most a) ∙ sym (other (a ∷ b ∷ c ∷ []) (λ e. omega arith))
+      ap (λ (x : Bool). tens most a && (units most a b && x)) (and-false (sixty c))
+      ∙ ap (λ (x : Bool). tens most a && x) (and-false (units most a b)) ∙ and-false (tens most a) ∙ sym (other (a ∷ b ∷ c ∷ []) (λ e. omega arith))
   time_is (a ∷ b ∷ c ∷ d ∷ []) = four a b c d
   time_is (a ∷ b ∷ c ∷ d ∷ x ∷ w) =
-      ap (λ (x : Bool). tens most a && (units most a b && (sixty c && x))) (and_false (digit d))
-      ∙ ap (λ (x : Bool). tens most a && (units most a b && x)) (and_false (sixty c))
-      ∙ ap (λ (x : Bool). tens most a && x) (and_false (units most a b)) ∙ and_false (tens most a) ∙ sym (other (a ∷ b ∷ c ∷ d ∷ x ∷ w) (λ e. omega arith))
+      ap (λ (x : Bool). tens most a && (units most a b && (sixty c && x))) (and-false (digit d))
+      ∙ ap (λ (x : Bool). tens most a && (units most a b && x)) (and-false (sixty c))
+      ∙ ap (λ (x : Bool). tens most a && x) (and-false (units most a b)) ∙ and-false (tens most a) ∙ sym (other (a ∷ b ∷ c ∷ d ∷ x ∷ w) (λ e. omega arith))
 
   pub time_place_lem : (s : List ℕ) → IsPlace (time_fits most) s (time_place most s)
   time_place_lem s = place_of_language time_bytes (time_fits most) time_is s (time_place most s) (bytes_right s)

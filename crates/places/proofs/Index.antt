@@ -1,7 +1,7 @@
 -- The places of parts, one byte at an index. Assumes nothing.
 use Prim.Native.Nat.{ℕ, zero, suc, ◌+◌, ◌-◌, ◌<◌, ◌≤◌}
 use mathlib.Core.Path.{◌≡◌, refl, sym, ap, ◌∙◌}
-use mathlib.Core.Bool.{Bool, true, false, and_true, and_false, true≢false}
+use mathlib.Core.Bool.{Bool, true, false, and-true, and-false, true≢false}
 use mathlib.Core.Option.{none, some}
 use mathlib.Core.List.{List, [], ◌∷◌, ◌++◌}
 use lib.Dec.{ltb}
@@ -32,7 +32,7 @@ module _ (t w : Word) (i : ℕ) where
 
 -- a shape of one byte
 one_class : (t b : ℕ) → fits (t ∷ []) (b ∷ []) ≡ in_class t b
-one_class t b = and_true (in_class t b)
+one_class t b = and-true (in_class t b)
 
 one_byte : (s : List ℕ) (i : ℕ) → i < length s → take (i + 1 - i) (drop i s) ≡ get_or s i 0 ∷ []
 one_byte s i h = let e : i + 1 - i ≡ 1 = omega arith in rw (e, drop_here s i h)
@@ -85,7 +85,7 @@ module _ (c : ℕ) (f : List ℕ → Bool) (pf pg : List ℕ → ℕ) (s : List 
   cut_none r h e = rw (found_none c s o end h, ← found_before c s o end) e
 
   pub cut_off : (r : ℕ) → f (take o s) ≡ false → r ≡ pf (take o s) → r ≡ cut_place c f pf pg s
-  cut_off r h e = rw (← found_before c s o end, h, and_false (holds c s)) e
+  cut_off r h e = rw (← found_before c s o end, h, and-false (holds c s)) e
 
   pub cut_on : (r : ℕ) → (o ≡ length s → ⊥) → o ≤ length s → f (take o s) ≡ true → r ≡ pg (take (length s - (o + 1)) (drop (o + 1) s))
       → o + 1 + r ≡ cut_place c f pf pg s
@@ -101,7 +101,7 @@ module _ (p : ℕ → Bool) (f : List ℕ → Bool) (pf pg : List ℕ → ℕ) (
   then_none r h e = rw (← end, le-ltb n (length s) (omega arith)) e
 
   pub then_off : (r : ℕ) → f (take n s) ≡ false → r ≡ pf (take n s) → r ≡ then_place p f pf pg s
-  then_off r h e = rw (← end, h, and_false (ltb n (length s))) e
+  then_off r h e = rw (← end, h, and-false (ltb n (length s))) e
 
   pub then_on : (r : ℕ) → n < length s → f (take n s) ≡ true → r ≡ pg (take (length s - n) (drop n s)) → n + r ≡ then_place p f pf pg s
   then_on r l h e = rw (← end, lt-ltb n (length s) l, h) (ap (λ (k : ℕ). n + k) (e ∙ ap pg (rest s n)))

@@ -1,14 +1,14 @@
 -- The place of a form from the places of its parts, shown right. Assumes nothing.
 use Prim.Native.Nat.{ℕ, zero, suc, ◌+◌, ◌-◌, ◌<◌, ◌≤◌}
 use mathlib.Core.Path.{◌≡◌, refl, sym, ap, ◌∙◌, subst}
-use mathlib.Core.Bool.{Bool, true, false, ◌&&◌, not, cond, and_false}
+use mathlib.Core.Bool.{Bool, true, false, ◌&&◌, not, cond, and-false}
 use mathlib.Core.List.{List, [], ◌∷◌, ◌++◌, append_assoc}
 use native.Mathlib.Omega.{arith}
 use native.Mathlib.Nat.{zero-add}
 use lib.Dec.{ltb}
 use lib.ListN.{length, take, drop, length-append}
 use lib.Seq.{take-append_seam, drop-append_seam}
-use borrow.Author.Tests.{ltb-true, ltb-false, not_true}
+use borrow.Author.Tests.{ltb-true, ltb-false, not-true}
 use Rattle.text.specs.Words.{all, leading}
 use Rattle.text.proofs.Tests.{both, and_both, all_append}
 use Rattle.places.specs.Place.{IsPlace, Hopeful, Hopeless}
@@ -23,7 +23,7 @@ stops p (b ∷ t) = not (p b)
 module _ (p : ℕ → Bool) where
   pub front_cut : (a r : List ℕ) → all p a ≡ true → stops p r ≡ true → leading p (a ++ r) ≡ length a
   front_cut [] [] e h = refl
-  front_cut [] (b ∷ r) e h = rw (not_true (p b) h)
+  front_cut [] (b ∷ r) e h = rw (not-true (p b) h)
   front_cut (x ∷ a) r e h = let q = both (p x) (all p a) e in rw (q.0, front_cut a r q.1 h)
 
   pub record Cut (s : List ℕ) : Type 0 where
@@ -129,7 +129,7 @@ module _ (p : ℕ → Bool) (f g : List ℕ → Bool) (pf pg : List ℕ → ℕ)
       ∙ ap (then_fits p f g) (append_assoc a (take (suc (pg (b ∷ r))) (b ∷ r)) t)
       ∙ then_at p f g a (take (suc (pg (b ∷ r))) (b ∷ r) ++ t) i st
       ∙ ap (λ (x : Bool). f a && x) ((g-right (b ∷ r)).there l t)
-      ∙ and_false (f a)
+      ∙ and-false (f a)
 
   -- a part of f that does not fit, and the byte behind it
   off_cut : (a : List ℕ) (b : ℕ) (r : List ℕ) → all p a ≡ true → stops p (b ∷ r) ≡ true → f a ≡ false → Hopeless (then_fits p f g) (a ++ (b ∷ r)) (length a)

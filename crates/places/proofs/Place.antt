@@ -1,7 +1,7 @@
 -- The place is unique and depends on the language alone. Assumes nothing.
 use Prim.Native.Nat.{ℕ, zero, suc, ◌<◌, ◌≤◌}
 use mathlib.Core.Path.{◌≡◌, refl, sym, ap, ◌∙◌, subst, fun_ext}
-use mathlib.Core.Bool.{Bool, true, false, ◌||◌, cond, or_true, or_false, false≢true, true≢false}
+use mathlib.Core.Bool.{Bool, true, false, ◌||◌, cond, or-true, or-false, false≢true, true≢false}
 use mathlib.Core.List.{List, [], ◌∷◌, ◌++◌, append_assoc}
 use native.Mathlib.Omega.{arith}
 use native.Mathlib.Nat.{not-suc-le-zero}
@@ -54,7 +54,7 @@ either_place f g s p q a b = go (leb p q) refl
     left k h = (h.0, rw h.1)
 
     right : (k : ℕ) → Hopeful g s k → Hopeful (λ t. f t || g t) s k
-    right k h = (h.0, rw h.1 (or_true (f (take (suc k) s ++ h.0))))
+    right k h = (h.0, rw h.1 (or-true (f (take (suc k) s ++ h.0))))
 
     neither : (k : ℕ) → Hopeless f s k → Hopeless g s k → Hopeless (λ t. f t || g t) s k
     neither k m n t = rw (m t) (n t)
@@ -92,8 +92,8 @@ pub absorbed : (f g : List ℕ → Bool) → ((w : List ℕ) → f w ≡ true �
 absorbed f g i s p a =
     record {
       within = a.within;
-      before = λ k l. let t = a.before k l in (t.0, rw t.1 (or_true (f (take (suc k) s ++ t.0))));
-      there = λ l t. rw (a.there l t) (or_false (f (take (suc p) s ++ t)) ∙ off l t (f (take (suc p) s ++ t)) refl);
+      before = λ k l. let t = a.before k l in (t.0, rw t.1 (or-true (f (take (suc k) s ++ t.0))));
+      there = λ l t. rw (a.there l t) (or-false (f (take (suc p) s ++ t)) ∙ off l t (f (take (suc p) s ++ t)) refl);
     }
   where
     off : p < length s → (t : List ℕ) (x : Bool) → f (take (suc p) s ++ t) ≡ x → x ≡ false

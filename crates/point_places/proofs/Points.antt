@@ -1,7 +1,7 @@
 -- The place of a point of field 15, and of a word with no oblique, is right. Assumes nothing.
 use Prim.Native.Nat.{ℕ, zero, suc, ◌+◌, ◌-◌, ◌<◌, ◌≤◌}
 use mathlib.Core.Path.{◌≡◌, refl, sym, ap, ap₂, ◌∙◌}
-use mathlib.Core.Bool.{Bool, true, false, ◌&&◌, ◌||◌, not, cond, false≢true, true≢false, or_true, or_false, or_assoc, not-not}
+use mathlib.Core.Bool.{Bool, true, false, ◌&&◌, ◌||◌, not, cond, false≢true, true≢false, or-true, or-false, or_assoc, not-not}
 use mathlib.Core.List.{List, [], ◌∷◌, ◌++◌, append-nil}
 use native.Mathlib.Omega.{arith}
 use lib.Dec.{leb, ltb, eqb, leb-suc-suc}
@@ -126,9 +126,9 @@ bearing_is w = bearing_or w ∙ iff (radial 2 w || (radial 3 w || (radial 4 w ||
         go : (a : Bool) → eqb (length w) 8 ≡ a → (b : Bool) → eqb (length w) 9 ≡ b → (c : Bool) → eqb (length w) 10 ≡ c
             → (radial 2 w || (radial 3 w || (radial 4 w || (radial 5 w || false)))) ≡ true
         go true p b q c r = rw (radial_from 2 w (eqb-true (length w) 8 p) h.1)
-        go false p true q c r = rw (radial_from 3 w (eqb-true (length w) 9 q) h.1) (or_true (radial 2 w))
+        go false p true q c r = rw (radial_from 3 w (eqb-true (length w) 9 q) h.1) (or-true (radial 2 w))
         go false p false q true r =
-            rw (radial_from 4 w (eqb-true (length w) 10 r) h.1) (ap (λ (x : Bool). radial 2 w || x) (or_true (radial 3 w)) ∙ or_true (radial 2 w))
+            rw (radial_from 4 w (eqb-true (length w) 10 r) h.1) (ap (λ (x : Bool). radial 2 w || x) (or-true (radial 3 w)) ∙ or-true (radial 2 w))
         go false p false q false r =
             let x = apart (length w) 8 p in
             let y = apart (length w) 9 q in
@@ -137,8 +137,8 @@ bearing_is w = bearing_or w ∙ iff (radial 2 w || (radial 3 w || (radial 4 w ||
             let j = m in
             let n : length w ≡ 5 + 6 = omega arith in
             rw (radial_from 5 w n h.1)
-            (ap (λ (x : Bool). radial 2 w || (radial 3 w || x)) (or_true (radial 4 w))
-            ∙ ap (λ (x : Bool). radial 2 w || x) (or_true (radial 3 w)) ∙ or_true (radial 2 w))
+            (ap (λ (x : Bool). radial 2 w || (radial 3 w || x)) (or-true (radial 4 w))
+            ∙ ap (λ (x : Bool). radial 2 w || x) (or-true (radial 3 w)) ∙ or-true (radial 2 w))
 
 -- WHAT IS LONGER THAN A NAME, AND WHAT IS SHORTER
 
@@ -170,14 +170,14 @@ point_is most m w = sym (rw (beyond_is w) (first (fits (wide short) w) refl))
     third : (x : Bool) → ltb 7 (length w) ≡ x → (name_fits most w || ((false && minutes_in_range (minutes_of w)) || (x && radial_fits w)))
         ≡ cond x (radial_fits w) (name_fits most w)
     third true e = let l = ltb-true 7 (length w) e in rw (long_name most w (omega arith))
-    third false e = or_false (name_fits most w)
+    third false e = or-false (name_fits most w)
 
     second : (x : Bool) → fits (wide long) w ≡ x
         → (name_fits most w || ((x && minutes_in_range (minutes_of w)) || (ltb 7 (length w) && radial_fits w)))
         ≡ cond x (minutes_in_range (minutes_of w)) (cond (ltb 7 (length w)) (radial_fits w) (name_fits most w))
     second true e =
         let l : length w ≡ 11 = fits_lengths (wide long) w e in
-        rw (long_name most w (omega arith), long_no_bearing w e, and_false (ltb 7 (length w)) false refl) (or_false (minutes_in_range (minutes_of w)))
+        rw (long_name most w (omega arith), long_no_bearing w e, and_false (ltb 7 (length w)) false refl) (or-false (minutes_in_range (minutes_of w)))
     second false e = third (ltb 7 (length w)) refl
 
     first : (x : Bool) → fits (wide short) w ≡ x
@@ -187,7 +187,7 @@ point_is most m w = sym (rw (beyond_is w) (first (fits (wide short) w) refl))
         (cond (ltb 7 (length w)) (radial_fits w) (name_fits most w)))
     first true e =
         let l : length w ≡ 7 = fits_lengths (wide short) w e in
-        rw (fits_other (wide long) w (λ q. omega arith), le-ltb 7 (length w) (omega arith)) (or_false (degrees_in_range (degrees_of w)))
+        rw (fits_other (wide long) w (λ q. omega arith), le-ltb 7 (length w) (omega arith)) (or-false (degrees_in_range (degrees_of w)))
     first false e = second (fits (wide long) w) refl
 
 -- A POINT BEFORE AN OBLIQUE
@@ -218,7 +218,7 @@ shorter_is w = rw (short_is w) (go (fits (wide short) w) refl)
   where
     go : (x : Bool) → fits (wide short) w ≡ x → (name_fits 5 w || (x && degrees_in_range (degrees_of w))) ≡ cond x (degrees_in_range (degrees_of w)) (name_fits 5 w)
     go true e = let l : length w ≡ 7 = fits_lengths (wide short) w e in rw (long_name 5 w (omega arith))
-    go false e = or_false (name_fits 5 w)
+    go false e = or-false (name_fits 5 w)
 
 pub point_right : (s : List ℕ) → IsPlace (point_fits 5) s (point_place s)
 unfolding point_place

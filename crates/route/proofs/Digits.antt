@@ -1,7 +1,7 @@
 -- Digits as a shape, and a coordinate by its digits. Assumes nothing.
 use Prim.Native.Nat.{ℕ, zero, suc, ◌+◌, ◌-◌, ◌<◌}
 use mathlib.Core.Path.{◌≡◌, refl, sym, ap, ◌∙◌}
-use mathlib.Core.Bool.{Bool, true, false, cond, ◌&&◌, and_assoc, and_true}
+use mathlib.Core.Bool.{Bool, true, false, cond, ◌&&◌, and_assoc, and-true}
 use mathlib.Core.List.{List, [], ◌∷◌, ◌++◌}
 use native.Mathlib.Omega.{arith}
 use lib.Dec.{eqb}
@@ -88,4 +88,4 @@ module _ (k j : ℕ) (w : Word) where
       = half_at (bytes "NS") (take (k + 1) w) k t ∙ rw (take-take k (k + 1) w (omega arith), get_or-take (k + 1) w k 0 (omega arith)) in
       let east : half_fits (bytes "EW") (drop (k + 1) w) ≡ (c && d) = half_at (bytes "EW") (drop (k + 1) w) j l in
       digits_letter k 110 (copies j ++ (101 ∷ [])) w (omega arith)
-      ∙ rw (digits_letter j 101 [] (drop (k + 1) w) (omega arith), e, and_true d, north, east) (sym (and_assoc a b (c && d)))
+      ∙ rw (digits_letter j 101 [] (drop (k + 1) w) (omega arith), e, and-true d, north, east) (sym (and_assoc a b (c && d)))

@@ -1,7 +1,7 @@
 -- A speed or a level at the front of a word ends where its letter says, and behind it stands what the shapes have behind theirs. Assumes nothing.
 use Prim.Native.Nat.{ℕ, suc, ◌+◌, ◌<◌, ◌≤◌}
 use mathlib.Core.Path.{◌≡◌, refl, sym, ap, ◌∙◌}
-use mathlib.Core.Bool.{Bool, true, false, cond, ◌&&◌, false≢true, true≢false, and_false}
+use mathlib.Core.Bool.{Bool, true, false, cond, ◌&&◌, false≢true, true≢false, and-false}
 use mathlib.Core.List.{List, [], ◌∷◌, ◌++◌, append-nil}
 use native.Mathlib.Omega.{arith}
 use native.Mathlib.Numerals.{add-one}
@@ -74,7 +74,7 @@ module _ (n : ℕ) (w : Word) where
 
   pub unit_short : length w ≤ n → unit_end n w ≡ 0
   unfolding unit_end begins
-  unit_short h = rw (le-ltb n (length w) h, and_false (ltb 0 n))
+  unit_short h = rw (le-ltb n (length w) h, and-false (ltb 0 n))
 
   module _ (some : 0 < n) (room : n < length w) where
     begins_digits : begins n w ≡ all digit (take n (drop 1 w))

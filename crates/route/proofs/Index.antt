@@ -1,7 +1,7 @@
 -- The definitions of field 15 where the code stands: the lists of shapes byte for byte, a word at its oblique, the words one by one. Assumes nothing.
 use Prim.Native.Nat.{ℕ, ◌+◌, ◌-◌, ◌<◌, ◌≤◌}
 use mathlib.Core.Path.{◌≡◌, refl, ap}
-use mathlib.Core.Bool.{Bool, true, false, cond, ◌&&◌, and_true}
+use mathlib.Core.Bool.{Bool, true, false, cond, ◌&&◌, and-true}
 use mathlib.Core.List.{List, ◌++◌}
 use native.Mathlib.Omega.{arith}
 use native.Mathlib.Numerals.{add-one}
@@ -69,7 +69,7 @@ module _ (s : List ℕ) (at e : ℕ) (end : e ≡ at + up_to 32 (drop at s)) whe
   route_not h = rw (split_at 32 s at e end, h (null (after 32 (drop e s))))
 
   pub route_last : length s ≤ e → route_fits (split 32 (drop at s)) ≡ element_fits true (take (e - at) (drop at s))
-  route_last h = rw (split_at 32 s at e end, after_end 32 s e h) (and_true (element_fits true (take (e - at) (drop at s))))
+  route_last h = rw (split_at 32 s at e end, after_end 32 s e h) (and-true (element_fits true (take (e - at) (drop at s))))
 
   pub route_next : e < length s
       → route_fits (split 32 (drop at s)) ≡ (element_fits false (take (e - at) (drop at s)) && route_fits (split 32 (drop (e + 1) s)))

@@ -7,7 +7,7 @@ use native.Mathlib.Omega.{arith}
 use lib.Dec.{ltb, eqb}
 use lib.ListN.{length, take, drop}
 use lib.Seq.{take_at, drop_at}
-use borrow.Author.Tests.{not_true, ltb-true, lt-ltb}
+use borrow.Author.Tests.{not-true, ltb-true, lt-ltb}
 use Rattle.alphabet.specs.Text.{bytes}
 use Rattle.alphabet.specs.Alphabet.{digit, one_of}
 use Rattle.text.specs.Words.{Word, all, same}
@@ -70,7 +70,7 @@ module _ (k l : ℕ) (d : Word) where
 
 -- a byte of one set is not of another that has none of its bytes
 apart : (xs ys : List ℕ) → all (λ x. not (one_of x ys)) xs ≡ true → (b : ℕ) → one_of b xs ≡ true → one_of b ys ≡ false
-apart xs ys a b e = not_true (one_of b ys) (of_one (λ x. not (one_of x ys)) xs a b e)
+apart xs ys a b e = not-true (one_of b ys) (of_one (λ x. not (one_of x ys)) xs a b e)
 
 pub speed_due : (b : ℕ) (d : Word) → any (wides speeds) (b ∷ d) ≡ true → Due (speed_digits b) d
 unfolding speeds speed_digits letters
@@ -172,7 +172,7 @@ fits_same (x ∷ k) [] a = refl
 fits_same (x ∷ k) (b ∷ w) a =
     let g = both (not (digit x) && same (letters x) (x ∷ [])) (all (λ x. not (digit x) && same (letters x) (x ∷ [])) k) a in
     let h = both (not (digit x)) (same (letters x) (x ∷ [])) g.0 in
-    rw (not_true (digit x) h.0, same-eq (letters x) (x ∷ []) h.1, fits_same k w g.1) (go (eqb b x))
+    rw (not-true (digit x) h.0, same-eq (letters x) (x ∷ []) h.1, fits_same k w g.1) (go (eqb b x))
   where
     go : (c : Bool) → (cond c true false && same w k) ≡ (c && same w k)
     go true = refl

@@ -7,7 +7,7 @@ use native.Mathlib.Omega.{arith}
 use lib.Dec.{leb, ltb}
 use lib.ListN.{length, drop, get_or, length-append, take-append-drop}
 use lib.Seq.{drop-drop, take_at, drop_at, length-take-le, get_or-drop}
-use borrow.Author.Tests.{leb-true, ltb-true, ltb-false, lt-ltb, le-ltb, le-leb, not_true}
+use borrow.Author.Tests.{leb-true, ltb-true, ltb-false, lt-ltb, le-ltb, le-leb, not-true}
 use Rattle.alphabet.specs.Text.{bytes}
 use Rattle.alphabet.specs.Alphabet.{sign, one_of}
 use Rattle.text.specs.Words.{Word, all, elem}
@@ -243,7 +243,7 @@ name_parts most w e =
     let a = both (leb 2 (length w)) _ e in
     let b = both (leb (length w) most) _ a.1 in
     let c = both (all sign w) (not (elem w indicators)) b.1 in
-    record { least = leb-true 2 (length w) a.0; size = leb-true (length w) most b.0; signs = c.0; other = not_true (elem w indicators) c.1 }
+    record { least = leb-true 2 (length w) a.0; size = leb-true (length w) most b.0; signs = c.0; other = not-true (elem w indicators) c.1 }
 
 -- ANY POINT
 
@@ -327,7 +327,7 @@ point_back most m (named w) e =
     let h = both (name_fits most w) (not (fits (wide short) w)) e in
     let r = name_parts most w h.0 in
     let l = r.size in
-    let a = at_name most w (not_true (fits (wide short) w) h.1) (fits_other (wide long) w (λ q. omega arith)) (omega arith) in
+    let a = at_name most w (not-true (fits (wide short) w) h.1) (fits_other (wide long) w (λ q. omega arith)) (omega arith) in
     (a.0 ∙ h.0, a.1)
 
 pub point : (most : ℕ) → most ≤ 7 → Part Point (point_fits most) point_of spell_point (valid_point most)

@@ -1,7 +1,7 @@
 -- The place of field 15 is right. Assumes nothing.
 use Prim.Native.Nat.{ℕ, ◌+◌, ◌≤◌}
 use mathlib.Core.Path.{◌≡◌, refl, sym, ap, ◌∙◌}
-use mathlib.Core.Bool.{Bool, true, false, ◌&&◌, ◌||◌, not, cond, false≢true, true≢false, or_false}
+use mathlib.Core.Bool.{Bool, true, false, ◌&&◌, ◌||◌, not, cond, false≢true, true≢false, or-false}
 use mathlib.Core.List.{List, [], ◌∷◌}
 use mathlib.Core.Option.{none, some}
 use native.Mathlib.Numerals.{add-one}
@@ -131,7 +131,7 @@ element_is w = first (holds 47 w) refl
     second true c =
         ap (λ (x : Bool). (x && any (wides changes) (behind 47 w)) || pair_fits (wides climbs) (behind 47 w))
         (ap (point_fits 5) (same-eq (before 47 w) (bytes "C") c) ∙ no_c)
-    second false c = or_false (point_fits 5 (before 47 w) && any (wides changes) (behind 47 w))
+    second false c = or-false (point_fits 5 (before 47 w) && any (wides changes) (behind 47 w))
 
     first : (x : Bool) → holds 47 w ≡ x
         → (plain_fits w || ((x && (point_fits 5 (before 47 w) && any (wides changes) (behind 47 w))) ||
@@ -142,7 +142,7 @@ element_is w = first (holds 47 w) refl
         ap (λ (y : Bool). y || ((point_fits 5 (before 47 w) && any (wides changes) (behind 47 w)) ||
         (is_c (before 47 w) && pair_fits (wides climbs) (behind 47 w)))) (no_plain h (plain_fits w) refl)
         ∙ second (is_c (before 47 w)) refl
-    first false h = or_false (plain_fits w)
+    first false h = or-false (plain_fits w)
 
 pub element_right : (s : List ℕ) → IsPlace (element_fits true) s (element_place s)
 unfolding element_place

@@ -4,7 +4,7 @@ use mathlib.Core.Path.{◌≡◌, refl, ◌∙◌}
 use mathlib.Core.Bool.{Bool, true, false, cond, not, ◌||◌}
 use mathlib.Core.List.{List, [], ◌∷◌}
 use lib.Dec.{eqb}
-use borrow.Author.Tests.{not_true, eqb-true}
+use borrow.Author.Tests.{not-true, eqb-true}
 use Rattle.alphabet.specs.Text.{bytes}
 use Rattle.alphabet.specs.Alphabet.{one_of, sign, white, text, in_alphabet}
 use Rattle.text.specs.Words.{Word, split, join, all, null, free, tidy_byte, tidy_word, tidy}
@@ -63,7 +63,7 @@ content_free c e = content_every (λ b. not (eqb b 45)) refl (λ b h. other tidy
 -- NO PARENTHESIS
 
 none_of_two : (b : ℕ) → not (eqb b 40) ≡ true → not (eqb b 41) ≡ true → no_paren b ≡ true
-none_of_two b o c = rw (not_true (eqb b 40) o, not_true (eqb b 41) c)
+none_of_two b o c = rw (not-true (eqb b 40) o, not-true (eqb b 41) c)
 
 pub white_no_paren : (b : ℕ) → white b ≡ true → no_paren b ≡ true
 white_no_paren b w = none_of_two b (other white 40 opening_solid b w) (other white 41 closing_solid b w)

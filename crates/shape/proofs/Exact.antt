@@ -6,7 +6,7 @@ use mathlib.Core.List.{List, [], ◌∷◌, ◌++◌}
 use lib.Dec.{ltb}
 use lib.ListN.{length, take, drop, take-append-drop}
 use lib.Seq.{take_at, drop_at}
-use borrow.Author.Tests.{not_true, ltb-true, lt-ltb}
+use borrow.Author.Tests.{not-true, ltb-true, lt-ltb}
 use Rattle.alphabet.specs.Alphabet.{digit, one_of}
 use Rattle.text.specs.Words.{Word, all}
 use Rattle.text.proofs.Tests.{both, of_one, and_false}
@@ -90,7 +90,7 @@ disjoint_law t u b a e = go (digit t) refl (digit u) refl a e
         → cond c (digit b) (one_of b (letters t)) ≡ true → in_class u b ≡ false
     go true p true q r s = absurd (false≢true r)
     go true p false q r s = rw q (never (one_of b (letters u)) refl s r)
-    go false p d q r s = not_true (in_class u b) (of_one (λ b. not (in_class u b)) (letters t) r b s)
+    go false p d q r s = not-true (in_class u b) (of_one (λ b. not (in_class u b)) (letters t) r b s)
 
 pub clash_law : (t u w : Word) → clash t u ≡ true → fits t w ≡ true → fits u w ≡ false
 clash_law [] [] w c e = absurd (false≢true c)

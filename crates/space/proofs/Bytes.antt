@@ -3,7 +3,7 @@ use Prim.Native.Nat.{ℕ}
 use mathlib.Core.Path.{◌≡◌, refl}
 use mathlib.Core.Bool.{true, false}
 use lib.Dec.{eqb}
-use borrow.Author.Tests.{not_true}
+use borrow.Author.Tests.{not-true}
 use Rattle.alphabet.specs.Alphabet.{white, text, in_alphabet}
 use Rattle.text.specs.Words.{tidy_byte}
 use Rattle.text.proofs.Tests.{other}
@@ -46,12 +46,12 @@ closing_closes = refl
 
 -- white space is no hyphen
 pub white_other : (b : ℕ) → white b ≡ true → eqb b 45 ≡ false
-white_other b w = not_true (eqb b 45) (other white 45 hyphen_solid b w)
+white_other b w = not-true (eqb b 45) (other white 45 hyphen_solid b w)
 
 -- TIDY BYTES are no white space, open nothing and close nothing
 
 tidy_other : (c : ℕ) → tidy_byte c ≡ false → (b : ℕ) → tidy_byte b ≡ true → eqb b c ≡ false
-tidy_other c f b e = not_true (eqb b c) (other tidy_byte c f b e)
+tidy_other c f b e = not-true (eqb b c) (other tidy_byte c f b e)
 
 no_return : tidy_byte 13 ≡ false
 unfolding text in_alphabet white

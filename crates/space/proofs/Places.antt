@@ -5,7 +5,7 @@ use mathlib.Core.Bool.{Bool, true, false, ◌&&◌, false≢true}
 use mathlib.Core.List.{List, ◌∷◌}
 use native.Mathlib.Omega.{arith}
 use lib.ListN.{length, drop, get_or}
-use borrow.Author.Tests.{lt-ltb, le-ltb, not_true, not-false}
+use borrow.Author.Tests.{lt-ltb, le-ltb, not-true, not-false}
 use Rattle.alphabet.specs.Alphabet.{white}
 use Rattle.text.proofs.Index.{drop_here, drop_end}
 use Rattle.space.specs.Places.{sent_from, in_run, counts_at, past_lead}
@@ -32,14 +32,14 @@ module _ (m : List ℕ) (at i : ℕ) (h : i < length m) (l : at ≤ i) where
   later = let z : i + 1 - 1 ≡ i = omega arith in sym (rw (lt-ltb at (i + 1) (omega arith), z))
 
   pub count_stop : counts_at m at i ≡ true → sent_from (in_run m at i) 0 (drop i m) ≡ 0
-  count_stop e = rw (drop_here m i h) (stopped (in_run m at i) (get_or m i 0) (drop (i + 1) m) (not_true (in_run m at i && white (get_or m i 0)) e))
+  count_stop e = rw (drop_here m i h) (stopped (in_run m at i) (get_or m i 0) (drop (i + 1) m) (not-true (in_run m at i && white (get_or m i 0)) e))
 
   pub count_next : (n k : ℕ) → n ≡ suc k → counts_at m at i ≡ true
       → sent_from (in_run m at i) n (drop i m) ≡ suc (sent_from (in_run m at (i + 1)) k (drop (i + 1) m))
   count_next n k z e =
       ap (λ (x : ℕ). sent_from (in_run m at i) x (drop i m)) z
       ∙ ap (sent_from (in_run m at i) (suc k)) (drop_here m i h)
-      ∙ passed (in_run m at i) k (get_or m i 0) (drop (i + 1) m) (not_true (in_run m at i && white (get_or m i 0)) e)
+      ∙ passed (in_run m at i) k (get_or m i 0) (drop (i + 1) m) (not-true (in_run m at i && white (get_or m i 0)) e)
       ∙ ap (λ (r : Bool). suc (sent_from r k (drop (i + 1) m))) later
 
   pub count_skip : (n : ℕ) → counts_at m at i ≡ false → sent_from (in_run m at i) n (drop i m) ≡ suc (sent_from (in_run m at (i + 1)) n (drop (i + 1) m))

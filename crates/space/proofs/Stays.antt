@@ -1,14 +1,14 @@
 -- A message is its own reduction exactly where each of its bytes stays as it is. Assumes nothing.
 use Prim.Native.Nat.{ℕ, zero, suc, ◌+◌, ◌-◌, ◌<◌, ◌≤◌}
 use mathlib.Core.Path.{◌≡◌, refl, sym, ◌∙◌}
-use mathlib.Core.Bool.{Bool, true, false, cond, not, ◌&&◌, ◌||◌, or_true, false≢true}
+use mathlib.Core.Bool.{Bool, true, false, cond, not, ◌&&◌, ◌||◌, or-true, false≢true}
 use mathlib.Core.List.{List, [], ◌∷◌}
 use native.Mathlib.Omega.{arith}
 use lib.Dec.{ltb, leb, eqb}
 use lib.Arith.{lt_of_le-ne}
 use lib.ListN.{length, take, drop, get_or, length-drop}
 use lib.Seq.{drop-drop, get_or-drop}
-use borrow.Author.Tests.{eq-eqb, ne_eqb, eqb-true, eqb-false, ltb-false, leb-false, not_true}
+use borrow.Author.Tests.{eq-eqb, ne_eqb, eqb-true, eqb-false, ltb-false, leb-false, not-true}
 use Rattle.alphabet.specs.Alphabet.{white}
 use Rattle.text.specs.Words.{same}
 use Rattle.text.specs.Pairs.{all_pairs}
@@ -112,12 +112,12 @@ unfolding stands_for_run
 regular_stays a b c s e = go (eqb b 32) refl h.1
   where
     h : (ltb b 32 ≡ false) × ((eqb b 32 && (leb c 32 || closes c)) ≡ false)
-    h = neither (ltb b 32) (eqb b 32 && (leb c 32 || closes c)) (not_true _ e)
+    h = neither (ltb b 32) (eqb b 32 && (leb c 32 || closes c)) (not-true _ e)
 
     go : (t : Bool) → eqb b 32 ≡ t → (t && (leb c 32 || closes c)) ≡ false → cond (white b) (eqb b 32 && stands_for_run a (c ∷ s)) true ≡ true
     go true q d =
         let k = neither (leb c 32) (closes c) d in
-        rw (eqb-true b 32 q, space_white, solid_over c (leb-false c 32 k.0), k.1) (or_true a)
+        rw (eqb-true b 32 q, space_white, solid_over c (leb-false c 32 k.0), k.1) (or-true a)
     go false q d =
         let l : 32 ≤ b = ltb-false b 32 h.0 in
         let n = eqb-false b 32 q in

@@ -1,7 +1,7 @@
 -- Words at an index: letters of a set, and a step over a word. Assumes nothing.
 use Prim.Native.Nat.{ℕ, suc, ◌+◌, ◌<◌, ◌≤◌}
 use mathlib.Core.Path.{◌≡◌, refl, sym, ap, ◌∙◌}
-use mathlib.Core.Bool.{Bool, true, false, cond, and_true, false≢true}
+use mathlib.Core.Bool.{Bool, true, false, cond, and-true, false≢true}
 use mathlib.Core.List.{List, [], ◌∷◌}
 use native.Mathlib.Omega.{arith}
 use native.Mathlib.Numerals.{add-one}
@@ -42,7 +42,7 @@ module _ (set : List ℕ) (w : Word) (i : ℕ) (passed : letters_fit set w ≡ l
   some_all e =
       let h : length w ≤ i = omega arith in
       let f : letters_fit set w ≡ true = passed ∙ rw (drop_end w i h) in
-      rw (e, f) (sym (and_true (leb 1 (length w))))
+      rw (e, f) (sym (and-true (leb 1 (length w))))
 
 -- KEYS BY THEIR LETTERS
 

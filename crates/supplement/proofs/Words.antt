@@ -6,7 +6,7 @@ use mathlib.Core.List.{List, [], ◌∷◌}
 use native.Mathlib.Omega.{arith}
 use lib.Dec.{leb, eqb}
 use lib.ListN.{length}
-use borrow.Author.Tests.{not_true, leb-true, lt-leb}
+use borrow.Author.Tests.{not-true, leb-true, lt-leb}
 use Rattle.alphabet.specs.Alphabet.{letter, digit, text, one_of}
 use Rattle.text.specs.Words.{Word, all, same, text_word}
 use Rattle.text.proofs.Tests.{both, of_one, other}
@@ -24,7 +24,7 @@ no_shade most (b ∷ w) e =
     let h = both (leb (length (b ∷ w)) most) (all digit (b ∷ w)) g.1 in
     let d = both (digit b) (all digit w) h.1 in
     let r = digit_range b d.0 in
-    (rw (not_true (eqb b 67) (other digit 67 refl b d.0)), go (leb 2 (length (b ∷ w))) (lt-leb 65 b (omega arith)))
+    (rw (not-true (eqb b 67) (other digit 67 refl b d.0)), go (leb 2 (length (b ∷ w))) (lt-leb 65 b (omega arith)))
   where
     go : (t : Bool) → leb 65 b ≡ false → (t && (letter b && all letter w)) ≡ false
     go true q = rw q

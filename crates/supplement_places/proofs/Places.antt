@@ -1,7 +1,7 @@
 -- The place of field 19 is right. Assumes nothing.
 use Prim.Native.Nat.{ℕ, suc, ◌≤◌}
 use mathlib.Core.Path.{◌≡◌, refl, sym, ap, ◌∙◌, subst}
-use mathlib.Core.Bool.{Bool, true, false, ◌&&◌, ◌||◌, cond, false≢true, true≢false, and_false}
+use mathlib.Core.Bool.{Bool, true, false, ◌&&◌, ◌||◌, cond, false≢true, true≢false, and-false}
 use mathlib.Core.List.{List, [], ◌∷◌}
 use mathlib.Core.Option.{none, some}
 use native.Mathlib.Omega.{arith}
@@ -97,7 +97,7 @@ no_oblique_key stage = le-ltb (past stage) 0 (omega arith)
 
 begins_free : (stage : Stage) (w : Word) → begins stage w ≡ true → free 32 w ≡ true
 begins_free stage [] e = absurd (false≢true e)
-begins_free stage (b ∷ []) e = absurd (true≢false (sym e ∙ and_false (comes stage b)))
+begins_free stage (b ∷ []) e = absurd (true≢false (sym e ∙ and-false (comes stage b)))
 begins_free stage (b ∷ (c ∷ v)) e =
     let g = both (comes stage b) (oblique c && stands (first (by_letter b) v)) e in
     let h = both (oblique c) (stands (first (by_letter b) v)) g.1 in
@@ -111,7 +111,7 @@ not_opened stage v w n = let l = no_key v n in rw (le-ltb (past stage) (place (k
 
 begins_opens : (stage : Stage) (w : Word) → holds 47 w ≡ true → begins stage w ≡ stands (opens stage (keyed (before 47 w)) (behind 47 w))
 begins_opens stage [] h = absurd (false≢true h)
-begins_opens stage (b ∷ []) h = and_false (comes stage b) ∙ sym (go (eqb b 47) h)
+begins_opens stage (b ∷ []) h = and-false (comes stage b) ∙ sym (go (eqb b 47) h)
   where
     go : (x : Bool) → ltb (cond x 0 1) 1 ≡ true → stands (opens stage (keyed (take (cond x 0 1) (b ∷ []))) (drop (suc (cond x 0 1)) (b ∷ []))) ≡ false
     go true q = not_opened stage [] [] (λ e. omega arith)
@@ -133,11 +133,11 @@ begins_opens stage (b ∷ (c ∷ v)) h = go (eqb b 47) refl (eqb c 47)
         ∙ sym (not_opened stage [] (c ∷ v) (λ e. omega arith))
     go false q true = opened (comes stage b)
     go false q false =
-        and_false (comes stage b) ∙ sym (not_opened stage (b ∷ (c ∷ take (up_to 47 v) v)) (drop (suc (up_to 47 v)) v) (λ e. omega arith))
+        and-false (comes stage b) ∙ sym (not_opened stage (b ∷ (c ∷ take (up_to 47 v) v)) (drop (suc (up_to 47 v)) v) (λ e. omega arith))
 
 begins_held : (stage : Stage) (w : Word) → holds 47 w ≡ false → begins stage w ≡ false
 begins_held stage [] h = refl
-begins_held stage (b ∷ []) h = and_false (comes stage b)
+begins_held stage (b ∷ []) h = and-false (comes stage b)
 begins_held stage (b ∷ (c ∷ v)) h = go (eqb c 47) refl
   where
     clash : (x : Bool) → suc (suc (length v)) ≤ cond x 0 1 → ⊥
@@ -149,7 +149,7 @@ begins_held stage (b ∷ (c ∷ v)) h = go (eqb c 47) refl
         absurd (clash (eqb b 47)
         (subst (λ (y : Bool). suc (suc (length v)) ≤ cond (eqb b 47) 0 (suc (cond y 0 (suc (up_to 47 v))))) q
         (ltb-false (up_to 47 (b ∷ (c ∷ v))) (length (b ∷ (c ∷ v))) h)))
-    go false q = and_false (comes stage b)
+    go false q = and-false (comes stage b)
 
 word_is : (stage : Stage) (w : Word) → (stands (further stage w) || begins stage w) ≡ stands (step stage w)
 unfolding step

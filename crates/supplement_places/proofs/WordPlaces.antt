@@ -6,7 +6,7 @@ use mathlib.Core.List.{List, [], ◌∷◌, ◌++◌, append-nil}
 use native.Mathlib.Omega.{arith}
 use lib.Dec.{leb, ltb, eqb}
 use lib.ListN.{length}
-use borrow.Author.Tests.{le-leb, le-ltb, eqb-true, not_true}
+use borrow.Author.Tests.{le-leb, le-ltb, eqb-true, not-true}
 use Rattle.alphabet.specs.Text.{bytes}
 use Rattle.alphabet.specs.Alphabet.{letter, digit, text, in_alphabet, white, one_of}
 use Rattle.text.specs.Words.{Word, same, text_word, leading}
@@ -49,7 +49,7 @@ letters_front set [] t h = refl
 letters_front set (b ∷ p) t h =
     let g = both (one_of b set) (not (one_of b (p ++ t)) && letters_fit set (p ++ t)) h in
     let f = both (not (one_of b (p ++ t))) (letters_fit set (p ++ t)) g.1 in
-    rw (g.0, one_front b p t (not_true (one_of b (p ++ t)) f.0)) (letters_front set p t f.1)
+    rw (g.0, one_front b p t (not-true (one_of b (p ++ t)) f.0)) (letters_front set p t f.1)
 
 letters_done : (set : List ℕ) (x : ℕ) → some_of set (x ∷ []) ≡ true → (p : List ℕ) → letters_fit set p ≡ true
     → (t : List ℕ) × (some_of set (p ++ t) ≡ true)

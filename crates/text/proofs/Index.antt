@@ -2,7 +2,7 @@
 -- Assumes nothing.
 use Prim.Native.Nat.{ℕ, zero, suc, ◌+◌, ◌-◌, ◌*◌, ◌/◌, ◌<◌, ◌≤◌}
 use mathlib.Core.Path.{◌≡◌, refl, sym, ap, ◌∙◌}
-use mathlib.Core.Bool.{Bool, true, false, cond, not, ◌&&◌, false≢true, and_assoc, and_true}
+use mathlib.Core.Bool.{Bool, true, false, cond, not, ◌&&◌, false≢true, and_assoc, and-true}
 use mathlib.Core.List.{List, [], ◌∷◌}
 use native.Mathlib.Omega.{arith}
 use native.Mathlib.Numerals.{add-one}
@@ -11,7 +11,7 @@ use lib.Dec.{leb, eqb}
 use lib.ListN.{length, take, drop, get_or, drop_of_length-le, length-drop}
 use lib.Seq.{drop-cons, drop-drop, take_all}
 use lib.Arith.{lt_of_le-ne}
-use borrow.Author.Tests.{eq-eqb, eqb-true, ne_eqb, lt-ltb, le-ltb, le-leb, lt-leb, leb-false, not_true}
+use borrow.Author.Tests.{eq-eqb, eqb-true, ne_eqb, lt-ltb, le-ltb, le-leb, lt-leb, leb-false, not-true}
 use Rattle.text.specs.Words.{Word, split, onto, after, up_to, holds, before, behind, leading, all, free, null, same, rank_from, first_cells, cells}
 use Rattle.text.specs.Places.{Stepped}
 use Rattle.text.proofs.Tests.{both}
@@ -61,7 +61,7 @@ over_free c zero s h e = omega arith
 over_free c (suc n) [] h e = absurd (omega arith)
 over_free c (suc n) (b ∷ s) h e =
     let t = both (not (eqb b c)) (free c (take n s)) e in
-    rw (not_true (eqb b c) t.0) (omega (arith, over_free c n s (omega arith) t.1))
+    rw (not-true (eqb b c) t.0) (omega (arith, over_free c n s (omega arith) t.1))
 
 -- so the next c from i on is the next from e on
 pub find_part : (c : ℕ) (s : List ℕ) (i e : ℕ) → i ≤ e → e ≤ length s → free c (take (e - i) (drop i s)) ≡ true
@@ -88,7 +88,7 @@ pub gather_next : (p : ℕ → Bool) (s : List ℕ) (i : ℕ) (fine : Bool) → 
 gather_next p s i fine h = rw (drop_here s i h) (and_assoc fine (p (get_or s i 0)) (all p (drop (i + 1) s)))
 
 pub gather_end : (p : ℕ → Bool) (s : List ℕ) (i : ℕ) (fine : Bool) → length s ≤ i → fine ≡ fine && all p (drop i s)
-gather_end p s i fine h = rw (drop_end s i h) (sym (and_true fine))
+gather_end p s i fine h = rw (drop_end s i h) (sym (and-true fine))
 
 -- THE BYTES AT THE FRONT THAT PASS A TEST
 

@@ -1,7 +1,7 @@
 -- A test of each byte with the one behind it, gathered: `fine` says it of the bytes before i. Assumes nothing.
 use Prim.Native.Nat.{ℕ, ◌+◌, ◌-◌, ◌<◌, ◌≤◌}
 use mathlib.Core.Path.{◌≡◌, refl, sym}
-use mathlib.Core.Bool.{Bool, true, ◌&&◌, and_assoc, and_true}
+use mathlib.Core.Bool.{Bool, true, ◌&&◌, and_assoc, and-true}
 use mathlib.Core.List.{List, [], ◌∷◌}
 use native.Mathlib.Omega.{arith}
 use lib.ListN.{length, drop, get_or, length-drop}
@@ -26,4 +26,4 @@ module _ (f : ℕ → ℕ → Bool) where
         rw (e, n, drop_here s (i - 1) l, k, drop_here s i h) (and_assoc fine _ _)
 
     pub pairs_end : 0 < i → length s ≤ i → fine ≡ fine && all_pairs f (drop (i - 1) s)
-    pairs_end z h = rw (short_pairs (drop (i - 1) s) (rw length-drop (omega arith))) (sym (and_true fine))
+    pairs_end z h = rw (short_pairs (drop (i - 1) s) (rw length-drop (omega arith))) (sym (and-true fine))

@@ -6,7 +6,7 @@ use mathlib.Core.List.{List, [], ◌∷◌, ◌++◌}
 use lib.Dec.{eqb}
 use native.Mathlib.Omega.{arith}
 use lib.ListN.{length, length-append}
-use borrow.Author.Tests.{not_true}
+use borrow.Author.Tests.{not-true}
 use Rattle.alphabet.specs.Text.{bytes}
 use Rattle.alphabet.specs.Alphabet.{one_of, letter, digit, sign, text, in_alphabet, white}
 use Rattle.text.specs.Words.{Word, join, holds, before, behind, all, null, free, text_word, tidy_byte, tidy_word, tidy}
@@ -40,7 +40,7 @@ not_one : (p : ℕ → Bool) (b : ℕ) → p b ≡ true → (xs : List ℕ) → 
 not_one p b e [] a = refl
 not_one p b e (x ∷ xs) a =
     let h = both (not (p x)) (all (λ x. not (p x)) xs) a in
-    rw (not_true (eqb b x) (other p x (not_true (p x) h.0) b e)) (not_one p b e xs h.1)
+    rw (not-true (eqb b x) (other p x (not-true (p x) h.0) b e)) (not_one p b e xs h.1)
 
 pub sign_text : (b : ℕ) → sign b ≡ true → text b ≡ true
 unfolding text in_alphabet white

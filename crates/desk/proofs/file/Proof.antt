@@ -1,7 +1,7 @@
 -- `desk::file` meets its contract. Assumes nothing.
 use mathlib.Core.Path.{refl, sym, ◌∙◌}
 use borrow.Author.Rules.{rules}
-use borrow.Author.Tests.{not_true, not-false}
+use borrow.Author.Tests.{not-true, not-false}
 use Rattle.desk.proofs.Offers.{not_filed, other_type, filed}
 use Rattle.desk.proofs.file.Statement.{statement}
 use Rattle.desk.proofs.file.Tie as tie
@@ -27,7 +27,7 @@ returns : tie.Need-returns
 returns c =
     let t = c.before.before.before in
     let r = t.before.before.before.before in
-    other_type _ _ _ (start r).requires _ _ (sym r.read.ensures.0 ∙ t.t.given.1) (sym c.before.is-plan.ensures ∙ not_true _ c.if1.true)
+    other_type _ _ _ (start r).requires _ _ (sym r.read.ensures.0 ∙ t.t.given.1) (sym c.before.is-plan.ensures ∙ not-true _ c.if1.true)
 
 enum-known-number : tie.Need-enum-known-number
 enum-known-number c = search rules

@@ -1,5 +1,5 @@
 -- `handlers::make` meets its contract. Assumes nothing.
-use borrow.Author.Tests.{not_true}
+use borrow.Author.Tests.{not-true}
 use Rattle.handlers.proofs.Walk.{lost_journal, makes, makes_not}
 use borrow.Author.Rules.{rules}
 use Rattle.handlers.proofs.make.Statement.{statement}
@@ -33,7 +33,7 @@ returns c =
     let k = c.before.before.before in
     let s = start k.before.before in
     makes_not s.args.journal s.args.line.now s.args.board.places s.args.bytes.now s.pre s.args.call
-    (lost_journal s.args.journal _ k.keep.ensures (not_true _ c.before.before.if2.true))
+    (lost_journal s.args.journal _ k.keep.ensures (not-true _ c.before.before.if2.true))
 
 tell-requires : tie.Need-tell-requires
 tell-requires c κs = search rules

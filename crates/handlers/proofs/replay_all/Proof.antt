@@ -3,7 +3,7 @@ use Prim.Native.Nat.{◌≤◌}
 use mathlib.Core.Path.{sym, ap, ◌∙◌}
 use native.Mathlib.Omega.{arith}
 use lib.ListN.{length, length-replicate}
-use borrow.Author.Tests.{not_true, not-false}
+use borrow.Author.Tests.{not-true, not-false}
 use Rattle.racks.specs.Places.{vacant, board_in, Sized}
 use Rattle.handlers.proofs.Walk.{Playing, playing_none, playing_next, playing_all, plays_stopped}
 use borrow.Author.Rules.{rules}
@@ -55,7 +55,7 @@ returns c =
     let n = c.before in
     let k = n.before in
     let i = (turn k).loop.invariant in
-    record { played = λ g. playing_all _ i.3 _ _ _ _ (had k).next-of-journal.ensures (not_true _ n.if1.true); sized = i.2 }
+    record { played = λ g. playing_all _ i.3 _ _ _ _ (had k).next-of-journal.ensures (not-true _ n.if1.true); sized = i.2 }
 
 slice-aggregate-replay-end : tie.Need-slice-aggregate-replay-end invariant-loop decreases-loop
 slice-aggregate-replay-end c =

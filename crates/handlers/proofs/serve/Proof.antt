@@ -2,7 +2,7 @@
 use Prim.Native.Nat.{◌≤◌}
 use mathlib.Core.Path.{sym}
 use native.Mathlib.Omega.{arith}
-use borrow.Author.Tests.{not_true, not-false}
+use borrow.Author.Tests.{not-true, not-false}
 use Rattle.racks.specs.Places.{board_in, Sized}
 use Rattle.handlers.specs.Walk.{keeps}
 use Rattle.handlers.proofs.Walk.{Serving, serving_none, serving_next, serving_all, serving_end}
@@ -39,7 +39,7 @@ returns : tie.Need-returns invariant-loop decreases-loop
 returns c =
     let k = c.before in
     let i = (turn k).loop.invariant in
-    record { served = serving_all _ _ _ i.3 _ _ _ _ (had k).next-of-input.ensures (not_true _ c.if1.true); sized = i.2 }
+    record { served = serving_all _ _ _ i.3 _ _ _ _ (had k).next-of-input.ensures (not-true _ c.if1.true); sized = i.2 }
 
 slice-aggregate-end-line : tie.Need-slice-aggregate-end-line invariant-loop decreases-loop
 slice-aggregate-end-line c =

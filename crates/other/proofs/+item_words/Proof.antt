@@ -4,7 +4,7 @@ use mathlib.Core.Bool.{Bool, true, false, ◌&&◌}
 use mathlib.Core.List.{List}
 use native.Mathlib.Omega.{arith}
 use lib.Dec.{ltb}
-use borrow.Author.Tests.{lt-ltb, eqb-true, not_true, not-false}
+use borrow.Author.Tests.{lt-ltb, eqb-true, not-true, not-false}
 use Rattle.alphabet.specs.Alphabet.{text}
 use Rattle.text.specs.Words.{split, after, all, cells}
 use Rattle.text.proofs.Index.{after_here, after_end}
@@ -263,7 +263,7 @@ item-word-ends-requires : (t : ℕ) → item-lts.Need-word-ends-requires (item-c
 item-word-ends-requires t c κs = search rules
 
 item-returns-2 : (t : ℕ) → item-lts.Need-returns-2 (item-calls t) (item-given t) item.Post
-item-returns-2 t c = sym (item_none t c.before (not_true _ c.if2.true))
+item-returns-2 t c = sym (item_none t c.before (not-true _ c.if2.true))
 
 item-rule-at-requires : (t : ℕ) → item-lts.Need-rule-at-requires (item-calls t) (item-given t) item.Post
 item-rule-at-requires t c κs = search rules
@@ -286,7 +286,7 @@ item-returns-3 : (t : ℕ) → item-lts.Need-returns-3 (item-calls t) (item-give
 item-returns-3 t c =
     let r = c.before.before.before in
     let w = r.before.before in
-    let e : word_fits r.rule-at.result (item_first t w) ≡ false = sym c.before.text-fits.ensures ∙ not_true _ c.if3.true in
+    let e : word_fits r.rule-at.result (item_first t w) ≡ false = sym c.before.text-fits.ensures ∙ not-true _ c.if3.true in
     rw (item-parts t w (not-false _ r.before.if2.false), lt-ltb _ _ (item-ranked t w).1, ← r.rule-at.ensures, e)
 
 item-words-requires : (t : ℕ) → item-lts.Need-words-requires (item-calls t) (item-given t) item.Post
@@ -334,12 +334,12 @@ words-word-ends-requires : (t : ℕ) → words-lts.Need-word-ends-requires (word
 words-word-ends-requires t c κs = search rules
 
 words-shared-slice-read-if2 : (t : ℕ) → words-lts.Need-shared-slice-read-if2 (words-calls t) (words-given t) words.Post words-Inv words-μ
-words-shared-slice-read-if2 t c = words_inside t c.before.before (not_true _ c.before.if1.true)
+words-shared-slice-read-if2 t c = words_inside t c.before.before (not-true _ c.before.if1.true)
 
 words-returns : (t : ℕ) → words-lts.Need-returns (words-calls t) (words-given t) words.Post words-Inv words-μ
 words-returns t c =
     let i = c.before.before in
-    sym (words-none t i.before (not_true _ i.if1.true) c.if2.true)
+    sym (words-none t i.before (not-true _ i.if1.true) c.if2.true)
 
 words-item-requires : (t : ℕ) → words-lts.Need-item-requires (words-calls t) (words-given t) words.Post words-Inv words-μ
 words-item-requires t c κs =
@@ -348,14 +348,14 @@ words-item-requires t c κs =
     let run = run_all text (words-content t w) (words-at t w) (words_end t w) (words-ended t w).end_of_lem.ensures.0 in
     let p = (words-start t w).requires in
     let l = (words-ended t w).before in
-    let within = words_inside t w (not_true _ i.if1.true) in
+    let within = words_inside t w (not-true _ i.if1.true) in
     (omega (arith, p.0, l.before.loop.inv.0, l.loop-test.taken), ((search rules, within, c.if2.false, run), p.1.1))
 
 words-returns-2 : (t : ℕ) → words-lts.Need-returns-2 (words-calls t) (words-given t) words.Post words-Inv words-μ
 words-returns-2 t c =
     let o = c.before in
     let i = o.before.before in
-    c.item.ensures ∙ sym (words_item t i.before (not_true _ i.if1.true) o.if2.false)
+    c.item.ensures ∙ sym (words_item t i.before (not-true _ i.if1.true) o.if2.false)
 
 words-is-single-requires : (t : ℕ) → words-lts.Need-is-single-requires (words-calls t) (words-given t) words.Post words-Inv words-μ
 words-is-single-requires t c κs = search rules
@@ -384,7 +384,7 @@ words-returns-4 : (t : ℕ) → words-lts.Need-returns-4 (words-calls t) (words-
 words-returns-4 t c =
     let s = c.before.before.before.before in
     let w = s.before.before in
-    let e = sym c.before.text-fits.ensures ∙ not_true _ c.if4.true in
+    let e = sym c.before.text-fits.ensures ∙ not-true _ c.if4.true in
     rw (words-word t w (not-false _ s.before.if1.false), sym s.is-single.ensures ∙ c.before.before.before.if3.false, e)
 
 words-loop-less : (t : ℕ) → words-lts.Need-loop-smaller (words-calls t) (words-given t) words.Post words-Inv words-μ

@@ -1,0 +1,61 @@
+use mathlib.Core.Path.{◌≡◌, refl}
+use Rattle.space.specs.Fields.{inner}
+use Rattle.force.specs.InForce.{in_force}
+use Rattle.asked.specs.declared.Asked.{Asked}
+use Rattle.asked.specs.Asking.{rank_of}
+use Rattle.asked.specs.Parts.{Shows}
+use Rattle.asked.proofs.Steps.{shows_so, part_shown}
+use Rattle.asked.proofs.in_force.Goals.{After-ask}
+use Rattle.asked.proofs.in_force.Goals as goal
+
+-- the field in force stands at the place that the answer gives, in the strip or in the CHG
+holds : (c : After-ask) → {r : Asked} → c.ask.result ≡ r
+    → Shows r c.args.strip.now c.args.chg.now
+    (in_force (inner c.args.strip.now) (inner c.args.chg.now) (rank_of c.args.number))
+holds c is =
+    let a = c.args in
+    shows_so a.strip.now a.held a.chg.now a.number c.ask.ensures is
+
+pub slice_bounds-result-count : goal.slice_bounds-result-count
+slice_bounds-result-count c =
+    (holds (goal.at.slice_bounds-result-count c).After-ask c.in-InStrip.is).0
+
+pub slice_bounds-result-start : goal.slice_bounds-result-start
+slice_bounds-result-start c =
+    (holds (goal.at.slice_bounds-result-start c).After-ask c.in-InStrip.is).0
+
+pub slice_bounds-result-end : goal.slice_bounds-result-end
+slice_bounds-result-end c =
+    (holds (goal.at.slice_bounds-result-end c).After-ask c.in-InStrip.is).1
+
+pub slice_bounds-result-count-in-InChange : goal.slice_bounds-result-count-in-InChange
+slice_bounds-result-count-in-InChange c =
+    (holds (goal.at.slice_bounds-result-count-in-InChange c).After-ask c.in-InChange.is).0
+
+pub slice_bounds-result-start-in-InChange : goal.slice_bounds-result-start-in-InChange
+slice_bounds-result-start-in-InChange c =
+    (holds (goal.at.slice_bounds-result-start-in-InChange c).After-ask c.in-InChange.is).0
+
+pub slice_bounds-result-end-in-InChange : goal.slice_bounds-result-end-in-InChange
+slice_bounds-result-end-in-InChange c =
+    (holds (goal.at.slice_bounds-result-end-in-InChange c).After-ask c.in-InChange.is).1
+
+pub returns-in-InStrip : goal.returns-in-InStrip
+returns-in-InStrip c =
+    let a = c.args in
+    let is = c.in-InStrip.is in
+    part_shown a.strip.now a.held a.chg.now a.number c.ask.ensures is
+    a.strip.ptr.0 a.strip.ptr.1 a.chg.ptr.0 a.chg.ptr.1 _ _ _ (holds (goal.at.returns-in-InStrip c).After-ask is).2 (refl, refl)
+
+pub returns-in-InChange : goal.returns-in-InChange
+returns-in-InChange c =
+    let a = c.args in
+    let is = c.in-InChange.is in
+    part_shown a.strip.now a.held a.chg.now a.number c.ask.ensures is
+    a.strip.ptr.0 a.strip.ptr.1 a.chg.ptr.0 a.chg.ptr.1 _ _ _ (holds (goal.at.returns-in-InChange c).After-ask is).2 (refl, refl)
+
+pub returns-in-Refused : goal.returns-in-Refused
+returns-in-Refused c =
+    let a = c.args in
+    part_shown a.strip.now a.held a.chg.now a.number c.ask.ensures c.in-Refused.is
+    a.strip.ptr.0 a.strip.ptr.1 a.chg.ptr.0 a.chg.ptr.1 _ _ _ refl (refl, refl)

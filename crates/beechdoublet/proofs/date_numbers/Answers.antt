@@ -1,0 +1,5 @@
+use Rattle.beechdoublet.proofs.date_numbers.Goals as goal
+
+pub returns-in-Known : goal.returns-in-Known
+returns-in-Known c =
+    rw c.in-Known.is

@@ -1,0 +1,20 @@
+use mathlib.Core.Path.{refl, sym}
+use mathlib.Core.Bool.{true, false}
+use mathlib.Core.List.{[], ◌∷◌}
+use Rattle.supplement.specs.declared.Stage.TheVariants.{Start, Endurance, Persons, Radio, Survival, Lights, JacketRadio, Number, Capacity, Colours}
+use Rattle.supplement.specs.declared.Stage.TheVariants.{Aircraft, Remarks, Pilot, Refused}
+use Rattle.supplement.proofs.Stages.{among}
+use Rattle.canonical.specs.Rewriting.{settled}
+use Rattle.canonical.proofs.is_settled.Goals as goal
+
+-- `canonical::is_settled` meets its contract. Assumes nothing.
+pub returns-in-Colours : goal.returns-in-Colours
+returns-in-Colours c =
+    sym (among settled (λ s. true) (Colours ∷ (Aircraft ∷ (Remarks ∷ (Pilot ∷ [])))) c.args.stage c.in-Colours.keys1 refl)
+
+pub returns-in_default : goal.returns-in_default
+returns-in_default c =
+    sym
+    (among settled (λ s. false)
+    (Start ∷ (Endurance ∷ (Persons ∷ (Radio ∷ (Survival ∷ (Lights ∷ (JacketRadio ∷ (Number ∷ (Capacity ∷ (Refused ∷ []))))))))))
+    c.args.stage c.in-Colours.keys2 refl)

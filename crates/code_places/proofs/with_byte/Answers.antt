@@ -1,0 +1,29 @@
+use mathlib.Core.Path.{sym, ap, ◌∙◌}
+use lib.ListN.{length-set}
+use lib.Seq.{length-take-le}
+use Rattle.text.specs.Words.{cells}
+use Rattle.code_places.specs.Codes.{some_codes}
+use Rattle.code_places.proofs.Index.{over, held}
+use native.Mathlib.Omega.{arith}
+use Rattle.code_places.proofs.with_byte.Goals as goal
+
+-- `code_places::with_byte` meets its contract. Assumes nothing.
+pub returns-then-most-p : goal.returns-then-most-p
+returns-then-most-p c =
+    let a = c.args in
+    sym (over (cells 2 a.list.now) a.most a.p.now a.d c.if-most-p.true)
+
+pub slice_bounds-scratch-end : goal.slice_bounds-scratch-end
+slice_bounds-scratch-end c =
+    simp length-set (omega (arith, c.put-n.ensures.0, c.put-n.auto.out))
+
+pub slice_bounds-some_codes-end : goal.slice_bounds-some_codes-end
+slice_bounds-some_codes-end c =
+    sym (length-take-le _ _ (array-share-prefix-scratch c))
+
+pub returns : goal.returns
+returns c =
+    let a = c.args in
+    c.some_codes.ensures
+    ∙ ap (some_codes (cells 2 a.list.now) a.most)
+    (held a.p.now _ _ c.put-n.result a.d c.put-n.ensures.0 c.put-n.ensures.1 (omega (arith, c.if-most-p.false)))

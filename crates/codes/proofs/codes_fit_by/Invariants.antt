@@ -1,0 +1,13 @@
+use Prim.Native.Nat.{◌-◌, ◌≤◌}
+use mathlib.Core.Path.{◌≡◌, refl, sym, ◌∙◌}
+use lib.ListN.{length, drop, length-set}
+use Rattle.text.specs.Words.{cells}
+use Rattle.codes.specs.Codes.{codes, codes_fit}
+use Rattle.codes.proofs.Marks.{rest, rest_starts, not_listed, seen_before, marked, comes_again, comes_once}
+use Rattle.codes.proofs.codes_fit_by.Given as goal
+
+abbrev pub invariant-loop-at : goal.invariant-loop-at
+invariant-loop-at l = (l.at ≤ length l.s) × (length l.seen ≡ 64) × (codes_fit (cells 2 l.list) (codes l.s) ≡ rest l.seen (cells 2 l.list) (codes (drop l.at l.s)))
+
+abbrev pub decreases-loop-at : goal.decreases-loop-at
+decreases-loop-at l = length l.s - l.at

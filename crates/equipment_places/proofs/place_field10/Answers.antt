@@ -1,0 +1,7 @@
+use Rattle.equipment.specs.Field10.{present}
+use Rattle.equipment_places.proofs.place_field10.Goals as goal
+
+pub returns : goal.returns
+unfolding present
+returns c =
+    c.place_edition.ensures

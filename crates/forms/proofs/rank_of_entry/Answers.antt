@@ -1,0 +1,14 @@
+use lib.Seq.{length-take-le}
+use mathlib.Core.Path.{sym}
+use Rattle.forms.specs.Field22.{labels}
+use Rattle.forms.proofs.Index.{rank_known}
+use Rattle.forms.proofs.rank_of_entry.Goals as goal
+
+pub slice_bounds-rank_in_cells-end : goal.slice_bounds-rank_in_cells-end
+slice_bounds-rank_in_cells-end c =
+    sym (length-take-le _ _ c.find-o.ensures.lower_bound.1)
+
+pub returns : goal.returns
+unfolding labels
+returns c =
+    rank_known _ _ c.find-o.ensures.value _ c.rank_in_cells.ensures

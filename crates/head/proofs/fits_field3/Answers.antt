@@ -1,0 +1,26 @@
+use mathlib.Core.Path.{sym, ◌∙◌}
+use lib.Seq.{length-take-le}
+use Rattle.text.proofs.Index.{rest}
+use Rattle.head.specs.Field3.{types}
+use Rattle.head.proofs.Laws.{type_not, type_is, no_type_content}
+use native.Mathlib.Omega.{arith}
+use Rattle.head.proofs.fits_field3.Goals as goal
+
+-- `head::fits_field3` meets its contract. Assumes nothing.
+pub returns-then-s-lt3 : goal.returns-then-s-lt3
+returns-then-s-lt3 c =
+    sym (no_type_content c.args.s.now c.if-s-lt3.true)
+
+pub slice_bounds-in_cells-end : goal.slice_bounds-in_cells-end
+slice_bounds-in_cells-end c =
+    sym (length-take-le 3 c.args.s.now (omega arith))
+
+pub returns-then-not-in_cells : goal.returns-then-not-in_cells
+unfolding types
+returns-then-not-in_cells c =
+    sym (type_not _ (sym c.in_cells.ensures ∙ c.if-not-in_cells.true)
+
+pub returns : goal.returns
+unfolding types
+returns c =
+    rw rest at c.are_numbers.ensures ∙ sym (type_is _ (sym c.in_cells.ensures ∙ c.if-not-in_cells.false)

@@ -1,0 +1,15 @@
+use Prim.Native.Nat.{ℕ, ◌-◌, ◌<◌}
+use mathlib.Core.Path.{◌≡◌, refl}
+use lib.ListN.{length, get_or}
+use Rattle.text.specs.Words.{split}
+use Rattle.kinds.specs.declared.MessageType.{MessageType}
+use Rattle.kinds.specs.Kinds.{forms_of, form_at, most_fields, RowFor}
+use Rattle.message.specs.Ends.{start_in, EndAt}
+use Rattle.message.proofs.Walk.{Walked, walk_starts, walk_found, walk_clear, walk_next}
+use Rattle.message.proofs.fields_fault.Given as goal
+
+abbrev pub invariant-loop-row : goal.invariant-loop-row
+invariant-loop-row l = ((t : MessageType) → RowFor t l.count l.row → length (forms_of t l.count) ≡ length (split 45 l.s) → Walked t l.count l.s l.seen l.at l.j) × (l.at ≡ start_in l.ends l.j)
+
+abbrev pub decreases-loop-row : goal.decreases-loop-row
+decreases-loop-row l = length l.s - l.at

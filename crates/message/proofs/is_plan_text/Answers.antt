@@ -1,0 +1,32 @@
+use mathlib.Core.Path.{◌≡◌}
+use native.Mathlib.Omega.{arith}
+use lib.ListN.{length}
+use Rattle.text.specs.Words.{split}
+use Rattle.message.proofs.Plans.{nine_contents}
+use Rattle.message.proofs.is_plan_text.Goals.{Start}
+use Rattle.message.proofs.is_plan_text.Goals as goal
+
+-- `message::is_plan_text` meets its contract. Assumes nothing.
+nine : (c : Start) → length (split 45 c.args.s.now) ≡ 9
+nine c =
+    nine_contents c.args.t c.args.count c.args.s.now c.requires.0 c.requires.1
+
+pub field_ends-ends-requires : goal.field_ends-ends-requires
+field_ends-ends-requires c =
+    omega (arith, nine (goal.at.field_ends-ends-requires c).Start)
+
+pub fields_fault-requires : goal.fields_fault-requires
+fields_fault-requires c =
+    (c.field_ends-ends.ensures, c.requires.1)
+
+pub unexplained_by-requires : goal.unexplained_by-requires
+unexplained_by-requires c =
+    (c.field_ends-ends.ensures, nine (goal.at.unexplained_by-requires c).Start)
+
+pub returns-in-At : goal.returns-in-At
+returns-in-At c =
+    rw (← c.fields_fault.ensures, c.in-At.is)
+
+pub returns-in-Clear : goal.returns-in-Clear
+returns-in-Clear c =
+    rw (← c.fields_fault.ensures, c.in-Clear.is, ← c.unexplained_by.ensures)

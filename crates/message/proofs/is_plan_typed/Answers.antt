@@ -1,0 +1,24 @@
+use native.Mathlib.Omega.{arith}
+use Rattle.message.proofs.Steps.{some_bytes}
+use Rattle.message.proofs.is_plan_typed.Goals as goal
+
+-- `message::is_plan_typed` meets its contract. Assumes nothing.
+pub three_of-requires : goal.three_of-requires
+three_of-requires c =
+    omega (arith, some_bytes c.args.msg.now c.requires)
+
+pub is_plan_counted-requires : goal.is_plan_counted-requires
+is_plan_counted-requires c =
+    c.requires
+
+pub returns-in-Read : goal.returns-in-Read
+returns-in-Read c =
+    rw (← c.three_of.ensures, ← c.type_named.ensures, c.in-Read.is) c.is_plan_counted.ensures
+
+pub returns-in-NotRead : goal.returns-in-NotRead
+returns-in-NotRead c =
+    rw (← c.three_of.ensures, ← c.type_named.ensures, c.in-NotRead.is)
+
+pub returns-in-NoType : goal.returns-in-NoType
+returns-in-NoType c =
+    rw (← c.three_of.ensures, ← c.type_named.ensures, c.in-NoType.is)

@@ -1,0 +1,11 @@
+use Prim.Native.Nat.{ℕ, ◌-◌, ◌≤◌, ◌<◌}
+use mathlib.Core.Path.{◌≡◌, subst}
+use lib.ListN.{length}
+use Rattle.message.specs.Ends.{Noted}
+use Rattle.message.proofs.note_each.Given as goal
+
+abbrev pub invariant-loop-i : goal.invariant-loop-i
+invariant-loop-i l = (l.i ≤ l.to) × (l.to ≤ length l.s) × Noted l.s l.ends l.noted l.i
+
+abbrev pub decreases-loop-i : goal.decreases-loop-i
+decreases-loop-i l = l.to - l.i

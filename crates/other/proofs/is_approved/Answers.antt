@@ -1,0 +1,28 @@
+use mathlib.Core.Path.{◌≡◌, refl, sym, ◌∙◌}
+use mathlib.Core.Bool.{true}
+use borrow.Author.Tests.{not-false}
+use Rattle.codes.specs.Codes.{codes, codes_fit}
+use Rattle.other.specs.Rules.{approvals}
+use Rattle.other.proofs.Texts.{approved_none, approved_count, approved_other}
+use Rattle.other.proofs.is_approved.Goals.{After-codes_fit_by}
+use Rattle.other.proofs.is_approved.Goals as goal
+
+told : (c : After-codes_fit_by) → codes_fit approvals (codes c.args.w.now) ≡ c.codes_fit_by.result
+unfolding approvals
+told c =
+    sym c.codes_fit_by.ensures
+
+of-codes : (c : tie.Else1) → codes_fit approvals (codes (w c.before)) ≡ true
+of-codes c = told c.before ∙ not-false _ c.if1.false
+
+pub returns-then-not-codes_fit_by : goal.returns-then-not-codes_fit_by
+returns-then-not-codes_fit_by c =
+    sym (approved_other c.args.w.now (told (goal.at.returns-then-not-codes_fit_by c).After-codes_fit_by ∙ c.if-not-codes_fit_by.true)
+
+pub returns-then-w-lt1 : goal.returns-then-w-lt1
+returns-then-w-lt1 c =
+    sym (approved_none c.args.w.now (of-codes c) c.if-w-lt1.true)
+
+pub returns : goal.returns
+returns c =
+    sym (approved_count c.args.w.now (of-codes c) c.if-w-lt1.false)

@@ -1,0 +1,52 @@
+use lib.ListN.{length, drop}
+use Prim.Native.Nat.{ℕ, ◌-◌, ◌≤◌}
+use mathlib.Core.Path.{◌≡◌, refl, sym, ap, ◌∙◌}
+use mathlib.Core.Logic.{⊎_elim}
+use mathlib.Core.List.{List}
+use lib.Seq.{length-take-le}
+use Rattle.text.specs.Words.{Word, split, after}
+use Rattle.text.proofs.Index.{after_here, after_end}
+use Rattle.other.specs.Field18.{group, from_key}
+use Rattle.other.proofs.Keys.{found_here, found_none, from_other, from_plain}
+use borrow.Author.Rules.{rules}
+use native.Mathlib.Omega.{arith}
+use Rattle.other.proofs.words_at.Goals as goal
+
+-- where the arms meet, the word at `at` is not of the key
+passed : (c : tie.Joined1 invariant-loop decreases-loop)
+    → let r = c.before in
+    from_key (sought r) (group (split 32 (content r))).grouped
+    ≡ from_key (sought r) (group (after 32 (drop (ended r).find.result (content r)))).grouped
+passed c =
+    let r = c.before in
+    let l = (looped r).loop in
+    let f = (ended r).find in
+    let g = r.find2 in
+    l.inv.1
+    ∙ ⊎_elim
+    (λ w. from_other (sought r) (content r) l.at f.result f.ensures.0 g.result g.ensures.0 w.0.taken (sym w.2.ensures ∙ w.3.left))
+    (λ w. from_plain (sought r) (content r) l.at f.result f.ensures.0 g.result g.ensures.0 w.left)
+    c.if1.branch
+
+pub slice_bounds-same_bytes-end : goal.slice_bounds-same_bytes-end
+slice_bounds-same_bytes-end c =
+    sym (length-take-le _ _ c.find-o.ensures.lower_bound.1)
+
+pub returns-then-same_bytes : goal.returns-then-same_bytes
+returns-then-same_bytes c =
+    let l = c.loop-w in
+    let f = c.find-e in
+    let g = c.find-o in
+    let e = sym c.same_bytes.ensures ∙ c.if-same_bytes.true in
+    found_here c.args.key.now c.args.s.now l.at f.result f.ensures.value g.result g.ensures.value c.if-o-w.true e
+    f.ensures.lower_bound.1 l.invariant.1
+
+pub returns-then-e-s : goal.returns-then-e-s
+returns-then-e-s c =
+    let last = after_end 32 c.args.s.now c.find-e.result (omega arith) in
+    found_none c.args.key.now c.args.s.now (passed c ∙ ap (λ (ws : List Word). from_key c.args.key.now (group ws).grouped) last)
+
+pub loop-w-preserved : goal.loop-w-preserved
+loop-w-preserved c =
+    let next = after_here 32 c.args.s.now c.find-e.result (omega arith) in
+    (search rules, passed c ∙ ap (λ (ws : List Word). from_key c.args.key.now (group ws).grouped) next)

@@ -1,0 +1,16 @@
+use Prim.Native.Nat.{ℕ, suc, ◌+◌, ◌-◌, ◌<◌, ◌≤◌}
+use mathlib.Core.Path.{◌≡◌, sym, ◌∙◌}
+use lib.ListN.{length, take, drop}
+use Rattle.text.specs.Words.{Word, split, cells}
+use Rattle.places.specs.Words.{words_place}
+use Rattle.other.specs.Rules.{Edition18, edition}
+use Rattle.other_places.specs.Places.{items, items_word, items_place}
+use Rattle.other_places.proofs.place_edition.Given as goal
+
+abbrev pub invariant-loop-at : goal.invariant-loop-at
+invariant-loop-at l = (l.at ≤ length l.s)
+    × (words_place (items (edition (cells 4 l.keys) l.rules)) (items_word (edition (cells 4 l.keys) l.rules)) 0 (split 32 l.s)
+    ≡ l.at + words_place (items (edition (cells 4 l.keys) l.rules)) (items_word (edition (cells 4 l.keys) l.rules)) l.k (split 32 (drop l.at l.s)))
+
+abbrev pub decreases-loop-at : goal.decreases-loop-at
+decreases-loop-at l = length l.s - l.at

@@ -1,0 +1,12 @@
+use mathlib.Core.Path.{refl, ap, ◌∙◌}
+use Rattle.places.specs.Parts.{larger}
+use Rattle.other.specs.Rules.{base, sound_keys}
+use Rattle.other_places.specs.Places.{place18}
+use Rattle.other_places.proofs.place_field18.Goals as goal
+
+pub returns : goal.returns
+unfolding base place18
+returns c =
+    let items = c.place_edition in
+    let none = c.matched_of in
+    c.larger_of.ensures ∙ ap (λ x. larger x items.result) none.ensures ∙ ap (larger _) items.ensures

@@ -1,0 +1,17 @@
+use mathlib.Core.Path.{sym, ap, ◌∙◌}
+use native.Mathlib.Nat.{zero-add}
+use Rattle.outer.specs.declared.Outer.TheVariants.{Bad}
+use mathlib.Core.Path.{sym}
+use native.Mathlib.Omega.{arith}
+use Rattle.outer.proofs.Laws.{letters_known, letters_all}
+use Rattle.outer.proofs.check_letters.Goals as goal
+
+pub returns-then-n-msg : goal.returns-then-n-msg
+returns-then-n-msg c =
+    let k = c.known_bytes-n.ensures in
+    sym (letters_known c.args.msg.now 0 c.known_bytes-n.result k.0 c.if-n-msg.true ∙ ap (Bad 3) (zero-add _))
+
+pub returns : goal.returns
+returns c =
+    let k = c.known_bytes-n.ensures in
+    sym (letters_all c.args.msg.now 0 (omega (arith, k.0, c.if-n-msg.false)))

@@ -1,0 +1,13 @@
+use Prim.Native.Nat.{ℕ, ◌+◌, ◌-◌, ◌≤◌}
+use mathlib.Core.Path.{◌≡◌, sym, ap, ◌∙◌}
+use mathlib.Core.List.{[]}
+use Rattle.rooms.specs.Rooms.{held_in}
+use Rattle.racks.specs.Places.{rack_at}
+use Rattle.racks.proofs.Loops.{ahead, held_first, held_none, held_one, held_done}
+use Rattle.racks.proofs.held_by.Given as goal
+
+abbrev pub invariant-loop-k : goal.invariant-loop-k
+invariant-loop-k l = (l.k ≤ 10) × (l.from ≤ 10) × (l.n ≤ l.k) × (l.n + held_in (ahead l.board.places l.from l.k) ≡ held_in (rack_at l.board.places [] l.from))
+
+abbrev pub decreases-loop-k : goal.decreases-loop-k
+decreases-loop-k l = 10 - l.k

@@ -1,0 +1,13 @@
+use Prim.Native.Nat.{ℕ, ◌+◌, ◌-◌, ◌≤◌}
+use mathlib.Core.Path.{◌≡◌, sym, ap, ◌∙◌}
+use mathlib.Core.List.{[]}
+use Rattle.rooms.specs.Rooms.{lowest}
+use Rattle.racks.specs.Places.{rack_at}
+use Rattle.racks.proofs.Loops.{ahead, lowest_first, lowest_here, lowest_on, lowest_done}
+use Rattle.racks.proofs.lowest_of.Given as goal
+
+abbrev pub invariant-loop-k : goal.invariant-loop-k
+invariant-loop-k l = (l.k ≤ 10) × (l.from ≤ 10) × (l.k + lowest (ahead l.board.places l.from l.k) ≡ lowest (rack_at l.board.places [] l.from))
+
+abbrev pub decreases-loop-k : goal.decreases-loop-k
+decreases-loop-k l = 10 - l.k

@@ -1,0 +1,33 @@
+use mathlib.Core.Path.{◌≡◌, sym, ap, ◌∙◌}
+use Prim.Native.Nat.{ℕ, ◌-◌}
+use mathlib.Core.Bool.{◌&&◌}
+use lib.Dec.{leb}
+use lib.ListN.{length}
+use Rattle.alphabet.specs.Alphabet.{digit}
+use Rattle.text.specs.Words.{all}
+use Rattle.text.proofs.Index.{rest}
+use Rattle.route.specs.Levels.{number_at}
+use Rattle.route.specs.Points.{polar_of, radial_fits}
+use Rattle.route.proofs.Signs.{bearing_far, by_bearing}
+use Rattle.route.proofs.with_bearing.Goals.{After-all_of}
+use Rattle.route.proofs.with_bearing.Goals as goal
+
+digits-there : (c : After-all_of) → all digit (polar_of c.args.w.now) ≡ c.all_of.result
+digits-there c =
+    ap (all digit) (sym (rest c.args.w.now (length c.args.w.now - 6))) ∙ sym c.all_of.ensures
+
+told : (c : After-all_of) → radial_fits c.args.w.now ≡ (all digit (polar_of c.args.w.now) && leb (number_at 0 3 (polar_of c.args.w.now)) 360)
+told c =
+    by_bearing c.args.w.now c.requires.1 c.requires.0 c.if-w-gt11.false
+
+pub returns-then-w-gt11 : goal.returns-then-w-gt11
+returns-then-w-gt11 c =
+    sym (bearing_far _ c.if-w-gt11.true)
+
+pub returns-then-not-all_of : goal.returns-then-not-all_of
+returns-then-not-all_of c =
+    rw (told (goal.at.returns-then-not-all_of c).After-all_of, digits-there (goal.at.returns-then-not-all_of c).After-all_of ∙ c.if-not-all_of.true
+
+pub returns : goal.returns
+returns c =
+    rw (told (goal.at.returns c).After-all_of, digits-there (goal.at.returns c).After-all_of ∙ c.if-not-all_of.false, sym c.three.ensures.0)

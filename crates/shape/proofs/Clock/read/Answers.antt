@@ -1,0 +1,17 @@
+use mathlib.Core.Path.{sym, ◌∙◌}
+use Rattle.shape.specs.Time.{clock_hours}
+use Rattle.shape.proofs.Times.{counted}
+use native.Mathlib.Omega.{arith}
+use Rattle.shape.proofs.Clock.read.Goals as goal
+
+pub minutes_of-requires : goal.minutes_of-requires
+minutes_of-requires c =
+    counted clock_hours c.args.w.now (omega arith) (sym c.is_time.ensures ∙ c.if-is_time.true)
+
+pub returns-then-is_time : goal.returns-then-is_time
+returns-then-is_time c =
+    rw (sym c.is_time.ensures ∙ c.if-is_time.true, ← c.minutes_of.ensures)
+
+pub returns-else-is_time : goal.returns-else-is_time
+returns-else-is_time c =
+    rw (sym c.is_time.ensures ∙ c.if-is_time.false)

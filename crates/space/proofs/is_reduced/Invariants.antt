@@ -1,0 +1,11 @@
+use Prim.Native.Nat.{ℕ, ◌-◌, ◌≤◌}
+use mathlib.Core.Path.{◌≡◌, refl, sym, ◌∙◌}
+use lib.ListN.{length, drop}
+use Rattle.space.specs.Stays.{all_stay}
+use Rattle.space.proofs.is_reduced.Given as goal
+
+abbrev pub invariant-loop-i : goal.invariant-loop-i
+invariant-loop-i l = (l.i ≤ length l.msg) × (all_stay l.last (drop l.i l.msg) ≡ all_stay 0 l.msg)
+
+abbrev pub decreases-loop-i : goal.decreases-loop-i
+decreases-loop-i l = length l.msg - l.i

@@ -1,0 +1,8 @@
+use mathlib.Core.Path.{ap}
+use Rattle.state.specs.declared.State.{State}
+use Rattle.state.specs.declared.Strip.{Strip}
+use Rattle.state.proofs.Strip.next.Goals as goal
+
+pub returns : goal.returns
+returns c =
+    ap {B = Strip} (λ (s : State). record { state = s }) c.next_state-state.ensures

@@ -1,0 +1,20 @@
+use mathlib.Core.Path.{refl, sym}
+use mathlib.Core.Bool.{true, false}
+use mathlib.Core.List.{[], ◌∷◌}
+use Rattle.supplement.specs.declared.Stage.TheVariants.{Start, Endurance, Persons, Radio, Survival, Lights, JacketRadio, Number, Capacity, Colours}
+use Rattle.supplement.specs.declared.Stage.TheVariants.{Aircraft, Remarks, Pilot, Refused}
+use Rattle.supplement.specs.Walk.{complete as complete_at}
+use Rattle.supplement.proofs.Stages.{among}
+use Rattle.supplement.proofs.complete.Goals as goal
+
+-- `supplement::complete` meets its contract. Assumes nothing.
+pub returns-in-Start : goal.returns-in-Start
+returns-in-Start c =
+    sym (among complete_at (λ s. false) (Start ∷ (Number ∷ (Refused ∷ []))) c.args.stage c.in-Start.keys1 refl)
+
+pub returns-in_default : goal.returns-in_default
+returns-in_default c =
+    sym
+    (among complete_at (λ s. true)
+    (Endurance ∷ (Persons ∷ (Radio ∷ (Survival ∷ (Lights ∷ (JacketRadio ∷ (Capacity ∷ (Colours ∷ (Aircraft ∷ (Remarks ∷ (Pilot ∷ [])))))))))))
+    c.args.stage c.in-Start.keys2 refl)

@@ -1,0 +1,12 @@
+use Prim.Native.Nat.{ℕ, ◌+◌, ◌-◌, ◌*◌, ◌<◌, ◌≤◌}
+use mathlib.Core.Path.{◌≡◌, sym, ap, ◌∙◌}
+use lib.ListN.{length, drop}
+use Rattle.text.specs.Words.{rank_from, cells}
+use Rattle.text.proofs.Index.{cells_from, drop_cells, next_place, cell_inside, cells_over, cell_found, cell_next, no_cell}
+use Rattle.text.proofs.rank_behind.Given as goal
+
+abbrev pub invariant-loop-k : goal.invariant-loop-k
+invariant-loop-k l = rank_from (l.last + 1) l.w (drop l.last (cells l.width l.list)) ≡ rank_from (l.k + 1) l.w (cells_from (l.k + 1) l.width (l.k * l.width) l.list)
+
+abbrev pub decreases-loop-k : goal.decreases-loop-k
+decreases-loop-k l = l.n - l.k
