@@ -24,15 +24,15 @@ slice_bounds-at_elapsed-end c =
 
 pub returns-then-not-is_elapsed : goal.returns-then-not-is_elapsed
 returns-then-not-is_elapsed c =
-    sym (plan_stop c.args.s.now _ c.find-e.ensures.value (sym (tried (goal.at.returns-then-not-is_elapsed c).After-is_elapsed) ∙ c.if-not-is_elapsed.true)
+    sym (plan_stop c.args.s.now _ c.find-e.ensures.value (sym (tried (goal.at.returns-then-not-is_elapsed c).After-is_elapsed) ∙ c.if-not-is_elapsed.true))
 
 pub returns-then-e-s : goal.returns-then-e-s
 returns-then-e-s c =
-    sym (plan_last c.args.s.now _ c.find-e.ensures.value (sym (tried (goal.at.returns-then-e-s c).After-is_elapsed) ∙ c.if-not-is_elapsed.false (omega arith))
+    sym (plan_last c.args.s.now _ c.find-e.ensures.value (sym (tried (goal.at.returns-then-e-s c).After-is_elapsed) ∙ c.if-not-is_elapsed.false) (omega arith))
 
 pub returns : goal.returns
 returns c =
     let f = c.find-e in
     c.alternates.ensures
     ∙ ap (λ (t : List ℕ). few_aerodromes most_alternates (split 32 t)) (rest c.args.s.now (f.result + 1))
-    ∙ sym (plan_next c.args.s.now f.result f.ensures.value (sym (tried (goal.at.returns c).After-is_elapsed) ∙ c.if-not-is_elapsed.false (omega arith))
+    ∙ sym (plan_next c.args.s.now f.result f.ensures.value (sym (tried (goal.at.returns c).After-is_elapsed) ∙ c.if-not-is_elapsed.false) (omega arith))

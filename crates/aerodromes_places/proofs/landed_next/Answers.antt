@@ -24,17 +24,17 @@ compared c =
 pub returns-then-not-is_time_of_day : goal.returns-then-not-is_time_of_day
 returns-then-not-is_time_of_day c =
     let a = c.args in
-    first_off a.n a.w.now c.if-n-eq0.true (sym (tried (goal.at.returns-then-not-is_time_of_day c).After-is_time_of_day) ∙ c.if-not-is_time_of_day.true
+    first_off a.n a.w.now c.if-n-eq0.true (sym (tried (goal.at.returns-then-not-is_time_of_day c).After-is_time_of_day) ∙ c.if-not-is_time_of_day.true)
 
 pub returns-then-same_bytes : goal.returns-then-same_bytes
 returns-then-same_bytes c =
     let a = c.args in
-    first_unlisted a.n a.w.now c.if-n-eq0.taken (fits (goal.at.returns-then-same_bytes c).After-same_bytes) (compared (goal.at.returns-then-same_bytes c).After-same_bytes ∙ c.if-same_bytes.true)
+    first_unlisted a.n a.w.now c.if-n-eq0.true (fits (goal.at.returns-then-same_bytes c).After-same_bytes) (compared (goal.at.returns-then-same_bytes c).After-same_bytes ∙ c.if-same_bytes.true)
 
 pub returns-then-n-eq0 : goal.returns-then-n-eq0
 returns-then-n-eq0 c =
     let a = c.args in
-    first_listed a.n a.w.now c.if-n-eq0.taken (fits (goal.at.returns-then-n-eq0 c).After-same_bytes) (compared (goal.at.returns-then-n-eq0 c).After-same_bytes ∙ c.if-same_bytes.false)
+    first_listed a.n a.w.now c.if-n-eq0.true (fits (goal.at.returns-then-n-eq0 c).After-same_bytes) (compared (goal.at.returns-then-n-eq0 c).After-same_bytes ∙ c.if-same_bytes.false)
 
 pub returns-then-n-eq1 : goal.returns-then-n-eq1
 returns-then-n-eq1 c =

@@ -34,7 +34,7 @@ with_date_lem : (c : After-date_word-date) → dated_by c.date_word-date.result.
     ≡ content_in Delays c.args.own.now c.args.said.now c.args.k
 with_date_lem c =
     ap (λ (d : Word). dated_by d c.args.own.now) (c.date_word-date.ensures ∙ ap date_in c.field-then-k-eq-PLAN_18.ensures)
-    ∙ redated c.args.own.now c.args.said.now c.args.k c.if-k-eq-PLAN_13.false c.if-k-eq-PLAN_18.taken
+    ∙ redated c.args.own.now c.args.said.now c.args.k c.if-k-eq-PLAN_13.false c.if-k-eq-PLAN_18.true
 
 as_own : (c : Else-k-eq-PLAN_18) → c.args.own.now ≡ content_in Delays c.args.own.now c.args.said.now c.args.k
 as_own c =

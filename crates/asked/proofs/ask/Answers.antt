@@ -42,11 +42,9 @@ ask_read-requires c =
 
 pub returns-in-Refused : goal.returns-in-Refused
 returns-in-Refused c =
-    let a = c.args in
-    not_opened a.strip.now a.held a.chg.now a.number _ _ _ (sym c.open_strip.ensures.0 ∙ c.in-Refused.is)
+    let a = c.args in let told = not_opened a.strip.now a.held a.chg.now a.number _ _ _ (sym c.open_strip.ensures.0 ∙ c.in-Refused.is) in record { value = told.0; shows = told.1 }
 
 pub returns-in-Read : goal.returns-in-Read
 returns-in-Read c =
-    let a = c.args in
-    was_opened a.strip.now a.held a.chg.now a.number _ _ (is_open (goal.at.returns-in-Read c).In-Read)
-    _ (whole_there a.strip.now a.held a.chg.now _ _ (is_open (goal.at.returns-in-Read c).In-Read) _ _ c.open_strip.ensures.1) _ c.ask_read.ensures
+    let a = c.args in let told = was_opened a.strip.now a.held a.chg.now a.number _ _ (is_open (goal.at.returns-in-Read c).In-Read)
+    _ (whole_there a.strip.now a.held a.chg.now _ _ (is_open (goal.at.returns-in-Read c).In-Read) _ _ c.open_strip.ensures.1) _ c.ask_read.ensures in record { value = told.0; shows = told.1 }

@@ -42,20 +42,15 @@ slice_bounds-result-end-in-InChange c =
 
 pub returns-in-InStrip : goal.returns-in-InStrip
 returns-in-InStrip c =
-    let a = c.args in
-    let is = c.in-InStrip.is in
-    part_shown a.strip.now a.held a.chg.now a.number c.ask.ensures is
-    a.strip.ptr.0 a.strip.ptr.1 a.chg.ptr.0 a.chg.ptr.1 _ _ _ (holds (goal.at.returns-in-InStrip c).After-ask is).2 (refl, refl)
+    let a = c.args in let is = c.in-InStrip.is in let told = part_shown a.strip.now a.held a.chg.now a.number c.ask.ensures is
+    a.strip.ptr.0 a.strip.ptr.1 a.chg.ptr.0 a.chg.ptr.1 _ _ _ (holds (goal.at.returns-in-InStrip c).After-ask is).2 (refl, refl) in record { result_value = told.0; stands_at = told.1 }
 
 pub returns-in-InChange : goal.returns-in-InChange
 returns-in-InChange c =
-    let a = c.args in
-    let is = c.in-InChange.is in
-    part_shown a.strip.now a.held a.chg.now a.number c.ask.ensures is
-    a.strip.ptr.0 a.strip.ptr.1 a.chg.ptr.0 a.chg.ptr.1 _ _ _ (holds (goal.at.returns-in-InChange c).After-ask is).2 (refl, refl)
+    let a = c.args in let is = c.in-InChange.is in let told = part_shown a.strip.now a.held a.chg.now a.number c.ask.ensures is
+    a.strip.ptr.0 a.strip.ptr.1 a.chg.ptr.0 a.chg.ptr.1 _ _ _ (holds (goal.at.returns-in-InChange c).After-ask is).2 (refl, refl) in record { result_value = told.0; stands_at = told.1 }
 
 pub returns-in-Refused : goal.returns-in-Refused
 returns-in-Refused c =
-    let a = c.args in
-    part_shown a.strip.now a.held a.chg.now a.number c.ask.ensures c.in-Refused.is
-    a.strip.ptr.0 a.strip.ptr.1 a.chg.ptr.0 a.chg.ptr.1 _ _ _ refl (refl, refl)
+    let a = c.args in let told = part_shown a.strip.now a.held a.chg.now a.number c.ask.ensures c.in-Refused.is
+    a.strip.ptr.0 a.strip.ptr.1 a.chg.ptr.0 a.chg.ptr.1 _ _ _ refl (refl, refl) in record { result_value = told.0; stands_at = told.1 }

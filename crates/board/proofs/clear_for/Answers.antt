@@ -14,7 +14,7 @@ returns-then-not-is_over c =
     let a = c.args in
     λ bytes.
     clear_not a.f a.slot a.board bytes _ _ _ c.held_in.ensures c.in-Flight.is _ c.refused-then-not-is_over.ensures
-    (sym c.is_over.ensures ∙ c.if-not-is_over.true
+    (sym c.is_over.ensures ∙ c.if-not-is_over.true)
 
 pub take_off-b-requires : goal.take_off-b-requires
 take_off-b-requires c =
@@ -30,4 +30,4 @@ returns-else-not-is_over c =
     let a = c.args in
     λ bytes.
     clear_done a.f a.slot a.board bytes _ _ _ c.held_in.ensures c.in-Flight.is _
-    (sym c.is_over.ensures ∙ c.if-not-is_over.false refl c.take_off-b.ensures
+    (sym c.is_over.ensures ∙ c.if-not-is_over.false) refl c.take_off-b.ensures

@@ -37,13 +37,13 @@ below c =
 pub returns-then-not-has_room : goal.returns-then-not-has_room
 returns-then-not-has_room c =
     let a = c.args in
-    file_full a.f a.board a.bytes.now a.msg.now _ c.refused.ensures (sym c.has_room.ensures ∙ c.if-not-has_room.true
+    file_full a.f a.board a.bytes.now a.msg.now _ c.refused.ensures (sym c.has_room.ensures ∙ c.if-not-has_room.true)
 
 pub returns-then-not-is_plan : goal.returns-then-not-is_plan
 returns-then-not-is_plan c =
     let a = c.args in
     file_unfit a.f a.board a.bytes.now a.msg.now (room (goal.at.returns-then-not-is_plan c).After-read) _ _ _ (read_as_lem (goal.at.returns-then-not-is_plan c).In-Accepted-2) c.refused-then-not-is_plan.ensures
-    (sym c.is_plan.ensures ∙ c.if-not-is_plan.true
+    (sym c.is_plan.ensures ∙ c.if-not-is_plan.true)
 
 pub slice_bounds-scratch-end : goal.slice_bounds-scratch-end
 slice_bounds-scratch-end c =
@@ -66,4 +66,4 @@ pub returns-else-not-is_plan : goal.returns-else-not-is_plan
 returns-else-not-is_plan c =
     let a = c.args in
     file_filed a.f a.board a.bytes.now a.msg.now (room (goal.at.returns-else-not-is_plan c).After-read) _ _ _ (read_as_lem (goal.at.returns-else-not-is_plan c).In-Accepted-2) lent c.read.new.out _ _
-    (sym c.is_plan.ensures ∙ c.if-not-is_plan.false c.read.ensures.1 refl c.lowest_of-k.ensures refl c.put-b.ensures
+    (sym c.is_plan.ensures ∙ c.if-not-is_plan.false) c.read.ensures.1 refl c.lowest_of-k.ensures refl c.put-b.ensures

@@ -6,7 +6,7 @@ use Rattle.canonical.proofs.spelled_length.Goals as goal
 
 pub returns-then-not-fits_field19 : goal.returns-then-not-fits_field19
 returns-then-not-fits_field19 c =
-    sym (ap length (written_other c.args.s.now (sym c.fits_field19.ensures ∙ c.if-not-fits_field19.true))
+    sym (ap length (written_other c.args.s.now (sym c.fits_field19.ensures ∙ c.if-not-fits_field19.true)))
 
 pub returns : goal.returns
 returns c =

@@ -21,7 +21,7 @@ returns-then-not-allows c =
     let a = c.args in
     forbidden a.role a.plan.now a.held a.said.now _ (says (goal.at.returns-then-not-allows c).In-Says) _ c.differences_in-found.ensures
     (sym c.any.ensures ∙ c.if-any.false)
-    (sym c.allows.ensures ∙ c.if-not-allows.true
+    (sym c.allows.ensures ∙ c.if-not-allows.true)
 
 pub amended_cause-requires : goal.amended_cause-requires
 amended_cause-requires c =
@@ -37,4 +37,4 @@ returns-else-not-allows c =
     let a = c.args in
     allowed a.role a.plan.now a.held a.said.now _ (says (goal.at.returns-else-not-allows c).In-Says) _ c.differences_in-found.ensures
     (sym c.any.ensures ∙ c.if-any.false)
-    (sym c.allows.ensures ∙ c.if-not-allows.false _ c.amended_cause.ensures
+    (sym c.allows.ensures ∙ c.if-not-allows.false) _ c.amended_cause.ensures

@@ -14,7 +14,7 @@ is-date c =
 pub returns-then-not-word_fits : goal.returns-then-not-word_fits
 returns-then-not-word_fits c =
     day_none (date_in c.args.s.now) c.date_word-w.result.now c.date_word-w.ensures
-    (sym c.word_fits.ensures ∙ c.if-not-word_fits.true
+    (sym c.word_fits.ensures ∙ c.if-not-word_fits.true)
 
 pub two-requires : goal.two-requires
 two-requires c =

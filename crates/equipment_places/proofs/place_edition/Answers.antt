@@ -40,7 +40,7 @@ pub returns-then-not-side_by : goal.returns-then-not-side_by
 unfolding place10
 returns-then-not-side_by c =
     cut_off 47 (side_of (cells 2 c.args.left.now) c.args.m) (side_place (cells 2 c.args.left.now) c.args.m) (side_place (cells 2 c.args.right.now) c.args.n) c.args.s.now c.find-o.result c.find-o.ensures.value
-    c.side_place-then-not-side_by.result (sym c.side_by.ensures ∙ c.if-not-side_by.true c.side_place-then-not-side_by.ensures
+    c.side_place-then-not-side_by.result (sym c.side_by.ensures ∙ c.if-not-side_by.true) c.side_place-then-not-side_by.ensures
 
 pub overflow_add-result-2 : goal.overflow_add-result-2
 overflow_add-result-2 c =
@@ -50,4 +50,4 @@ pub returns : goal.returns
 unfolding place10
 returns c =
     cut_on 47 (side_of (cells 2 c.args.left.now) c.args.m) (side_place (cells 2 c.args.left.now) c.args.m) (side_place (cells 2 c.args.right.now) c.args.n) c.args.s.now c.find-o.result c.find-o.ensures.value
-    c.side_place-2.result c.if-o-s.false c.find-o.ensures.lower_bound.1 (sym c.side_by.ensures ∙ c.if-not-side_by.false c.side_place-2.ensures
+    c.side_place-2.result c.if-o-s.false c.find-o.ensures.lower_bound.1 (sym c.side_by.ensures ∙ c.if-not-side_by.false) c.side_place-2.ensures

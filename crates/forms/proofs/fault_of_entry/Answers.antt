@@ -4,7 +4,7 @@ use Rattle.forms.proofs.fault_of_entry.Goals as goal
 
 pub returns-then-not-is_numbered : goal.returns-then-not-is_numbered
 returns-then-not-is_numbered c =
-    unnumbered _ _ (sym c.is_numbered.ensures ∙ c.if-not-is_numbered.true
+    unnumbered _ _ (sym c.is_numbered.ensures ∙ c.if-not-is_numbered.true)
 
 pub returns-then-rank_of_entry-eq0 : goal.returns-then-rank_of_entry-eq0
 returns-then-rank_of_entry-eq0 c =

@@ -25,10 +25,10 @@ slice_bounds-is_number-end c =
 pub returns-then-not-is_number : goal.returns-then-not-is_number
 returns-then-not-is_number c =
     let h : lead false c.args.w.now + 3 < length c.args.w.now = omega (arith, c.run-e.ensures.0) in
-    rw (numbers_two c.args.w.now h, ← c.run-e.ensures.0, sym c.is_number-2.ensures ∙ c.if-not-is_number.true
+    rw (numbers_two c.args.w.now h, ← c.run-e.ensures.0, sym c.is_number-2.ensures ∙ c.if-not-is_number.true)
 
 pub returns : goal.returns
 returns c =
     let h : lead false c.args.w.now + 3 < length c.args.w.now = omega (arith, c.run-e.ensures.0) in
-    rw (numbers_two c.args.w.now h, ← c.run-e.ensures.0, sym c.is_number-2.ensures ∙ c.if-not-is_number.false
+    rw (numbers_two c.args.w.now h, ← c.run-e.ensures.0, sym c.is_number-2.ensures ∙ c.if-not-is_number.false)
     (rw rest at c.is_number-3.ensures)

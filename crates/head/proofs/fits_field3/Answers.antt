@@ -18,9 +18,9 @@ slice_bounds-in_cells-end c =
 pub returns-then-not-in_cells : goal.returns-then-not-in_cells
 unfolding types
 returns-then-not-in_cells c =
-    sym (type_not _ (sym c.in_cells.ensures ∙ c.if-not-in_cells.true)
+    sym (type_not _ (sym c.in_cells.ensures ∙ c.if-not-in_cells.true))
 
 pub returns : goal.returns
 unfolding types
 returns c =
-    rw rest at c.are_numbers.ensures ∙ sym (type_is _ (sym c.in_cells.ensures ∙ c.if-not-in_cells.false)
+    rw rest at c.are_numbers.ensures ∙ sym (type_is _ (sym c.in_cells.ensures ∙ c.if-not-in_cells.false))

@@ -18,7 +18,7 @@ unfolding fits7
 returns-then-not-is_identification c =
     let s = c.args.s.now in
     let f = c.find-o.ensures in
-    rw (found 47 s _ f.value c.if-o-s.false f.lower_bound.1, ← found_before 47 s _ f.value, sym c.is_identification-2.ensures ∙ c.if-not-is_identification.true
+    rw (found 47 s _ f.value c.if-o-s.false f.lower_bound.1, ← found_before 47 s _ f.value, sym c.is_identification-2.ensures ∙ c.if-not-is_identification.true)
 
 pub returns : goal.returns
 unfolding fits7
@@ -30,4 +30,4 @@ returns c =
       ← found_before 47 s _ f.value,
       sym c.is_identification-2.ensures ∙ c.if-not-is_identification.false,
       ← found_behind 47 s _ f.value,
-    ) (rw rest at c.fits2.ensures)
+    ) (rw rest at c.fits.ensures)

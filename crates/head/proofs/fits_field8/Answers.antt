@@ -12,9 +12,9 @@ returns-then-s-ne2 c =
 
 pub returns-then-not-one_of : goal.returns-then-not-one_of
 returns-then-not-one_of c =
-    rw (rules_two c.args.s.now c.if-s-ne2.false, sym c.one_of-2.ensures ∙ c.if-not-one_of.true
+    rw (rules_two c.args.s.now c.if-s-ne2.false, sym c.one_of-2.ensures ∙ c.if-not-one_of.true)
 
 pub returns : goal.returns
 returns c =
-    rw (rules_two c.args.s.now c.if-s-ne2.false, sym c.one_of-2.ensures ∙ c.if-not-one_of.false
+    rw (rules_two c.args.s.now c.if-s-ne2.false, sym c.one_of-2.ensures ∙ c.if-not-one_of.false)
     c.one_of-3.ensures

@@ -11,10 +11,10 @@ slice_bounds-is_count-end c =
 pub returns-then-not-is_count : goal.returns-then-not-is_count
 unfolding fits9
 returns-then-not-is_count c =
-    rw (← c.run-d.ensures.0, sym c.is_count.ensures ∙ c.if-not-is_count.true
+    rw (← c.run-d.ensures.0, sym c.is_count.ensures ∙ c.if-not-is_count.true)
 
 pub returns : goal.returns
 unfolding fits9
 returns c =
-    rw (← c.run-d.ensures.0, sym c.is_count.ensures ∙ c.if-not-is_count.false
+    rw (← c.run-d.ensures.0, sym c.is_count.ensures ∙ c.if-not-is_count.false)
     (rw rest at c.is_aircraft.ensures)

@@ -18,7 +18,7 @@ unfolding aircraft_fits
 returns-then-not-is_type c =
     let t = c.args.t.now in
     let f = c.find-o.ensures in
-    rw (found 47 t _ f.value c.if-o-t.false f.lower_bound.1, ← found_before 47 t _ f.value, sym c.is_type.ensures ∙ c.if-not-is_type.true
+    rw (found 47 t _ f.value c.if-o-t.false f.lower_bound.1, ← found_before 47 t _ f.value, sym c.is_type.ensures ∙ c.if-not-is_type.true)
 
 pub returns : goal.returns
 unfolding aircraft_fits

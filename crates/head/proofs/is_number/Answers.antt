@@ -18,7 +18,7 @@ unfolding number_fits
 returns-then-not-is_unit c =
     let w = c.args.w.now in
     let f = c.find-o.ensures in
-    rw (found 47 w _ f.value c.if-o-w.false f.lower_bound.1, ← found_before 47 w _ f.value, sym c.is_unit.ensures ∙ c.if-not-is_unit.true
+    rw (found 47 w _ f.value c.if-o-w.false f.lower_bound.1, ← found_before 47 w _ f.value, sym c.is_unit.ensures ∙ c.if-not-is_unit.true)
 
 pub returns : goal.returns
 unfolding number_fits

@@ -16,8 +16,8 @@ slice_bounds-is_unit-end c =
 
 pub returns-then-not-is_unit : goal.returns-then-not-is_unit
 returns-then-not-is_unit c =
-    rw (sym c.is_unit.ensures ∙ c.if-not-is_unit.true
+    rw (sym c.is_unit.ensures ∙ c.if-not-is_unit.true)
 
 pub returns : goal.returns
 returns c =
-    rw (sym c.is_unit.ensures ∙ c.if-not-is_unit.false (rw rest at c.all_of.ensures)
+    rw (sym c.is_unit.ensures ∙ c.if-not-is_unit.false) (rw rest at c.all_of.ensures)

@@ -13,9 +13,9 @@ returns-then-w-gt4 c =
 
 pub returns-then-not-is_letter : goal.returns-then-not-is_letter
 returns-then-not-is_letter c =
-    rw (le-leb 2 _ c.if-w-lt2.false, le-leb _ 4 c.if-w-gt4.false, sym c.is_letter.ensures ∙ c.if-not-is_letter.true
+    rw (le-leb 2 _ c.if-w-lt2.false, le-leb _ 4 c.if-w-gt4.false, sym c.is_letter.ensures ∙ c.if-not-is_letter.true)
 
 pub returns : goal.returns
 returns c =
-    rw (le-leb 2 _ c.if-w-lt2.false, le-leb _ 4 c.if-w-gt4.false, sym c.is_letter.ensures ∙ c.if-not-is_letter.false
+    rw (le-leb 2 _ c.if-w-lt2.false, le-leb _ 4 c.if-w-gt4.false, sym c.is_letter.ensures ∙ c.if-not-is_letter.false)
     c.all_of.ensures

@@ -25,7 +25,7 @@ returns-then-not-is_unit c =
     let w = c.args.w.now in
     let n = c.front_of-n.result in (
       stuck_within w n c.run_place-stuck.result c.front_of-n.ensures.1 c.run_place-stuck.ensures,
-      unit_off w n c.front_of-n.ensures.0 c.run_place-stuck.result (sym c.is_unit.ensures ∙ c.if-not-is_unit.true
+      unit_off w n c.front_of-n.ensures.0 c.run_place-stuck.result (sym c.is_unit.ensures ∙ c.if-not-is_unit.true)
           c.run_place-stuck.ensures,
     )
 
@@ -33,5 +33,5 @@ pub returns : goal.returns
 returns c =
     let w = c.args.w.now in (
       c.front_of-n.ensures.1,
-      unit_on w c.front_of-n.result c.front_of-n.ensures.0 (omega arith) (sym c.is_unit.ensures ∙ c.if-not-is_unit.false,
+      unit_on w c.front_of-n.result c.front_of-n.ensures.0 (omega arith) (sym c.is_unit.ensures ∙ c.if-not-is_unit.false),
     )

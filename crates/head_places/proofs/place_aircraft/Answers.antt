@@ -31,7 +31,7 @@ pub returns-then-not-is_type : goal.returns-then-not-is_type
 unfolding aircraft_place
 returns-then-not-is_type c =
     cut_off 47 type_fits type_place wake_place c.args.t.now c.find-o.result c.find-o.ensures.value c.place_type-then-not-is_type.result
-    (sym c.is_type.ensures ∙ c.if-not-is_type.true c.place_type-then-not-is_type.ensures
+    (sym c.is_type.ensures ∙ c.if-not-is_type.true) c.place_type-then-not-is_type.ensures
 
 pub overflow_add-result-2 : goal.overflow_add-result-2
 overflow_add-result-2 c =
@@ -44,5 +44,5 @@ pub returns : goal.returns
 unfolding aircraft_place
 returns c =
     cut_on 47 type_fits type_place wake_place c.args.t.now c.find-o.result c.find-o.ensures.value c.place_wake.result
-    c.if-o-t.false c.find-o.ensures.lower_bound.1 (sym c.is_type.ensures ∙ c.if-not-is_type.false
+    c.if-o-t.false c.find-o.ensures.lower_bound.1 (sym c.is_type.ensures ∙ c.if-not-is_type.false)
     c.place_wake.ensures

@@ -19,7 +19,7 @@ slice_bounds-in_list-end c =
 pub returns-then-not-in_list : goal.returns-then-not-in_list
 unfolding types
 returns-then-not-in_list c =
-    c.any_of-then-not-in_list.ensures ∙ type_off c.args.s.now (sym c.in_list.ensures ∙ c.if-not-in_list.true
+    c.any_of-then-not-in_list.ensures ∙ type_off c.args.s.now (sym c.in_list.ensures ∙ c.if-not-in_list.true)
 
 pub overflow_add-result : goal.overflow_add-result
 overflow_add-result c =
@@ -28,5 +28,5 @@ overflow_add-result c =
 pub returns : goal.returns
 unfolding types
 returns c =
-    type_on c.args.s.now c.place_numbers.result (sym c.in_list.ensures ∙ c.if-not-in_list.false
+    type_on c.args.s.now c.place_numbers.result (sym c.in_list.ensures ∙ c.if-not-in_list.false)
     c.place_numbers.ensures

@@ -13,21 +13,21 @@ returns-then-s-eq0 c =
 pub returns-then-not-one_of : goal.returns-then-not-one_of
 unfolding place8
 returns-then-not-one_of c =
-    pair_off rules_fit flight_fits c.args.s.now (sym c.one_of.ensures ∙ c.if-not-one_of.true
+    pair_off rules_fit flight_fits c.args.s.now (sym c.one_of.ensures ∙ c.if-not-one_of.true)
 
 pub returns-then-s-eq1 : goal.returns-then-s-eq1
 unfolding place8
 returns-then-s-eq1 c =
-    pair_one rules_fit flight_fits c.args.s.now c.if-s-eq1.true (sym c.one_of.ensures ∙ c.if-not-one_of.false
+    pair_one rules_fit flight_fits c.args.s.now c.if-s-eq1.true (sym c.one_of.ensures ∙ c.if-not-one_of.false)
 
 pub returns-then-not-one_of-2 : goal.returns-then-not-one_of-2
 unfolding place8
 returns-then-not-one_of-2 c =
-    pair_second rules_fit flight_fits c.args.s.now c.if-s-eq0.false (sym c.one_of.ensures ∙ c.if-not-one_of.false
-    (sym c.one_of-2.ensures ∙ c.if-not-one_of-2.true
+    pair_second rules_fit flight_fits c.args.s.now c.if-s-eq0.false (sym c.one_of.ensures ∙ c.if-not-one_of.false)
+    (sym c.one_of-2.ensures ∙ c.if-not-one_of-2.true)
 
 pub returns : goal.returns
 unfolding place8
 returns c =
     pair_both rules_fit flight_fits c.args.s.now c.if-s-eq0.false c.if-s-eq1.false
-    (sym c.one_of.ensures ∙ c.if-not-one_of.false (sym c.one_of-2.ensures ∙ c.if-not-one_of-2.false
+    (sym c.one_of.ensures ∙ c.if-not-one_of.false) (sym c.one_of-2.ensures ∙ c.if-not-one_of-2.false)

@@ -33,7 +33,7 @@ unfolding place9
 returns-then-not-is_count c =
     let s = c.args.s.now in
     then_off digit count_fits count_place aircraft_place s c.run-d.result (c.run-d.ensures.0 ∙ digits_front s) c.two_digits-then-not-is_count.result
-    (sym c.is_count.ensures ∙ c.if-not-is_count.true c.two_digits-then-not-is_count.ensures
+    (sym c.is_count.ensures ∙ c.if-not-is_count.true) c.two_digits-then-not-is_count.ensures
 
 pub overflow_add-result : goal.overflow_add-result
 overflow_add-result c =
@@ -48,4 +48,4 @@ unfolding place9
 returns c =
     let s = c.args.s.now in
     then_on digit count_fits count_place aircraft_place s c.run-d.result (c.run-d.ensures.0 ∙ digits_front s) c.place_aircraft.result
-    (omega arith) (sym c.is_count.ensures ∙ c.if-not-is_count.false c.place_aircraft.ensures
+    (omega arith) (sym c.is_count.ensures ∙ c.if-not-is_count.false) c.place_aircraft.ensures

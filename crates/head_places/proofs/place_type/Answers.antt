@@ -16,7 +16,7 @@ returns-then-w-eq0 c =
 
 pub returns-then-not-is_letter : goal.returns-then-not-is_letter
 returns-then-not-is_letter c =
-    sym (first_stop letter (λ a. run_place 3 sign) c.args.w.now (sym c.is_letter.ensures ∙ c.if-not-is_letter.true)
+    sym (first_stop letter (λ a. run_place 3 sign) c.args.w.now (sym c.is_letter.ensures ∙ c.if-not-is_letter.true))
 
 pub overflow_add-result : goal.overflow_add-result
 overflow_add-result c =
@@ -29,5 +29,5 @@ returns c =
     omega (
       arith,
       first_goes letter (λ a. run_place 3 sign) c.args.w.now c.if-w-eq0.false
-          (sym c.is_letter.ensures ∙ c.if-not-is_letter.false,
+          (sym c.is_letter.ensures ∙ c.if-not-is_letter.false),
     )

@@ -11,8 +11,8 @@ returns-then-w-eq0 c =
 
 pub returns-then-not-one_of : goal.returns-then-not-one_of
 returns-then-not-one_of c =
-    sym (first_stop wake_fits (λ a. no_more) c.args.w.now (sym c.one_of.ensures ∙ c.if-not-one_of.true)
+    sym (first_stop wake_fits (λ a. no_more) c.args.w.now (sym c.one_of.ensures ∙ c.if-not-one_of.true))
 
 pub returns : goal.returns
 returns c =
-    sym (first_goes wake_fits (λ a. no_more) c.args.w.now c.if-w-eq0.false (sym c.one_of.ensures ∙ c.if-not-one_of.false)
+    sym (first_goes wake_fits (λ a. no_more) c.args.w.now c.if-w-eq0.false (sym c.one_of.ensures ∙ c.if-not-one_of.false))

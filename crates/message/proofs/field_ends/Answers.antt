@@ -31,7 +31,7 @@ loop-i-preserved-then-not-is_free c =
 
 pub loop-i-preserved : goal.loop-i-preserved
 loop-i-preserved c =
-    noted_over _ _ _ _ c.loop-i.invariant _ (omega arith) (omega arith) (sym c.is_free.ensures ∙ c.if-not-is_free.false
+    noted_over _ _ _ _ c.loop-i.invariant _ (omega arith) (omega arith) (sym c.is_free.ensures ∙ c.if-not-is_free.false)
 
 pub note_each-n-requires : goal.note_each-n-requires
 note_each-n-requires c =

@@ -47,12 +47,12 @@ text-counted c =
 pub returns-then-not-is_plan : goal.returns-then-not-is_plan
 returns-then-not-is_plan c =
     let a = c.args in
-    rw (other_type a.t a.msg.now most (sym c.is_plan.ensures ∙ c.if-not-is_plan.true)
+    rw (other_type a.t a.msg.now most (sym c.is_plan.ensures ∙ c.if-not-is_plan.true))
 
 pub returns-then-not-is_reduced : goal.returns-then-not-is_reduced
 returns-then-not-is_reduced c =
     let a = c.args in
-    sym (and_false (plans (count_as a.t a.msg.now most)) _ (sym c.is_reduced.ensures ∙ c.if-not-is_reduced.true)
+    sym (and_false (plans (count_as a.t a.msg.now most)) _ (sym c.is_reduced.ensures ∙ c.if-not-is_reduced.true))
 
 pub overflow_add-count : goal.overflow_add-count
 overflow_add-count c =

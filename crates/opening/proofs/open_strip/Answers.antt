@@ -24,12 +24,12 @@ long c =
 pub returns-then-not-is_sound : goal.returns-then-not-is_sound
 returns-then-not-is_sound c =
     let a = c.args in
-    unsound a.strip.now a.held a.msg.now a.scratch.now (sym c.is_sound.ensures ∙ c.if-not-is_sound.true
+    unsound a.strip.now a.held a.msg.now a.scratch.now (sym c.is_sound.ensures ∙ c.if-not-is_sound.true)
 
 pub returns-then-not-is_canonical_plan : goal.returns-then-not-is_canonical_plan
 returns-then-not-is_canonical_plan c =
     let a = c.args in
-    no_plan a.strip.now a.held a.msg.now a.scratch.now (held_sound (goal.at.returns-then-not-is_canonical_plan c).Else-not-is_sound) (sym c.is_canonical_plan.ensures ∙ c.if-not-is_canonical_plan.true
+    no_plan a.strip.now a.held a.msg.now a.scratch.now (held_sound (goal.at.returns-then-not-is_canonical_plan c).Else-not-is_sound) (sym c.is_canonical_plan.ensures ∙ c.if-not-is_canonical_plan.true)
 
 pub returns-in-Refused : goal.returns-in-Refused
 returns-in-Refused c =

@@ -17,7 +17,7 @@ of-codes c = told c.before ∙ not-false _ c.if1.false
 
 pub returns-then-not-codes_fit_by : goal.returns-then-not-codes_fit_by
 returns-then-not-codes_fit_by c =
-    sym (approved_other c.args.w.now (told (goal.at.returns-then-not-codes_fit_by c).After-codes_fit_by ∙ c.if-not-codes_fit_by.true)
+    sym (approved_other c.args.w.now (told (goal.at.returns-then-not-codes_fit_by c).After-codes_fit_by ∙ c.if-not-codes_fit_by.true))
 
 pub returns-then-w-lt1 : goal.returns-then-w-lt1
 returns-then-w-lt1 c =

@@ -12,7 +12,7 @@ use Rattle.other.proofs.is_date.Goals as goal
 
 shaped : (c : Else-not-fits) → fits (bytes "999999") c.args.w.now ≡ true
 shaped c =
-    sym c.fits2.ensures ∙ c.if-not-fits.false
+    sym c.fits.ensures ∙ c.if-not-fits.false
 
 long : (c : Else-not-fits) → length c.args.w.now ≡ 6
 long c =
@@ -21,7 +21,7 @@ long c =
 pub returns-then-not-fits : goal.returns-then-not-fits
 unfolding date
 returns-then-not-fits c =
-    rw (sym c.fits2.ensures ∙ c.if-not-fits.true
+    rw (sym c.fits.ensures ∙ c.if-not-fits.true)
 
 pub two-day-requires : goal.two-day-requires
 two-day-requires c =

@@ -38,7 +38,7 @@ slice_bounds-matched_of-end-then-not-same_bytes c =
 pub returns-then-not-same_bytes : goal.returns-then-not-same_bytes
 returns-then-not-same_bytes c =
     cut_off 47 (same c.args.key.now) (matched c.args.key.now) (rule_place c.args.rule) c.args.w.now c.find-o.result c.find-o.ensures.value
-    c.matched_of-then-not-same_bytes.result (sym c.same_bytes.ensures ∙ c.if-not-same_bytes.true c.matched_of-then-not-same_bytes.ensures
+    c.matched_of-then-not-same_bytes.result (sym c.same_bytes.ensures ∙ c.if-not-same_bytes.true) c.matched_of-then-not-same_bytes.ensures
 
 pub overflow_add-result-2 : goal.overflow_add-result-2
 overflow_add-result-2 c =
@@ -47,5 +47,5 @@ overflow_add-result-2 c =
 pub returns : goal.returns
 returns c =
     cut_on 47 (same c.args.key.now) (matched c.args.key.now) (rule_place c.args.rule) c.args.w.now c.find-o.result c.find-o.ensures.value
-    c.rule_place.result c.if-o-w.false c.find-o.ensures.lower_bound.1 (sym c.same_bytes.ensures ∙ c.if-not-same_bytes.false
+    c.rule_place.result c.if-o-w.false c.find-o.ensures.lower_bound.1 (sym c.same_bytes.ensures ∙ c.if-not-same_bytes.false)
     c.rule_place.ensures

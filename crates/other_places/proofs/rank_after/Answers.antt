@@ -42,9 +42,9 @@ returns-then-r-k c =
 pub returns-then-not-word_fits : goal.returns-then-not-word_fits
 returns-then-not-word_fits c =
     ranked_not (edition (cells 4 c.args.keys.now) c.args.rules.now) c.args.k c.args.w.now c.find-o.result c.find-o.ensures.value c.if-o-w.false c.find-o.ensures.lower_bound.1
-    c.rank_in_cells-r.result c.rank_in_cells-r.ensures c.if-r-k.false (sym (under (goal.at.returns-then-not-word_fits c).After-word_fits) ∙ c.if-not-word_fits.true
+    c.rank_in_cells-r.result c.rank_in_cells-r.ensures c.if-r-k.false (sym (under (goal.at.returns-then-not-word_fits c).After-word_fits) ∙ c.if-not-word_fits.true)
 
 pub returns : goal.returns
 returns c =
     ranked_key (edition (cells 4 c.args.keys.now) c.args.rules.now) c.args.k c.args.w.now c.find-o.result c.find-o.ensures.value c.if-o-w.false c.find-o.ensures.lower_bound.1
-    c.rank_in_cells-r.result c.rank_in_cells-r.ensures c.if-r-k.false (sym (under (goal.at.returns c).After-word_fits) ∙ c.if-not-word_fits.false
+    c.rank_in_cells-r.result c.rank_in_cells-r.ensures c.if-r-k.false (sym (under (goal.at.returns c).After-word_fits) ∙ c.if-not-word_fits.false)

@@ -8,8 +8,8 @@ plan_read-requires c =
 
 pub returns-in-Refused : goal.returns-in-Refused
 returns-in-Refused c =
-    plan-whole c.args.strip.now _ (sym c.read_own.ensures ∙ c.in-Refused.is) _ refl
+    let told = plan-whole c.args.strip.now _ (sym c.read_own.ensures ∙ c.in-Refused.is) _ refl in record { value = told.0; shows_plan = told.1 }
 
 pub returns-in-As : goal.returns-in-As
 returns-in-As c =
-    plan-whole c.args.strip.now _ (sym c.read_own.ensures ∙ c.in-As.is) _ c.plan_read.ensures
+    let told = plan-whole c.args.strip.now _ (sym c.read_own.ensures ∙ c.in-As.is) _ c.plan_read.ensures in record { value = told.0; shows_plan = told.1 }

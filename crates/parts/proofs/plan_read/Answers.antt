@@ -17,19 +17,19 @@ is-plan-read c =
 pub returns-then-not-is_plan : goal.returns-then-not-is_plan
 returns-then-not-is_plan c =
     let a = c.args in
-    plan-other a.t a.own a.m.now (sym c.is_plan.ensures ∙ c.if-not-is_plan.true
+    plan-other a.t a.own a.m.now (sym c.is_plan.ensures ∙ c.if-not-is_plan.true)
 
 pub returns-then-not-own : goal.returns-then-not-own
 returns-then-not-own c =
-    let a = c.args in plan-respelled a.t a.own a.m.now (is-plan-read (goal.at.returns-then-not-own c).Else-not-is_plan) (c.if-not-own.true
+    let a = c.args in plan-respelled a.t a.own a.m.now (is-plan-read (goal.at.returns-then-not-own c).Else-not-is_plan) (c.if-not-own.true)
 
 pub plan_in-requires : goal.plan_in-requires
 plan_in-requires c =
     let a = c.args in
-    let taken : taken_of a.m.now ≡ As a.t true = c.requires ∙ ap (As a.t) (c.if-not-own.false in
+    let taken : taken_of a.m.now ≡ As a.t true = c.requires ∙ ap (As a.t) (c.if-not-own.false) in
     subst (λ (t : MessageType). Own t a.m.now) (plan_type a.t (is-plan-read (goal.at.plan_in-requires c).Else-not-is_plan)) (taken_own a.m.now a.t taken)
 
 pub returns : goal.returns
 returns c =
     let a = c.args in
-    plan_given a.t a.own a.m.now (is-plan-read (goal.at.returns c).Else-not-is_plan) (c.if-not-own.false _ c.plan_in.ensures
+    plan_given a.t a.own a.m.now (is-plan-read (goal.at.returns c).Else-not-is_plan) (c.if-not-own.false) _ c.plan_in.ensures

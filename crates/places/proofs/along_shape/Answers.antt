@@ -13,14 +13,14 @@ pub returns-then-not-fits : goal.returns-then-not-fits
 returns-then-not-fits c =
     let a = c.args in
     let i = c.loop-i.i in
-    let e = sym (class_here a.t.now a.w.now i (omega arith) (omega arith)) ∙ sym c.fits2.ensures ∙ c.if-not-fits.true in
+    let e = sym (class_here a.t.now a.w.now i (omega arith) (omega arith)) ∙ sym c.fits.ensures ∙ c.if-not-fits.true in
     omega (arith, along_stop a.t.now a.w.now i (omega arith) (omega arith) e)
 
 pub loop-i-preserved : goal.loop-i-preserved
 loop-i-preserved c =
     let a = c.args in
     let i = c.loop-i.i in
-    let e = sym (class_here a.t.now a.w.now i (omega arith) (omega arith)) ∙ sym c.fits2.ensures ∙ c.if-not-fits.false in
+    let e = sym (class_here a.t.now a.w.now i (omega arith) (omega arith)) ∙ sym c.fits.ensures ∙ c.if-not-fits.false in
     omega (arith, along_next a.t.now a.w.now i (omega arith) (omega arith) e)
 
 pub returns : goal.returns

@@ -24,12 +24,12 @@ over c h =
 
 up_to_lem : (c : After-one-tens) → c.one-tens.result * 10 ≤ c.args.most → tens c.args.most (get_or c.args.w.now 0 0) ≡ true
 up_to_lem c h =
-    and_both (digit (get_or c.args.w.now 0 0)) (leb (((get_or c.args.w.now 0 0 - 48) * 10)) c.args.most) (sym c.is_digit.ensures ∙ c.if-not-is_digit.false
+    and_both (digit (get_or c.args.w.now 0 0)) (leb (((get_or c.args.w.now 0 0 - 48) * 10)) c.args.most) (sym c.is_digit.ensures ∙ c.if-not-is_digit.false)
     (le-leb (((get_or c.args.w.now 0 0 - 48) * 10)) c.args.most (omega (arith, c.one-tens.ensures.0, h)))
 
 tens-right : (c : After-is_digit-2) → tens c.args.most (get_or c.args.w.now 0 0) ≡ true
 tens-right c =
-    let up_to_lem : c.one-tens.result * 10 ≤ c.args.most → tens c.args.most (get_or c.args.w.now 0 0) ≡ true = λ h. and_both (digit (get_or c.args.w.now 0 0)) (leb (((get_or c.args.w.now 0 0 - 48) * 10)) c.args.most) (sym c.is_digit.ensures ∙ c.if-not-is_digit.false
+    let up_to_lem : c.one-tens.result * 10 ≤ c.args.most → tens c.args.most (get_or c.args.w.now 0 0) ≡ true = λ h. and_both (digit (get_or c.args.w.now 0 0)) (leb (((get_or c.args.w.now 0 0 - 48) * 10)) c.args.most) (sym c.is_digit.ensures ∙ c.if-not-is_digit.false)
     (le-leb (((get_or c.args.w.now 0 0 - 48) * 10)) c.args.most (omega (arith, c.one-tens.ensures.0, h))) in up_to_lem c.if-most-tens.false
 
 late : (c : After-one) → c.args.most < c.one-tens.result * 10 + c.one.result
@@ -40,7 +40,7 @@ late c h =
 in-time : (c : After-one) → c.one-tens.result * 10 + c.one.result ≤ c.args.most
     → units c.args.most (get_or c.args.w.now 0 0) (get_or c.args.w.now 1 0) ≡ true
 in-time c h =
-    and_both (digit (get_or c.args.w.now 1 0)) (leb ((((get_or c.args.w.now 0 0 - 48) * 10) + (get_or c.args.w.now 1 0 - 48))) c.args.most) (sym c.is_digit-2.ensures ∙ c.if-not-is_digit-2.false
+    and_both (digit (get_or c.args.w.now 1 0)) (leb ((((get_or c.args.w.now 0 0 - 48) * 10) + (get_or c.args.w.now 1 0 - 48))) c.args.most) (sym c.is_digit-2.ensures ∙ c.if-not-is_digit-2.false)
     (le-leb ((((get_or c.args.w.now 0 0 - 48) * 10) + (get_or c.args.w.now 1 0 - 48))) c.args.most (omega (arith, c.one-tens.ensures.0, c.one.ensures.0, h)))
 
 pub returns-then-w-eq0 : goal.returns-then-w-eq0
@@ -49,7 +49,7 @@ returns-then-w-eq0 c =
 
 pub returns-then-not-is_digit : goal.returns-then-not-is_digit
 returns-then-not-is_digit c =
-    time_off c.args.most c.args.w.now (rw (sym c.is_digit.ensures ∙ c.if-not-is_digit.true)
+    time_off c.args.most c.args.w.now (rw (sym c.is_digit.ensures ∙ c.if-not-is_digit.true))
 
 pub returns-then-most-tens : goal.returns-then-most-tens
 returns-then-most-tens c =
@@ -61,7 +61,7 @@ returns-then-w-eq1 c =
 
 pub returns-then-not-is_digit-2 : goal.returns-then-not-is_digit-2
 returns-then-not-is_digit-2 c =
-    time_second c.args.most c.args.w.now c.if-w-eq0.false (tens-right (goal.at.returns-then-not-is_digit-2 c).After-is_digit-2) (rw (sym c.is_digit-2.ensures ∙ c.if-not-is_digit-2.true)
+    time_second c.args.most c.args.w.now c.if-w-eq0.false (tens-right (goal.at.returns-then-not-is_digit-2 c).After-is_digit-2) (rw (sym c.is_digit-2.ensures ∙ c.if-not-is_digit-2.true))
 
 pub returns-then-most-tens-2 : goal.returns-then-most-tens-2
 returns-then-most-tens-2 c =

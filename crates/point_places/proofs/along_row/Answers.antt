@@ -12,12 +12,12 @@ returns-then-i-w c =
 pub returns-then-not-meets : goal.returns-then-not-meets
 returns-then-not-meets c =
     let a = c.args in
-    omega (arith, row_stop a.t.now a.w.now c.loop-i.i (omega arith) (omega arith) (sym c.meets.ensures ∙ c.if-not-meets.true)
+    omega (arith, row_stop a.t.now a.w.now c.loop-i.i (omega arith) (omega arith) (sym c.meets.ensures ∙ c.if-not-meets.true))
 
 pub loop-i-preserved : goal.loop-i-preserved
 loop-i-preserved c =
     let a = c.args in
-    omega (arith, row_next a.t.now a.w.now c.loop-i.i (omega arith) (omega arith) (sym c.meets.ensures ∙ c.if-not-meets.false)
+    omega (arith, row_next a.t.now a.w.now c.loop-i.i (omega arith) (omega arith) (sym c.meets.ensures ∙ c.if-not-meets.false))
 
 pub returns : goal.returns
 returns c =

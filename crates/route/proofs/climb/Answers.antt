@@ -48,9 +48,9 @@ point_of_signs-requires c =
 
 pub returns-then-not-point_of_signs : goal.returns-then-not-point_of_signs
 returns-then-not-point_of_signs c =
-    rw (told (goal.at.returns-then-not-point_of_signs c).Else-w-o-ne47, sym c.point_of_signs.ensures ∙ c.if-not-point_of_signs.true
+    rw (told (goal.at.returns-then-not-point_of_signs c).Else-w-o-ne47, sym c.point_of_signs.ensures ∙ c.if-not-point_of_signs.true)
 
 pub returns : goal.returns
 returns c =
-    rw (told (goal.at.returns c).Else-w-o-ne47, sym c.point_of_signs.ensures ∙ c.if-not-point_of_signs.false
+    rw (told (goal.at.returns c).Else-w-o-ne47, sym c.point_of_signs.ensures ∙ c.if-not-point_of_signs.false)
     (c.climbed.ensures ∙ ap (any (wides climbs)) (rest c.args.w.now (c.end_of-o.result + 1)))

@@ -61,11 +61,11 @@ word-requires-then-s-o-eq32 c =
 
 pub returns-then-not-word : goal.returns-then-not-word
 returns-then-not-word c =
-    sym (c.loop-w.invariant.1 ∙ rw (next (goal.at.returns-then-not-word c).Then-s-o-eq32, sym c.word-then-s-o-eq32.ensures ∙ c.if-not-word.true)
+    sym (c.loop-w.invariant.1 ∙ rw (next (goal.at.returns-then-not-word c).Then-s-o-eq32, sym c.word-then-s-o-eq32.ensures ∙ c.if-not-word.true))
 
 pub loop-w-preserved-then-s-o-eq32 : goal.loop-w-preserved-then-s-o-eq32
 loop-w-preserved-then-s-o-eq32 c =
-    (search rules, c.loop-w.invariant.1 ∙ rw (next (goal.at.loop-w-preserved-then-s-o-eq32 c).Then-s-o-eq32, sym c.word-then-s-o-eq32.ensures ∙ c.if-not-word.false)
+    (search rules, c.loop-w.invariant.1 ∙ rw (next (goal.at.loop-w-preserved-then-s-o-eq32 c).Then-s-o-eq32, sym c.word-then-s-o-eq32.ensures ∙ c.if-not-word.false))
 
 pub joined-requires : goal.joined-requires
 joined-requires c =

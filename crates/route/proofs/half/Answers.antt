@@ -20,7 +20,7 @@ slice_bounds-all_of-end c =
 
 pub returns-then-not-all_of : goal.returns-then-not-all_of
 returns-then-not-all_of c =
-    sym (half_none _ _ (sym c.all_of.ensures ∙ c.if-not-all_of.true)
+    sym (half_none _ _ (sym c.all_of.ensures ∙ c.if-not-all_of.true))
 
 pub returns-then-w-k : goal.returns-then-w-k
 returns-then-w-k c =

@@ -3,7 +3,7 @@ use Rattle.route.proofs.in_minutes.Goals as goal
 
 pub returns-then-not-within : goal.returns-then-not-within
 returns-then-not-within c =
-    rw (sym c.two-2.ensures.0, sym c.two.ensures.0, sym c.within.ensures ∙ c.if-not-within.true
+    rw (sym c.two-2.ensures.0, sym c.two.ensures.0, sym c.within.ensures ∙ c.if-not-within.true)
 
 pub returns : goal.returns
 returns c =

@@ -33,9 +33,9 @@ half-requires c =
 
 pub returns-then-not-half : goal.returns-then-not-half
 returns-then-not-half c =
-    rw (told (goal.at.returns-then-not-half c).Else-w-m, sym c.half.ensures ∙ c.if-not-half.true
+    rw (told (goal.at.returns-then-not-half c).Else-w-m, sym c.half.ensures ∙ c.if-not-half.true)
 
 pub returns : goal.returns
 returns c =
-    rw (told (goal.at.returns c).Else-w-m, sym c.half.ensures ∙ c.if-not-half.false
+    rw (told (goal.at.returns c).Else-w-m, sym c.half.ensures ∙ c.if-not-half.false)
     (c.half-2.ensures ∙ ap (half_fits (bytes "EW")) (rest c.args.w.now (c.args.k + 1)))

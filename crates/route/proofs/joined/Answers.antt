@@ -55,9 +55,9 @@ point_of_signs-requires c =
 
 pub returns-then-not-point_of_signs : goal.returns-then-not-point_of_signs
 returns-then-not-point_of_signs c =
-    rw (changing (goal.at.returns-then-not-point_of_signs c).Else-same_bytes, sym c.point_of_signs.ensures ∙ c.if-not-point_of_signs.true
+    rw (changing (goal.at.returns-then-not-point_of_signs c).Else-same_bytes, sym c.point_of_signs.ensures ∙ c.if-not-point_of_signs.true)
 
 pub returns : goal.returns
 returns c =
-    rw (changing (goal.at.returns c).Else-same_bytes, sym c.point_of_signs.ensures ∙ c.if-not-point_of_signs.false
+    rw (changing (goal.at.returns c).Else-same_bytes, sym c.point_of_signs.ensures ∙ c.if-not-point_of_signs.false)
     (c.changed.ensures ∙ ap (any (wides changes)) (rest c.args.w.now (c.args.o + 1)))

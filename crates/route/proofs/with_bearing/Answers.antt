@@ -26,7 +26,7 @@ returns-then-w-gt11 c =
 
 pub returns-then-not-all_of : goal.returns-then-not-all_of
 returns-then-not-all_of c =
-    rw (told (goal.at.returns-then-not-all_of c).After-all_of, digits-there (goal.at.returns-then-not-all_of c).After-all_of ∙ c.if-not-all_of.true
+    rw (told (goal.at.returns-then-not-all_of c).After-all_of, digits-there (goal.at.returns-then-not-all_of c).After-all_of ∙ c.if-not-all_of.true)
 
 pub returns : goal.returns
 returns c =

@@ -31,7 +31,7 @@ unfolding climb_place
 returns-then-not-same_bytes c =
     cut_off 47 is_c (along (bytes "C")) (pair_place (wides climbs)) c.args.w.now c.find-o.result
     c.find-o.ensures.value c.along_shape-then-not-same_bytes.result
-    (sym c.same_bytes.ensures ∙ c.if-not-same_bytes.true c.along_shape-then-not-same_bytes.ensures
+    (sym c.same_bytes.ensures ∙ c.if-not-same_bytes.true) c.along_shape-then-not-same_bytes.ensures
 
 pub overflow_add-result-2 : goal.overflow_add-result-2
 overflow_add-result-2 c =
@@ -48,4 +48,4 @@ returns c =
     c.find-o.result c.find-o.ensures.value
     c.place_climbing.result c.if-o-w.false
     c.find-o.ensures.lower_bound.1
-    (sym c.same_bytes.ensures ∙ c.if-not-same_bytes.false c.place_climbing.ensures
+    (sym c.same_bytes.ensures ∙ c.if-not-same_bytes.false) c.place_climbing.ensures

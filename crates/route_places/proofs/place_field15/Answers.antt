@@ -34,7 +34,7 @@ unfolding place15
 returns-then-not-start c =
     cut_off 32 (any (wides starts)) (farthest (wides starts)) route_place c.args.s.now
     c.find-e.result c.find-e.ensures.value
-    c.place_start-then-not-start.result (sym c.start.ensures ∙ c.if-not-start.true c.place_start-then-not-start.ensures
+    c.place_start-then-not-start.result (sym c.start.ensures ∙ c.if-not-start.true) c.place_start-then-not-start.ensures
 
 pub overflow_add-result-2 : goal.overflow_add-result-2
 overflow_add-result-2 c =
@@ -50,4 +50,4 @@ returns c =
     cut_on 32 (any (wides starts)) (farthest (wides starts)) route_place c.args.s.now
     c.find-e.result c.find-e.ensures.value
     c.place_words.result c.if-e-s.false c.find-e.ensures.lower_bound.1
-    (sym c.start.ensures ∙ c.if-not-start.false c.place_words.ensures
+    (sym c.start.ensures ∙ c.if-not-start.false) c.place_words.ensures

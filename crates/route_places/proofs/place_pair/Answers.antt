@@ -33,7 +33,7 @@ returns-then-not-point c =
     let a = c.args in
     cut_off 47 (point_fits 5) point_place (farthest (split 32 a.list.now)) a.w.now c.find-o.result
     c.find-o.ensures.value c.place_point-then-not-point.result
-    (sym c.point.ensures ∙ c.if-not-point.true c.place_point-then-not-point.ensures
+    (sym c.point.ensures ∙ c.if-not-point.true) c.place_point-then-not-point.ensures
 
 pub overflow_add-result-2 : goal.overflow_add-result-2
 overflow_add-result-2 c =
@@ -50,4 +50,4 @@ returns c =
     cut_on 47 (point_fits 5) point_place (farthest (split 32 a.list.now)) a.w.now c.find-o.result
     c.find-o.ensures.value c.farthest_of.result c.if-o-w.false
     c.find-o.ensures.lower_bound.1
-    (sym c.point.ensures ∙ c.if-not-point.false c.farthest_of.ensures
+    (sym c.point.ensures ∙ c.if-not-point.false) c.farthest_of.ensures

@@ -53,7 +53,7 @@ returns-then-not-element c =
     let at = c.loop-at.at in
     let e = c.find-e.result in
     let h = next_none (take (e - at) (drop at t)) (sym c.same_bytes.ensures
-    ∙ c.if-same_bytes.false) (sym c.element.ensures ∙ c.if-not-element.true in
+    ∙ c.if-same_bytes.false) (sym c.element.ensures ∙ c.if-not-element.true) in
     omega (
       arith,
       c.place_element-then-not-element.ensures,
@@ -67,7 +67,7 @@ loop-at-preserved c =
     let at = c.loop-at.at in
     let e = c.find-e.result in
     let h = next_word_lem (take (e - at) (drop at t)) (sym c.same_bytes.ensures ∙ c.if-same_bytes.false)
-    (sym c.element.ensures ∙ c.if-not-element.false in
+    (sym c.element.ensures ∙ c.if-not-element.false) in
     omega (
       arith,
       word_length t at e (omega arith) (omega arith),

@@ -24,7 +24,7 @@ returns-then-w-ne4 c =
 pub returns-then-not-all_of : goal.returns-then-not-all_of
 unfolding time_fits
 returns-then-not-all_of c =
-    rw (four_digits c.args.w.now (long (goal.at.returns-then-not-all_of c).Else-w-ne4), sym c.all_of.ensures ∙ c.if-not-all_of.true
+    rw (four_digits c.args.w.now (long (goal.at.returns-then-not-all_of c).Else-w-ne4), sym c.all_of.ensures ∙ c.if-not-all_of.true)
 
 pub two-requires : goal.two-requires
 two-requires c =

@@ -7,7 +7,7 @@ use Rattle.space.proofs.all_stay.Goals as goal
 pub returns-then-not-byte_stays : goal.returns-then-not-byte_stays
 returns-then-not-byte_stays c =
     let l = c.loop-i in
-    sym (stay_stop c.args.s.now l.last l.i c.loop-i-test.true (sym c.byte_stays.ensures ∙ c.if-not-byte_stays.true) ∙ l.invariant.1
+    sym (stay_stop c.args.s.now l.last l.i c.loop-i-test.true (sym c.byte_stays.ensures ∙ c.if-not-byte_stays.true)) ∙ l.invariant.1
 
 pub loop-i-preserved : goal.loop-i-preserved
 loop-i-preserved c =

@@ -19,4 +19,4 @@ returns-then-not-is_white c =
 pub returns : goal.returns
 returns c =
     let a = c.args in
-    rw (lt-ltb a.at a.i (omega arith), sym c.is_white.ensures ∙ c.if-not-is_white.false (ap not c.is_white-2.ensures)
+    rw (lt-ltb a.at a.i (omega arith), sym c.is_white.ensures ∙ c.if-not-is_white.false) (ap not c.is_white-2.ensures)

@@ -12,7 +12,7 @@ pub loop-i-preserved-then-all_regular : goal.loop-i-preserved-then-all_regular
 loop-i-preserved-then-all_regular c =
     let l = c.loop-i in
     part_copied _ _ l.buf l.n l.i l.invariant (omega arith) (l.i + 16) (omega arith) (omega arith) _ _ (omega arith)
-    (sym c.all_regular.ensures ∙ c.if-all_regular.taken) c.put-n.ensures
+    (sym c.all_regular.ensures ∙ c.if-all_regular.true) c.put-n.ensures
 
 pub loop-i-preserved : goal.loop-i-preserved
 loop-i-preserved c =

@@ -25,13 +25,13 @@ loop-i-init c =
 pub loop-i-preserved-then-stands_for_run : goal.loop-i-preserved-then-stands_for_run
 loop-i-preserved-then-stands_for_run c =
     let l = c.loop-i in
-    space_stored _ _ _ _ _ l.buf l.last l.n l.i l.invariant c.loop-i-test.taken (omega arith) (omega arith) (cc)
+    space_stored _ _ _ _ _ l.buf l.last l.n l.i l.invariant c.loop-i-test.true (omega arith) (omega arith) (cc)
     (stands (goal.at.loop-i-preserved-then-stands_for_run c).After-stands_for_run ∙ c.if-stands_for_run.true)
 
 pub loop-i-preserved-else-stands_for_run : goal.loop-i-preserved-else-stands_for_run
 loop-i-preserved-else-stands_for_run c =
     let l = c.loop-i in
-    white_out _ _ _ _ _ l.buf l.last l.n l.i l.invariant c.loop-i-test.taken (omega arith) (cc)
+    white_out _ _ _ _ _ l.buf l.last l.n l.i l.invariant c.loop-i-test.true (omega arith) (cc)
     (stands (goal.at.loop-i-preserved-else-stands_for_run c).After-stands_for_run ∙ c.if-stands_for_run.false)
 
 pub loop-i-preserved : goal.loop-i-preserved
@@ -41,4 +41,4 @@ loop-i-preserved c =
 
 pub returns : goal.returns
 returns c =
-    bytes_end _ _ _ _ _ _ _ _ _ c.loop-i.invariant c.loop-i-test.false
+    let told = bytes_end _ _ _ _ _ _ _ _ _ c.loop-i.invariant c.loop-i-test.false in record { value = told.0; buf_after = told.1 }

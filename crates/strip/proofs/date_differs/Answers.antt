@@ -42,7 +42,7 @@ ours-there c =
 
 pub returns-then-not-compares_date : goal.returns-then-not-compares_date
 returns-then-not-compares_date c =
-    rw (sym c.compares_date.ensures ∙ c.if-not-compares_date.true
+    rw (sym c.compares_date.ensures ∙ c.if-not-compares_date.true)
 
 pub returns-then-ours-eq0 : goal.returns-then-ours-eq0
 returns-then-ours-eq0 c =
@@ -58,5 +58,5 @@ pub returns : goal.returns
 returns c =
     ap not (c.same_bytes.ensures ∙ ap₂ same (is_ours (goal.at.returns c).After-date_word-ours) (is-theirs (goal.at.returns c).After-date_word-theirs))
     ∙ both-there (compares_date c.args.role) (date_in c.args.a.now) (date_in c.args.b.now)
-    (sym c.compares_date.ensures ∙ c.if-not-compares_date.false (ours-there (goal.at.returns c).After-date_word-theirs)
+    (sym c.compares_date.ensures ∙ c.if-not-compares_date.false) (ours-there (goal.at.returns c).After-date_word-theirs)
     (some-there c.date_word-theirs.result.now (date_in c.args.b.now) (is-theirs (goal.at.returns c).After-date_word-theirs) c.if-theirs-eq0.false)

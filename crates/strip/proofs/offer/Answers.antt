@@ -23,7 +23,7 @@ pub returns-then-not-allows : goal.returns-then-not-allows
 returns-then-not-allows c =
     let a = c.args in
     not_allowed a.role a.plan.now a.held a.said.now a.out.now _ (says (goal.at.returns-then-not-allows c).In-Says) (compared (goal.at.returns-then-not-allows c).After-any ∙ c.if-any.false)
-    (sym c.allows.ensures ∙ c.if-not-allows.true
+    (sym c.allows.ensures ∙ c.if-not-allows.true)
 
 pub amend-requires : goal.amend-requires
 amend-requires c =
@@ -38,5 +38,5 @@ pub returns-else-not-allows : goal.returns-else-not-allows
 returns-else-not-allows c =
     let a = c.args in
     allowed a.role a.plan.now a.held a.said.now a.out.now _ (says (goal.at.returns-else-not-allows c).In-Says) (compared (goal.at.returns-else-not-allows c).After-any ∙ c.if-any.false)
-    (sym c.allows.ensures ∙ c.if-not-allows.false c.next.result c.next.ensures
+    (sym c.allows.ensures ∙ c.if-not-allows.false) c.next.result c.next.ensures
     _ _ c.amend.ensures

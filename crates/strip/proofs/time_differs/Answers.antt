@@ -3,7 +3,7 @@ use Rattle.strip.proofs.time_differs.Goals as goal
 
 pub returns-then-not-compares_time : goal.returns-then-not-compares_time
 returns-then-not-compares_time c =
-    rw (sym c.compares_time.ensures ∙ c.if-not-compares_time.true
+    rw (sym c.compares_time.ensures ∙ c.if-not-compares_time.true)
 
 pub returns : goal.returns
 returns c =

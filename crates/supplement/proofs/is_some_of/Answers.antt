@@ -17,7 +17,7 @@ behind c =
 
 pub returns-then-not-one_of : goal.returns-then-not-one_of
 returns-then-not-one_of c =
-    some_other c.args.set.now c.args.w.now c.loop-i.i c.loop-i.invariant.1 c.loop-i-test.true (sym c.one_of.ensures ∙ c.if-not-one_of.true
+    some_other c.args.set.now c.args.w.now c.loop-i.i c.loop-i.invariant.1 c.loop-i-test.true (sym c.one_of.ensures ∙ c.if-not-one_of.true)
 
 pub returns-then-one_of : goal.returns-then-one_of
 returns-then-one_of c =
@@ -27,7 +27,7 @@ pub loop-i-preserved : goal.loop-i-preserved
 loop-i-preserved c = (
   search rules,
   some_next c.args.set.now c.args.w.now c.loop-i.i c.loop-i.invariant.1 c.loop-i-test.true
-      (sym c.one_of.ensures ∙ c.if-not-one_of.false (sym (behind c) ∙ c.if-one_of.false),
+      (sym c.one_of.ensures ∙ c.if-not-one_of.false) (sym (behind c) ∙ c.if-one_of.false),
 )
 
 pub returns : goal.returns

@@ -22,7 +22,7 @@ inside c =
 pub returns-then-not-has_key : goal.returns-then-not-has_key
 returns-then-not-has_key c =
     let a = c.args in
-    c.further.ensures ∙ sym (step_plain a.stage a.w.now (sym c.has_key.ensures ∙ c.if-not-has_key.true)
+    c.further.ensures ∙ sym (step_plain a.stage a.w.now (sym c.has_key.ensures ∙ c.if-not-has_key.true))
 
 pub bounds-w-0 : goal.bounds-w-0
 bounds-w-0 c =

@@ -15,13 +15,13 @@ pub returns-then-not-is_some_of : goal.returns-then-not-is_some_of
 returns-then-not-is_some_of c =
     let l = c.loop-i in
     let a = c.args in
-    omega (arith, letters_stop a.set.now a.w.now l.i c.loop-i-test.true (sym c.is_some_of.ensures ∙ c.if-not-is_some_of.true)
+    omega (arith, letters_stop a.set.now a.w.now l.i c.loop-i-test.true (sym c.is_some_of.ensures ∙ c.if-not-is_some_of.true))
 
 pub loop-i-preserved : goal.loop-i-preserved
 loop-i-preserved c =
     let l = c.loop-i in
     let a = c.args in
-    omega (arith, letters_next a.set.now a.w.now l.i c.loop-i-test.true (sym c.is_some_of.ensures ∙ c.if-not-is_some_of.false)
+    omega (arith, letters_next a.set.now a.w.now l.i c.loop-i-test.true (sym c.is_some_of.ensures ∙ c.if-not-is_some_of.false))
 
 pub returns : goal.returns
 returns c =

@@ -4,7 +4,7 @@ use Rattle.aerodromes.proofs.Aerodrome.is_letters.Goals as goal
 
 pub returns-then-not-is_letter : goal.returns-then-not-is_letter
 returns-then-not-is_letter c =
-    rw (sym c.is_letter.ensures ∙ c.if-not-is_letter.true
+    rw (sym c.is_letter.ensures ∙ c.if-not-is_letter.true)
 
 pub returns-then-not-is_letter-2 : goal.returns-then-not-is_letter-2
 returns-then-not-is_letter-2 c =
