@@ -8,6 +8,7 @@ use Rattle.text.proofs.Lent.{store, Writing, begin, due, room, onward, all_writt
 use Rattle.text.proofs.Index.{drop_end}
 use Rattle.canonical.specs.Canonical.{sorted}
 use Rattle.canonical.proofs.Steps.{sorted_take, sorted_skip}
+use Rattle.canonical.proofs.put_sorted.Goals.{After-one_of}
 use Rattle.canonical.proofs.put_sorted.Goals as goal
 
 -- behind the test whether the word has the byte of the set that is next
@@ -30,11 +31,11 @@ abbrev left : tie.After-one-of invariant-loop decreases-loop → List ℕ
 left p = sorted (drop ((At p).loop.i + 1) (set p)) (word p)
 
 -- the byte is written, and what is left behind it
-taken : (p : tie.After-one-of invariant-loop decreases-loop) → p.one-of.result ≡ true
-    → Writing (sorted (set p) (word p)) (Start p).args.out.now (At p).loop.out (At p).loop.o (byte p ∷ left p)
-taken p h =
-    let l = (At p).loop in
-    due l.inv.2 (sorted_take (set p) (word p) l.i p.before.before.loop-test.true (sym p.one-of.ensures ∙ h))
+taken : (c : After-one_of) → c.one_of.result ≡ true
+    → Writing (sorted (set c) (word c)) (Start c).args.out.now (At c).loop.out (At c).loop.o (byte c ∷ left c)
+taken c h =
+    let l = (At c).loop in
+    due l.inv.2 (sorted_take (set c) (word c) l.i c.loop-i-test.true (sym c.one_of.ensures ∙ h))
 
 pub loop-i-init : goal.loop-i-init
 loop-i-init c =
@@ -42,12 +43,12 @@ loop-i-init c =
 
 pub bounds-out-o : goal.bounds-out-o
 bounds-out-o c =
-    omega (arith, room (byte c ∷ []) (left c) (taken c c.if-one_of.true), (At c).loop.invariant.1, (Start c).requires)
+    omega (arith, room (byte c ∷ []) (left c) (taken (goal.at.bounds-out-o c).After-one_of c.if-one_of.true), (At c).loop.invariant.1, (Start c).requires)
 
 pub loop-i-preserved-then-one_of : goal.loop-i-preserved-then-one_of
 loop-i-preserved-then-one_of c =
     let l = (At c).loop in
-    let t = taken c c.if-one_of.true in
+    let t = taken (goal.at.loop-i-preserved-then-one_of c).After-one_of c.if-one_of.true in
     let f = room (byte c ∷ []) (left c) t in (
       omega arith,
       simp length-set l.inv.1,

@@ -4,21 +4,20 @@ use mathlib.Core.Path.{◌≡◌, sym, ap, ◌∙◌}
 use native.Mathlib.Omega.{arith}
 use lib.Dec.{eqb}
 use lib.ListN.{length, take, drop, get_or}
-use borrow.Author.Tests.{not-true}
 use Rattle.text.proofs.Index.{rest}
 use Rattle.supplement.specs.Field19.{by_letter}
 use Rattle.supplement.specs.Walk.{first, further, step}
 use Rattle.supplement.proofs.Steps.{second_inside, step_plain}
 use Rattle.canonical.proofs.Fitting.{key_first}
-use Rattle.canonical.proofs.read_as.Goals.{Else-not-has_key}
+use Rattle.canonical.proofs.read_as.Goals.{Else-not-has_key, Then-not-has_key}
 use Rattle.canonical.proofs.read_as.Goals as goal
 
 -- `canonical::read_as_lem` meets its contract. Assumes nothing.
 -- a further word
-plain : (t : tie.Then1) → let a = t.before.before.before.args in step a.stage a.w.now ≡ further a.stage a.w.now
-plain t =
-    let a = t.before.before.before.args in
-    step_plain a.stage a.w.now (sym t.before.has_key_lem.ensures ∙ not-true _ t.if1.true)
+plain : (c : Then-not-has_key) → let a = c.args in step a.stage a.w.now ≡ further a.stage a.w.now
+plain c =
+    let a = c.args in
+    step_plain a.stage a.w.now (sym c.has_key.ensures ∙ c.if-not-has_key.true)
 
 second : (c : Else-not-has_key) → eqb (get_or c.args.w.now 1 0) 47 ≡ true
 second c =
@@ -34,11 +33,11 @@ opening c =
 
 pub followed_as-requires : goal.followed_as-requires
 followed_as-requires c =
-    λ q. c.requires (plain c ∙ q)
+    λ q. c.requires (plain (goal.at.followed_as-requires c).Then-not-has_key ∙ q)
 
 pub returns-then-not-has_key : goal.returns-then-not-has_key
 returns-then-not-has_key c =
-    c.followed_as.ensures ∙ sym (plain c)
+    c.followed_as.ensures ∙ sym (plain (goal.at.returns-then-not-has_key c).Then-not-has_key)
 
 pub bounds-w-0 : goal.bounds-w-0
 bounds-w-0 c =

@@ -3,11 +3,13 @@ use mathlib.Core.Path.{refl, sym, ◌∙◌}
 use native.Mathlib.Omega.{arith}
 use Rattle.kinds.specs.Kinds.{most_fields}
 use Rattle.message.proofs.Ends.{noted_none, noted_room, noted_over, noted_all}
+use Rattle.message.proofs.field_ends.Goals.{After-note_each-n}
 use Rattle.message.proofs.field_ends.Goals as goal
 
 -- there is room for the end of the last field
-room : (c : tie.After-note-each invariant-loop decreases-loop) → c.note-each.result < most_fields
-room c = noted_room _ _ _ _ c.note-each.ensures
+room : (c : After-note_each-n) → c.note_each-n.result < most_fields
+room c =
+    noted_room _ _ _ _ c.note_each-n.ensures
 
 pub loop-i-init : goal.loop-i-init
 loop-i-init c =
@@ -39,11 +41,11 @@ note_each-n-requires c =
 
 pub offset_bounds-ends-n : goal.offset_bounds-ends-n
 offset_bounds-ends-n c =
-    omega (arith, room c)
+    omega (arith, room (goal.at.offset_bounds-ends-n c).After-note_each-n)
 
 pub bounds-ends-n : goal.bounds-ends-n
 bounds-ends-n c =
-    omega (arith, room c)
+    omega (arith, room (goal.at.bounds-ends-n c).After-note_each-n)
 
 pub returns : goal.returns
 returns c =

@@ -4,11 +4,13 @@ use native.Mathlib.Omega.{arith}
 use Rattle.kinds.specs.Kinds.{most_fields}
 use Rattle.message.specs.Ends.{Noted}
 use Rattle.message.proofs.Ends.{noted_room, noted_more, noted_pass}
+use Rattle.message.proofs.note_each.Goals.{Then-s-at-eq45}
 use Rattle.message.proofs.note_each.Goals as goal
 
 -- at a hyphen there is room to note it
-room : (c : tie.Then1 invariant-loop decreases-loop) → c.before.before.before.loop.noted < most_fields
-room c = noted_room _ _ _ _ c.before.before.before.loop.invariant.2
+room : (c : Then-s-at-eq45) → c.loop-i.noted < most_fields
+room c =
+    noted_room _ _ _ _ c.loop-i.invariant.2
 
 pub loop-i-init : goal.loop-i-init
 loop-i-init c =
@@ -16,15 +18,15 @@ loop-i-init c =
 
 pub offset_bounds-ends-noted : goal.offset_bounds-ends-noted
 offset_bounds-ends-noted c =
-    omega (arith, room c)
+    omega (arith, room (goal.at.offset_bounds-ends-noted c).Then-s-at-eq45)
 
 pub bounds-ends-noted : goal.bounds-ends-noted
 bounds-ends-noted c =
-    omega (arith, room c)
+    omega (arith, room (goal.at.bounds-ends-noted c).Then-s-at-eq45)
 
 pub overflow_add-noted : goal.overflow_add-noted
 overflow_add-noted c =
-    omega (arith, room c)
+    omega (arith, room (goal.at.overflow_add-noted c).Then-s-at-eq45)
 
 pub loop-i-preserved-then-s-at-eq45 : goal.loop-i-preserved-then-s-at-eq45
 loop-i-preserved-then-s-at-eq45 c =

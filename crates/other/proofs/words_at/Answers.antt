@@ -10,23 +10,21 @@ use Rattle.other.specs.Field18.{group, from_key}
 use Rattle.other.proofs.Keys.{found_here, found_none, from_other, from_plain}
 use borrow.Author.Rules.{rules}
 use native.Mathlib.Omega.{arith}
+use Rattle.other.proofs.words_at.Goals.{Joined-o-w}
 use Rattle.other.proofs.words_at.Goals as goal
 
 -- where the arms meet, the word at `at` is not of the key
-passed : (c : tie.Joined1 invariant-loop decreases-loop)
-    → let r = c.before in
-    from_key (sought r) (group (split 32 (content r))).grouped
-    ≡ from_key (sought r) (group (after 32 (drop (ended r).find.result (content r)))).grouped
+passed : (c : Joined-o-w) → from_key c.args.key.now (group (split 32 c.args.s.now)).grouped
+    ≡ from_key c.args.key.now (group (after 32 (drop c.find-e.result c.args.s.now))).grouped
 passed c =
-    let r = c.before in
-    let l = (looped r).loop in
-    let f = (ended r).find in
-    let g = r.find2 in
-    l.inv.1
+    let l = c.loop-w in
+    let f = c.find-e in
+    let g = c.find-o in
+    l.invariant.1
     ∙ ⊎_elim
-    (λ w. from_other (sought r) (content r) l.at f.result f.ensures.0 g.result g.ensures.0 w.0.taken (sym w.2.ensures ∙ w.3.left))
-    (λ w. from_plain (sought r) (content r) l.at f.result f.ensures.0 g.result g.ensures.0 w.left)
-    c.if1.branch
+    (λ w. from_other c.args.key.now c.args.s.now l.at f.result f.ensures.value g.result g.ensures.value w.0.taken (sym w.2.ensures ∙ w.3.left))
+    (λ w. from_plain c.args.key.now c.args.s.now l.at f.result f.ensures.value g.result g.ensures.value w.left)
+    c.if-o-w.branch
 
 pub slice_bounds-same_bytes-end : goal.slice_bounds-same_bytes-end
 slice_bounds-same_bytes-end c =
@@ -44,9 +42,9 @@ returns-then-same_bytes c =
 pub returns-then-e-s : goal.returns-then-e-s
 returns-then-e-s c =
     let last = after_end 32 c.args.s.now c.find-e.result (omega arith) in
-    found_none c.args.key.now c.args.s.now (passed c ∙ ap (λ (ws : List Word). from_key c.args.key.now (group ws).grouped) last)
+    found_none c.args.key.now c.args.s.now (passed (goal.at.returns-then-e-s c).Joined-o-w ∙ ap (λ (ws : List Word). from_key c.args.key.now (group ws).grouped) last)
 
 pub loop-w-preserved : goal.loop-w-preserved
 loop-w-preserved c =
     let next = after_here 32 c.args.s.now c.find-e.result (omega arith) in
-    (search rules, passed c ∙ ap (λ (ws : List Word). from_key c.args.key.now (group ws).grouped) next)
+    (search rules, passed (goal.at.loop-w-preserved c).Joined-o-w ∙ ap (λ (ws : List Word). from_key c.args.key.now (group ws).grouped) next)

@@ -5,23 +5,21 @@ use Rattle.alphabet.specs.Alphabet.{one_of}
 use Rattle.alphabet.proofs.Classes.{octal_digits}
 use Rattle.shape.specs.Shape.{letters, in_class}
 use borrow.Author.Rules.{rules}
+use Rattle.shape.proofs.in_class.Goals.{Else-t-eq111}
 use Rattle.shape.proofs.in_class.Goals as goal
 
 -- and not of the sixth
-itself : (c : tie.Else7)
-    → in_class (start c.before).args.t (start c.before).args.b ≡ one_of (start c.before).args.b ((start c.before).args.t ∷ [])
+itself : (c : Else-t-eq111) → in_class c.args.t c.args.b ≡ one_of c.args.b (c.args.t ∷ [])
 unfolding letters
 itself c =
-    let k = past-k c.before in
-    let d = past-digit c.before in
     rw (
-      sym d.before.is_digit.ensures ∙ d.if1.left,
-      ne_eqb _ _ k.before.before.if2.left,
-      ne_eqb _ _ k.before.if3.left,
-      ne_eqb _ _ k.if4.left,
-      ne_eqb _ _ c.before.before.if5.false,
-      ne_eqb _ _ c.before.if6.false,
-      ne_eqb _ _ c.if7.false,
+      sym c.is_digit.ensures ∙ c.if-is_digit.false,
+      ne_eqb _ _ c.if-t-eq110.false,
+      ne_eqb _ _ c.if-t-eq101.false,
+      ne_eqb _ _ c.if-t-eq107.false,
+      ne_eqb _ _ c.if-t-eq102.false,
+      ne_eqb _ _ c.if-t-eq115.false,
+      ne_eqb _ _ c.if-t-eq111.false,
     )
 
 pub returns-then-is_digit : goal.returns-then-is_digit
@@ -60,8 +58,8 @@ returns-then-t-eq111 c =
 
 pub returns-then-b-t : goal.returns-then-b-t
 returns-then-b-t c =
-    rw (itself c, eq-eqb _ _ c.if-b-t.true)
+    rw (itself (goal.at.returns-then-b-t c).Else-t-eq111, eq-eqb _ _ c.if-b-t.true)
 
 pub returns-else-b-t : goal.returns-else-b-t
 returns-else-b-t c =
-    rw (itself c, ne_eqb _ _ c.if-b-t.false)
+    rw (itself (goal.at.returns-else-b-t c).Else-t-eq111, ne_eqb _ _ c.if-b-t.false)

@@ -6,14 +6,13 @@ use Rattle.alphabet.specs.Alphabet.{one_of}
 use Rattle.text.proofs.Index.{rest}
 use Rattle.supplement.proofs.Steps.{some_other, some_twice, some_next, some_all}
 use borrow.Author.Rules.{rules}
+use Rattle.supplement.proofs.is_some_of.Goals.{After-one_of-in-loop-i}
 use Rattle.supplement.proofs.is_some_of.Goals as goal
 
 -- where it was looked up in the letters behind it
-behind : (c : tie.After-one-of2 invariant-loop decreases-loop)
-    → let a = c.before.before.before in c.one-of2.result ≡ one_of (get_or (word a) (index a) 0) (drop (index a + 1) (word a))
+behind : (c : After-one_of-in-loop-i) → c.one_of-in-loop-i.result ≡ one_of (get_or c.args.w.now c.loop-i.i 0) (drop (c.loop-i.i + 1) c.args.w.now)
 behind c =
-    let a = c.before.before.before in
-    c.one-of2.ensures ∙ ap (one_of (get_or (word a) (index a) 0)) (rest (word a) (index a + 1))
+    c.one_of-in-loop-i.ensures ∙ ap (one_of (get_or c.args.w.now c.loop-i.i 0)) (rest c.args.w.now (c.loop-i.i + 1))
 
 pub returns-then-not-one_of : goal.returns-then-not-one_of
 returns-then-not-one_of c =
@@ -21,13 +20,13 @@ returns-then-not-one_of c =
 
 pub returns-then-one_of : goal.returns-then-one_of
 returns-then-one_of c =
-    some_twice c.args.set.now c.args.w.now c.loop-i.i c.loop-i.invariant.1 c.loop-i-test.true (sym (behind c) ∙ c.if-one_of.true)
+    some_twice c.args.set.now c.args.w.now c.loop-i.i c.loop-i.invariant.1 c.loop-i-test.true (sym (behind (goal.at.returns-then-one_of c).After-one_of-in-loop-i) ∙ c.if-one_of.true)
 
 pub loop-i-preserved : goal.loop-i-preserved
 loop-i-preserved c = (
   search rules,
   some_next c.args.set.now c.args.w.now c.loop-i.i c.loop-i.invariant.1 c.loop-i-test.true
-      (sym c.one_of.ensures ∙ c.if-not-one_of.false) (sym (behind c) ∙ c.if-one_of.false),
+      (sym c.one_of.ensures ∙ c.if-not-one_of.false) (sym (behind (goal.at.loop-i-preserved c).After-one_of-in-loop-i) ∙ c.if-one_of.false),
 )
 
 pub returns : goal.returns
