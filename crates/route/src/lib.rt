@@ -25,7 +25,7 @@ pub const CLIMBS: [u8; 171] =
 // 99N999W in range: latitude at most 90, longitude at most 180.
 fn in_degrees(w: &[u8]) -> bool
     requires { length w.now ≡ 7 }
-    ensures { result ≡ degreesInRange (degreesOf w.now) }
+    ensures { result ≡ degrees_in_range (degrees_of w.now) }
 {
     if 90 < shape::two(w, 0) {
         return false;
@@ -35,7 +35,7 @@ fn in_degrees(w: &[u8]) -> bool
 
 // At most so many degrees, minutes at most 59, and 00 at the most degrees.
 fn within(most: usize, degrees: usize, minutes: usize) -> bool
-    ensures { result ≡ withinDegrees most degrees minutes }
+    ensures { result ≡ within_degrees most degrees minutes }
 {
     if most < degrees {
         return false;
@@ -52,7 +52,7 @@ fn within(most: usize, degrees: usize, minutes: usize) -> bool
 // 9999N99999W in range.
 fn in_minutes(w: &[u8]) -> bool
     requires { length w.now ≡ 11 }
-    ensures { result ≡ minutesInRange (minutesOf w.now) }
+    ensures { result ≡ minutes_in_range (minutes_of w.now) }
 {
     if !within(90, shape::two(w, 0), shape::two(w, 2)) {
         return false;
@@ -63,7 +63,7 @@ fn in_minutes(w: &[u8]) -> bool
 // 2 to 5 signs, a bearing of at most 360 and a distance, of a word of signs.
 fn with_bearing(w: &[u8]) -> bool
     requires { (7 < length w.now) × (all sign w.now ≡ true) }
-    ensures { result ≡ radialFits w.now }
+    ensures { result ≡ radial_fits w.now }
 {
     if 11 < w.len() {
         return false;
@@ -94,7 +94,7 @@ fn is_indicator(w: &[u8]) -> bool
 // 2 or more signs, and no indicator, of a word of signs.
 fn name(most: usize, w: &[u8]) -> bool
     requires { all sign w.now ≡ true }
-    ensures { result ≡ nameFits most w.now }
+    ensures { result ≡ name_fits most w.now }
 {
     if w.len() < 2 {
         return false;
@@ -108,7 +108,7 @@ fn name(most: usize, w: &[u8]) -> bool
 // Whether a word is digits and, last, one of two letters.
 fn half(one: u8, other: u8, w: &[u8]) -> bool
     requires { 0 < length w.now }
-    ensures { result ≡ halfFits (one ∷ (other ∷ [])) w.now }
+    ensures { result ≡ half_fits (one ∷ (other ∷ [])) w.now }
 {
     let k = w.len() - 1;
     if !text::all_of(text::Kind::Digit, &w[..k]) {
@@ -123,7 +123,7 @@ fn half(one: u8, other: u8, w: &[u8]) -> bool
 // Whether a word is k digits, N or S, j digits and E or W.
 fn is_coordinate(k: usize, j: usize, w: &[u8]) -> bool
     requires { k + j ≤ 9 }
-    ensures { result ≡ fitting (coordinateShape k j) w.now }
+    ensures { result ≡ fitting (coordinate_shape k j) w.now }
 {
     let m = k + 1;
     if w.len() != m + j + 1 {
@@ -137,7 +137,7 @@ fn is_coordinate(k: usize, j: usize, w: &[u8]) -> bool
 
 // Whether a word is shaped as a coordinate in degrees and out of range.
 pub fn out_of_range(w: &[u8]) -> bool
-    ensures { result ≡ outOfRange w.now }
+    ensures { result ≡ out_of_range w.now }
 {
     if !is_coordinate(2, 3, w) {
         return false;
@@ -148,7 +148,7 @@ pub fn out_of_range(w: &[u8]) -> bool
 // The same as `point`, of a word of signs. Most are short and can only be names.
 fn point_of_signs(most: usize, w: &[u8]) -> bool
     requires { all sign w.now ≡ true }
-    ensures { result ≡ pointFits most w.now }
+    ensures { result ≡ point_fits most w.now }
 {
     if w.len() < 7 {
         return name(most, w);
@@ -167,7 +167,7 @@ fn point_of_signs(most: usize, w: &[u8]) -> bool
 
 // A coordinate, a point with bearing and distance, or a name of at most so many signs.
 pub fn point(most: usize, w: &[u8]) -> bool
-    ensures { result ≡ pointFits most w.now }
+    ensures { result ≡ point_fits most w.now }
 {
     if !text::all_of(text::Kind::Sign, w) {
         return false;
@@ -178,7 +178,7 @@ pub fn point(most: usize, w: &[u8]) -> bool
 // A word of signs. T may stand only last.
 fn word(last: bool, w: &[u8]) -> bool
     requires { all sign w.now ≡ true }
-    ensures { result ≡ wordFits last w.now }
+    ensures { result ≡ word_fits last w.now }
 {
     if text::same_bytes(w, b"T") {
         return last;
@@ -192,7 +192,7 @@ fn word(last: bool, w: &[u8]) -> bool
 // Where a byte and n digits end that w begins with; 0 where it does not begin with them.
 fn unit_end(n: usize, w: &[u8]) -> usize
     requires { 0 < n }
-    ensures { (result ≡ unitEnd n w.now) × (result ≤ length w.now) }
+    ensures { (result ≡ unit_end n w.now) × (result ≤ length w.now) }
 {
     if w.len() <= n {
         return 0;
@@ -206,7 +206,7 @@ fn unit_end(n: usize, w: &[u8]) -> usize
 
 // Where the speed ends that w begins with; 0 where it begins with none.
 fn speed_end(w: &[u8]) -> usize
-    ensures { (result ≡ speedEnd w.now) × (result ≤ length w.now) }
+    ensures { (result ≡ speed_end w.now) × (result ≤ length w.now) }
 {
     if w.len() == 0 {
         return 0;
@@ -221,7 +221,7 @@ fn speed_end(w: &[u8]) -> usize
 
 // The same of a level.
 fn level_end(w: &[u8]) -> usize
-    ensures { (result ≡ levelEnd w.now) × (result ≤ length w.now) }
+    ensures { (result ≡ level_end w.now) × (result ≤ length w.now) }
 {
     if w.len() == 0 {
         return 0;
@@ -236,7 +236,7 @@ fn level_end(w: &[u8]) -> usize
 
 // A level.
 fn level(w: &[u8]) -> bool
-    ensures { result ≡ anyOf (wides levels) w.now }
+    ensures { result ≡ any_of (wides levels) w.now }
 {
     let l = level_end(w);
     if l == 0 {
@@ -247,7 +247,7 @@ fn level(w: &[u8]) -> bool
 
 // Speed and level at the start.
 pub fn start(w: &[u8]) -> bool
-    ensures { result ≡ anyOf (wides starts) w.now }
+    ensures { result ≡ any_of (wides starts) w.now }
 {
     let v = speed_end(w);
     if v == 0 {
@@ -262,7 +262,7 @@ pub fn start(w: &[u8]) -> bool
 
 // Speed and level at a point.
 fn changed(w: &[u8]) -> bool
-    ensures { result ≡ anyOf (wides changes) w.now }
+    ensures { result ≡ any_of (wides changes) w.now }
 {
     let v = speed_end(w);
     if v == 0 {
@@ -273,7 +273,7 @@ fn changed(w: &[u8]) -> bool
 
 // Speed and two levels at a point, or PLUS for the second.
 fn climbed(w: &[u8]) -> bool
-    ensures { result ≡ anyOf (wides climbs) w.now }
+    ensures { result ≡ any_of (wides climbs) w.now }
 {
     let v = speed_end(w);
     if v == 0 {
@@ -293,7 +293,7 @@ fn climbed(w: &[u8]) -> bool
 
 // A climb, behind its `C/`: a point, '/', a speed and two levels.
 fn climb(w: &[u8]) -> bool
-    ensures { result ≡ pairFits (wides climbs) w.now }
+    ensures { result ≡ pair_fits (wides climbs) w.now }
 {
     let o = text::end_of(text::Kind::Sign, w, 0);
     if o == w.len() {
@@ -311,7 +311,7 @@ fn climb(w: &[u8]) -> bool
 // A word whose signs end at o, before its end. Behind them an oblique is due: `C/` is a climb, any other a change of speed and level at a point.
 fn joined(o: usize, w: &[u8]) -> bool
     requires { (o < length w.now) × (o ≡ leading sign w.now) }
-    ensures { result ≡ elementFits true w.now }
+    ensures { result ≡ element_fits true w.now }
 {
     if w[o] != b'/' {
         return false;

@@ -11,31 +11,12 @@ use Rattle.canonical.proofs.Steps.{sorted_take, sorted_skip}
 use Rattle.canonical.proofs.put_sorted.Goals.{After-one_of}
 use Rattle.canonical.proofs.put_sorted.Goals as goal
 
--- behind the test whether the word has the byte of the set that is next
-abbrev At : tie.After-one-of invariant-loop decreases-loop → tie.At-loop invariant-loop decreases-loop
-At p = p.before.before.before
-
-abbrev Start : tie.After-one-of invariant-loop decreases-loop → tie.Start invariant-loop decreases-loop
-Start p = (At p).before.before.before.before
-
-abbrev set : tie.After-one-of invariant-loop decreases-loop → List ℕ
-set p = (Start p).args.set.now
-
-abbrev word : tie.After-one-of invariant-loop decreases-loop → List ℕ
-word p = (Start p).args.w.now
-
-abbrev byte : tie.After-one-of invariant-loop decreases-loop → ℕ
-byte p = get_or (set p) (At p).loop.i 0
-
-abbrev left : tie.After-one-of invariant-loop decreases-loop → List ℕ
-left p = sorted (drop ((At p).loop.i + 1) (set p)) (word p)
-
 -- the byte is written, and what is left behind it
 taken : (c : After-one_of) → c.one_of.result ≡ true
-    → Writing (sorted (set c) (word c)) (Start c).args.out.now (At c).loop.out (At c).loop.o (byte c ∷ left c)
+    → Writing (sorted c.args.set.now c.args.w.now) c.args.out.now c.loop-i.out c.loop-i.o ((get_or c.args.set.now c.loop-i.i 0) ∷ (sorted (drop (c.loop-i.i + 1) c.args.set.now) c.args.w.now))
 taken c h =
-    let l = (At c).loop in
-    due l.inv.2 (sorted_take (set c) (word c) l.i c.loop-i-test.true (sym c.one_of.ensures ∙ h))
+    let l = c.loop-i in
+    due l.invariant.2 (sorted_take c.args.set.now c.args.w.now l.i c.loop-i-test.true (sym c.one_of.ensures ∙ h))
 
 pub loop-i-init : goal.loop-i-init
 loop-i-init c =
@@ -43,23 +24,23 @@ loop-i-init c =
 
 pub bounds-out-o : goal.bounds-out-o
 bounds-out-o c =
-    omega (arith, room (byte c ∷ []) (left c) (taken (goal.at.bounds-out-o c).After-one_of c.if-one_of.true), (At c).loop.invariant.1, (Start c).requires)
+    omega (arith, room ((get_or c.args.set.now c.loop-i.i 0) ∷ []) (sorted (drop (c.loop-i.i + 1) c.args.set.now) c.args.w.now) (taken (goal.at.bounds-out-o c).After-one_of c.if-one_of.true), c.loop-i.invariant.1, c.requires)
 
 pub loop-i-preserved-then-one_of : goal.loop-i-preserved-then-one_of
 loop-i-preserved-then-one_of c =
-    let l = (At c).loop in
+    let l = c.loop-i in
     let t = taken (goal.at.loop-i-preserved-then-one_of c).After-one_of c.if-one_of.true in
-    let f = room (byte c ∷ []) (left c) t in (
+    let f = room ((get_or c.args.set.now c.loop-i.i 0) ∷ []) (sorted (drop (c.loop-i.i + 1) c.args.set.now) c.args.w.now) t in (
       omega arith,
-      simp length-set l.inv.1,
-      onward (byte c ∷ []) (left c) t _ (store l.out l.o (byte c) (omega (arith, f, l.inv.1, (Start c).requires))),
+      simp length-set l.invariant.1,
+      onward ((get_or c.args.set.now c.loop-i.i 0) ∷ []) (sorted (drop (c.loop-i.i + 1) c.args.set.now) c.args.w.now) t _ (store l.out l.o (get_or c.args.set.now c.loop-i.i 0) (omega (arith, f, l.invariant.1, c.requires))),
     )
 
 pub loop-i-preserved : goal.loop-i-preserved
 loop-i-preserved c =
-    let l = (At c).loop in
-    let t = sorted_skip (set c) (word c) l.i c.loop-i-test.true (sym c.one_of.ensures ∙ c.if-one_of.false) in
-    (omega arith, l.inv.1, due l.inv.2 t)
+    let l = c.loop-i in
+    let t = sorted_skip c.args.set.now c.args.w.now l.i c.loop-i-test.true (sym c.one_of.ensures ∙ c.if-one_of.false) in
+    (omega arith, l.invariant.1, due l.invariant.2 t)
 
 pub returns : goal.returns
 returns c =
