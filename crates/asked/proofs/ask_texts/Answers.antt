@@ -19,7 +19,8 @@ returns-then-any c =
 
 same-flight : (c : After-named_bare) → differs (differences Changes (split 45 c.args.plan.now) (split 45 c.args.said.now)) ≡ false
 same-flight c =
-    let compared : differs (differences Changes (split 45 c.args.plan.now) (split 45 c.args.said.now)) ≡ c.any.result = sym (c.any.ensures ∙ ap differs c.differences_in.ensures) in compared ∙ c.if-any.false
+    let compared : differs (differences Changes (split 45 c.args.plan.now) (split 45 c.args.said.now)) ≡ c.any.result = sym (c.any.ensures ∙ ap differs c.differences_in.ensures) in
+    compared ∙ c.if-any.false
 
 bare-tested : (c : After-named_bare) → is_bare c.rank_of-k.result (named_by c.args.said.now c.rank_of-k.result) ≡ c.named_bare.result
 bare-tested c =

@@ -39,7 +39,7 @@ returns-in-18 c =
 pub returns-in_default : goal.returns-in_default
 returns-in_default c =
     let n = c.args.number in
-    let r = c.in-7.rest in
+    let r = c.in_default.in_default-own.rest in
     rw (
       ne_eqb n 7 r.0.0.0.0.0.0.0.1,
       ne_eqb n 8 r.0.0.0.0.0.0.1,

@@ -31,7 +31,8 @@ fits c =
 
 below : (c : After-lowest_of-k) → c.lowest_of-k.result < 10
 below c =
-    let room : room_for c.args.f c.args.board.places ≡ true = sym c.has_room.ensures ∙ c.if-not-has_room.false in let a = c.args in
+    let room : room_for c.args.f c.args.board.places ≡ true = sym c.has_room.ensures ∙ c.if-not-has_room.false in
+    let a = c.args in
     omega (arith, c.lowest_of-k.ensures, low_below a.f a.board.places room)
 
 pub returns-then-not-has_room : goal.returns-then-not-has_room

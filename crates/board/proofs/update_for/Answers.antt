@@ -33,7 +33,8 @@ short : (c : In-Accepted-2) → c.in-Accepted.n ≤ 1800
 short c =
     let updates : (u : Updated) → c.update.result ≡ u → update_of ((shown_to c.args.f c.args.slot c.args.board.places c.args.bytes.now)) c.in-Flight.held c.args.msg.now 1800 ≡ u = λ u e. sym (ap (λ (w : List ℕ). update_of w c.in-Flight.held c.args.msg.now 1800) c.strip_in.ensures)
     ∙ sym c.update.ensures.0
-    ∙ e in accepted_fits _ _ _ 1800 _ _ (updates _ c.in-Accepted.is)
+    ∙ e in
+    accepted_fits _ _ _ 1800 _ _ (updates _ c.in-Accepted.is)
 
 fits : (c : In-Accepted-2) → c.in-Accepted.n ≤ length c.update.new.out
 fits c =

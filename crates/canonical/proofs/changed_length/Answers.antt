@@ -6,14 +6,14 @@ use Rattle.canonical.proofs.changed_length.Goals as goal
 pub returns-in-Radio : goal.returns-in-Radio
 returns-in-Radio c =
     let a = c.args in
-    c.sorted_length.ensures ∙ sym (ap length (changed_letters a.stage a.w.now c.in-Radio.keys1))
+    c.sorted_length.ensures ∙ sym (ap length (changed_letters a.stage a.w.now c.in-Radio.in-Radio-own.keys1))
 
 pub returns-in-Persons : goal.returns-in-Persons
 returns-in-Persons c =
     let a = c.args in
-    stripped_length a.w.now c.zeros.result c.zeros.ensures.1 ∙ sym (ap length (changed_count a.stage a.w.now c.in-Radio.keys2))
+    stripped_length a.w.now c.zeros.result c.zeros.ensures.1 ∙ sym (ap length (changed_count a.stage a.w.now c.in-Persons.in-Persons-own.keys2))
 
 pub returns-in_default : goal.returns-in_default
 returns-in_default c =
     let a = c.args in
-    sym (ap length (changed_not a.stage a.w.now c.in-Radio.keys3))
+    sym (ap length (changed_not a.stage a.w.now c.in_default.in_default-own.keys3))

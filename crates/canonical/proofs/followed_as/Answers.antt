@@ -12,19 +12,6 @@ use Rattle.canonical.specs.Rewriting.{settled}
 use Rattle.canonical.proofs.Fitting.{passed, shaded_one, read_again}
 use Rattle.canonical.proofs.followed_as.Goals as goal
 
--- `canonical::followed_as` meets its contract. Assumes nothing.
-pub enum_told-1 : goal.enum_told-1
-enum_told-1 c =
-    c.in-Lights.keys1
-
-pub enum_told-in-Number : goal.enum_told-in-Number
-enum_told-in-Number c =
-    c.in-Lights.keys2
-
-pub enum_told-in-Capacity : goal.enum_told-in-Capacity
-enum_told-in-Capacity c =
-    c.in-Lights.keys3
-
 pub returns-in-Lights : goal.returns-in-Lights
 returns-in-Lights c =
     let w = c.args.w.now in
@@ -42,11 +29,11 @@ returns-in-Capacity c =
 
 pub returns-in-Colours : goal.returns-in-Colours
 returns-in-Colours c =
-    let k = among settled (λ s. true) (Colours ∷ (Aircraft ∷ (Remarks ∷ (Pilot ∷ [])))) c.args.stage c.in-Lights.keys4 refl in
+    let k = among settled (λ s. true) (Colours ∷ (Aircraft ∷ (Remarks ∷ (Pilot ∷ [])))) c.args.stage c.in-Colours.in-Colours-own.keys4 refl in
     read_again c.args.stage c.args.w.now k c.requires
 
 pub returns-in_default : goal.returns-in_default
 returns-in_default c =
     let a = c.args in
     let ss = Start ∷ (Endurance ∷ (Persons ∷ (Radio ∷ (Survival ∷ (JacketRadio ∷ (Refused ∷ [])))))) in
-    sym (among (λ s. further s a.w.now) (λ s. Refused) ss a.stage c.in-Lights.keys5 refl)
+    sym (among (λ s. further s a.w.now) (λ s. Refused) ss a.stage c.in_default.in_default-own.keys5 refl)

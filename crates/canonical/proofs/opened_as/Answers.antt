@@ -64,4 +64,4 @@ returns-in-67 c =
 
 pub returns-in_default : goal.returns-in_default
 returns-in_default c =
-    rw (no_letter c.args.key c.in-69.rest)
+    rw (no_letter c.args.key c.in_default.in_default-own.rest)

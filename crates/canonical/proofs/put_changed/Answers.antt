@@ -9,15 +9,15 @@ use Rattle.canonical.proofs.put_changed.Goals as goal
 -- what is written of the word, in each arm
 sorts : (c : In-Radio) → changed c.args.stage c.args.w.now ≡ sorted letters c.args.w.now
 sorts c =
-    changed_letters c.args.stage c.args.w.now c.in-Radio.keys1
+    changed_letters c.args.stage c.args.w.now c.in-Radio.in-Radio-own.keys1
 
 strips : (c : In-Persons) → changed c.args.stage c.args.w.now ≡ stripped c.args.w.now
 strips c =
-    changed_count c.args.stage c.args.w.now c.in-Radio.keys2
+    changed_count c.args.stage c.args.w.now c.in-Persons.in-Persons-own.keys2
 
 keeps : (c : In_default) → changed c.args.stage c.args.w.now ≡ c.args.w.now
 keeps c =
-    changed_not c.args.stage c.args.w.now c.in-Radio.keys3
+    changed_not c.args.stage c.args.w.now c.in_default.in_default-own.keys3
 
 pub put_sorted-requires : goal.put_sorted-requires
 put_sorted-requires c =

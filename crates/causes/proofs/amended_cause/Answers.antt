@@ -34,9 +34,12 @@ text_there c =
 
 field_is : (c : After-unexplained_in-field) → c.unexplained_in-field.result ≡ unexplained_in (amended c.args.role c.args.plan.now c.args.said.now)
 field_is c =
-    let long : c.write_amended-n.result ≡ length (new_strip c.args.role c.args.plan.now c.args.said.now) = c.write_amended-n.ensures.0 in let two : 2 ≤ c.write_amended-n.result = omega (arith, long, new_two c.args.plan.now c.args.said.now c.args.role) in let text_there : split 45 (take (c.write_amended-n.result - 1 - 1) (drop 1 c.write_amended-n.new.out)) ≡ ((amended c.args.role c.args.plan.now c.args.said.now)) = ap (λ (w : List ℕ). split 45 (take (c.write_amended-n.result - 1 - 1) (drop 1 w))) c.write_amended-n.ensures.1
+    let long : c.write_amended-n.result ≡ length (new_strip c.args.role c.args.plan.now c.args.said.now) = c.write_amended-n.ensures.0 in
+    let two : 2 ≤ c.write_amended-n.result = omega (arith, long, new_two c.args.plan.now c.args.said.now c.args.role) in
+    let text_there : split 45 (take (c.write_amended-n.result - 1 - 1) (drop 1 c.write_amended-n.new.out)) ≡ ((amended c.args.role c.args.plan.now c.args.said.now)) = ap (λ (w : List ℕ). split 45 (take (c.write_amended-n.result - 1 - 1) (drop 1 w))) c.write_amended-n.ensures.1
     ∙ ap (split 45) (front_text _ _ c.write_amended-n.result long two)
-    ∙ new_cut c.args.plan.now c.args.said.now c.args.role in c.unexplained_in-field.ensures ∙ ap unexplained_in text_there
+    ∙ new_cut c.args.plan.now c.args.said.now c.args.role in
+    c.unexplained_in-field.ensures ∙ ap unexplained_in text_there
 
 pub write_amended-n-requires : goal.write_amended-n-requires
 write_amended-n-requires c =

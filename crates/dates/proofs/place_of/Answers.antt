@@ -15,7 +15,8 @@ is_dof c b e =
 
 not-dof : (c : After-is_behind) → same (key_in (take (c.find-e.result - c.loop-key.at) (drop c.loop-key.at c.args.s.now))) dof ≡ false
 not-dof c =
-    let is_dof : (b : Bool) → c.same_bytes-in-loop-key.result ≡ b → same (key_in ((take (c.find-e.result - c.loop-key.at) (drop c.loop-key.at c.args.s.now)))) dof ≡ b = λ b e. ap (λ (k : Word). same k dof) (sym c.key_in-key.ensures) ∙ sym c.same_bytes-in-loop-key.ensures ∙ e in is_dof false c.if-same_bytes-2.false
+    let is_dof : (b : Bool) → c.same_bytes-in-loop-key.result ≡ b → same (key_in ((take (c.find-e.result - c.loop-key.at) (drop c.loop-key.at c.args.s.now)))) dof ≡ b = λ b e. ap (λ (k : Word). same k dof) (sym c.key_in-key.ensures) ∙ sym c.same_bytes-in-loop-key.ensures ∙ e in
+    is_dof false c.if-same_bytes-2.false
 
 is_later : (c : After-is_behind) → (b : Bool) → c.is_behind.result ≡ b → elem (key_in (take (c.find-e.result - c.loop-key.at) (drop c.loop-key.at c.args.s.now))) keys_behind ≡ b
 is_later c b e =

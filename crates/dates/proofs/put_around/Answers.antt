@@ -14,12 +14,14 @@ so_far c =
 
 in_room : (c : After-put_two-n) → c.put_two-n.result + length c.args.date.now ≤ length c.put_two-n.new.out
 in_room c =
-    let so_far : length (((c.args.head.now ++ c.args.lead.now)) ++ c.args.date.now) ≤ length c.args.out.now = omega (arith, length-append (((c.args.head.now ++ c.args.lead.now)) ++ c.args.date.now) ((c.args.gap.now ++ c.args.tail.now)), c.requires) in inside (c.args.head.now ++ c.args.lead.now) c.args.date.now c.args.out.now c.put_two-n.ensures so_far
+    let so_far : length (((c.args.head.now ++ c.args.lead.now)) ++ c.args.date.now) ≤ length c.args.out.now = omega (arith, length-append (((c.args.head.now ++ c.args.lead.now)) ++ c.args.date.now) ((c.args.gap.now ++ c.args.tail.now)), c.requires) in
+    inside (c.args.head.now ++ c.args.lead.now) c.args.date.now c.args.out.now c.put_two-n.ensures so_far
 
 dated-out : (c : After-put) → Puts ((c.args.head.now ++ c.args.lead.now) ++ c.args.date.now) (c.put_two-n.result + c.put.result) c.args.out.now
     (take c.put_two-n.result c.put_two-n.new.out ++ (c.put.new.out ++ drop (length c.put_two-n.new.out - c.put_two-n.result) (drop c.put_two-n.result c.put_two-n.new.out)))
 dated-out c =
-    let so_far : length (((c.args.head.now ++ c.args.lead.now)) ++ c.args.date.now) ≤ length c.args.out.now = omega (arith, length-append (((c.args.head.now ++ c.args.lead.now)) ++ c.args.date.now) ((c.args.gap.now ++ c.args.tail.now)), c.requires) in put_behind (c.args.head.now ++ c.args.lead.now) c.args.date.now c.args.out.now c.put_two-n.ensures so_far _ _ c.put.ensures
+    let so_far : length (((c.args.head.now ++ c.args.lead.now)) ++ c.args.date.now) ≤ length c.args.out.now = omega (arith, length-append (((c.args.head.now ++ c.args.lead.now)) ++ c.args.date.now) ((c.args.gap.now ++ c.args.tail.now)), c.requires) in
+    put_behind (c.args.head.now ++ c.args.lead.now) c.args.date.now c.args.out.now c.put_two-n.ensures so_far _ _ c.put.ensures
 
 in-room-2 : (c : After-put) → c.put_two-n.result + c.put.result + length (c.args.gap.now ++ c.args.tail.now)
     ≤ length (take c.put_two-n.result c.put_two-n.new.out ++ (c.put.new.out ++ drop (length c.put_two-n.new.out - c.put_two-n.result) (drop c.put_two-n.result c.put_two-n.new.out)))

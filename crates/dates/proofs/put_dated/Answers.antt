@@ -14,11 +14,13 @@ at_place c p e =
 
 instead : (c : In-Instead-2) → DatePlace c.args.own.now (Instead c.in-Instead.from c.in-Instead.to)
 instead c =
-    let at_place : (p : Place) → c.place_of.result ≡ p → DatePlace c.args.own.now p = λ p e. subst (DatePlace c.args.own.now) e c.place_of.ensures in at_place (Instead c.in-Instead.from c.in-Instead.to) c.in-Instead.is
+    let at_place : (p : Place) → c.place_of.result ≡ p → DatePlace c.args.own.now p = λ p e. subst (DatePlace c.args.own.now) e c.place_of.ensures in
+    at_place (Instead c.in-Instead.from c.in-Instead.to) c.in-Instead.is
 
 before-it : (c : In-Before-2) → DatePlace c.args.own.now (Before c.in-Before.at)
 before-it c =
-    let at_place : (p : Place) → c.place_of.result ≡ p → DatePlace c.args.own.now p = λ p e. subst (DatePlace c.args.own.now) e c.place_of.ensures in at_place (Before c.in-Before.at) c.in-Before.is
+    let at_place : (p : Place) → c.place_of.result ≡ p → DatePlace c.args.own.now p = λ p e. subst (DatePlace c.args.own.now) e c.place_of.ensures in
+    at_place (Before c.in-Before.at) c.in-Before.is
 
 pub slice_bounds-put_around-end : goal.slice_bounds-put_around-end
 slice_bounds-put_around-end c =

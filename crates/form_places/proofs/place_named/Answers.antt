@@ -51,6 +51,6 @@ pub returns-in_default : goal.returns-in_default
 returns-in_default c =
     let a = c.args in
     let h = c.requires in
-    let r = c.in-1.rest in
+    let r = c.in_default.in_default-own.rest in
     let z = the_last a.k h.0 h.1 r.0.0.0.0.0.0.1 r.0.0.0.0.0.1 r.0.0.0.0.1 r.0.0.0.1 r.0.0.1 r.0.1 r.1 in
     c.place_field18.ensures ∙ sym (ap (λ (k : ℕ). place_named k a.s.now) z)

@@ -49,6 +49,6 @@ returns-in-7 c =
 pub returns-in_default : goal.returns-in_default
 returns-in_default c =
     let k = c.args.k in
-    let r = c.in-0.rest in
+    let r = c.in_default.in_default-own.rest in
     let four = from_four k r.0.0.0.0.0.0.0.1 r.0.0.0.0.0.0.1 r.0.0.0.0.0.1 r.0.0.0.0.1 in
     c.fits_field18.ensures ∙ last_fits k c.args.s.now (from_eight k four r.0.0.0.1 r.0.0.1 r.0.1 r.1)

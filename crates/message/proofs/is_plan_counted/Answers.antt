@@ -41,7 +41,10 @@ at_most c =
 
 text-counted : (c : Else-greatest-count) → Counted c.args.t c.args.msg.now (c.count_hyphens-count.result + 1) ((take (length c.args.msg.now - 1 - 1) (drop 1 c.args.msg.now)))
 text-counted c =
-    let count_is : ((c.count_hyphens-count.result + 1)) ≡ count_of c.args.msg.now = ap (λ (k : ℕ). k + 1) c.count_hyphens-count.ensures in let at_least : least_of c.args.t ≤ (c.count_hyphens-count.result + 1) = omega (arith, c.least.ensures, c.if-count-least.false) in let is_same : same (reduced c.args.msg.now) c.args.msg.now ≡ true = sym c.is_reduced.ensures ∙ c.if-not-is_reduced.false in counted c.args.msg.now [] _ c.requires refl c.args.t (c.count_hyphens-count.result + 1) count_is at_least (at_most c) ((take (length c.args.msg.now - 1 - 1) (drop 1 c.args.msg.now)))
+    let count_is : ((c.count_hyphens-count.result + 1)) ≡ count_of c.args.msg.now = ap (λ (k : ℕ). k + 1) c.count_hyphens-count.ensures in
+    let at_least : least_of c.args.t ≤ (c.count_hyphens-count.result + 1) = omega (arith, c.least.ensures, c.if-count-least.false) in
+    let is_same : same (reduced c.args.msg.now) c.args.msg.now ≡ true = sym c.is_reduced.ensures ∙ c.if-not-is_reduced.false in
+    counted c.args.msg.now [] _ c.requires refl c.args.t (c.count_hyphens-count.result + 1) count_is at_least (at_most c) ((take (length c.args.msg.now - 1 - 1) (drop 1 c.args.msg.now)))
     (text_itself c.args.msg.now (same-eq _ _ is_same))
 
 pub returns-then-not-is_plan : goal.returns-then-not-is_plan

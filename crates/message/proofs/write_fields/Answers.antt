@@ -62,8 +62,11 @@ more c =
       room = omega (arith, c.requires.1, length-set c.args.out.now 0 40);
       even = c.requires.2;
       clear = c.requires.3;
-    } in let writing : Writing c.args.t c.args.count c.args.s.now ((set c.args.out.now 0 40)) c.loop-row.out c.loop-row.o c.loop-row.at c.loop-row.j = c.loop-row.invariant.0 c.args.t given in let end-here : EndAt c.args.s.now c.loop-row.at (get_or c.args.ends.now c.loop-row.j 0) = end_known c.args.t c.args.count c.args.s.now c.args.ends.now c.requires.0 c.requires.2 c.loop-row.at c.loop-row.j
-    writing.even c.loop-row.invariant.1 in omega (arith, end-here.inside)
+    } in
+    let writing : Writing c.args.t c.args.count c.args.s.now ((set c.args.out.now 0 40)) c.loop-row.out c.loop-row.o c.loop-row.at c.loop-row.j = c.loop-row.invariant.0 c.args.t given in
+    let end-here : EndAt c.args.s.now c.loop-row.at (get_or c.args.ends.now c.loop-row.j 0) = end_known c.args.t c.args.count c.args.s.now c.args.ends.now c.requires.0 c.requires.2 c.loop-row.at c.loop-row.j
+    writing.even c.loop-row.invariant.1 in
+    omega (arith, end-here.inside)
 
 pub bounds-out-0 : goal.bounds-out-0
 bounds-out-0 c =

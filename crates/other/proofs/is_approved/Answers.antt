@@ -12,8 +12,10 @@ told c =
     sym c.codes_fit_by.ensures
 
 of-codes : (c : Else-not-codes_fit_by) → codes_fit approvals (codes c.args.w.now) ≡ true
+unfolding approvals
 of-codes c =
-    let told : codes_fit approvals (codes c.args.w.now) ≡ c.codes_fit_by.result = sym c.codes_fit_by.ensures in told ∙ c.if-not-codes_fit_by.false
+    let told : codes_fit approvals (codes c.args.w.now) ≡ c.codes_fit_by.result = sym c.codes_fit_by.ensures in
+    told ∙ c.if-not-codes_fit_by.false
 
 pub returns-then-not-codes_fit_by : goal.returns-then-not-codes_fit_by
 returns-then-not-codes_fit_by c =

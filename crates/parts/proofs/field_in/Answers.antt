@@ -16,7 +16,8 @@ count_is c =
 
 rank_is : (c : After-rank_of-j) → c.rank_of-j.result ≡ rank_in c.args.t c.args.m.now c.args.number
 rank_is c =
-    let count_is : c.count_hyphens-count.result + 1 ≡ count_of c.args.m.now = ap (λ (k : ℕ). k + 1) c.count_hyphens-count.ensures in let a = c.args in
+    let count_is : c.count_hyphens-count.result + 1 ≡ count_of c.args.m.now = ap (λ (k : ℕ). k + 1) c.count_hyphens-count.ensures in
+    let a = c.args in
     c.rank_of-j.ensures ∙ ap (λ (k : ℕ). up_to a.number (map number_of (forms_of a.t k))) count_is
 
 pub overflow_add-count : goal.overflow_add-count

@@ -37,23 +37,33 @@ eighteen c =
 -- THEIR CONTENTS
 content-seven : (c : After-content) → c.content.result.now ≡ content_in c.args.m.now plan7
 content-seven c =
-    let own : Own Fpl c.args.m.now = c.requires in let seven : c.field_at-seven.result ≡ span_at c.args.m.now plan7 = c.field_at-seven.ensures in content_there Fpl c.args.m.now own plan7 _ seven _ c.content.ensures
+    let own : Own Fpl c.args.m.now = c.requires in
+    let seven : c.field_at-seven.result ≡ span_at c.args.m.now plan7 = c.field_at-seven.ensures in
+    content_there Fpl c.args.m.now own plan7 _ seven _ c.content.ensures
 
 content-nine : (c : After-content-2) → c.content-2.result.now ≡ content_in c.args.m.now plan9
 content-nine c =
-    let own : Own Fpl c.args.m.now = c.requires in let nine : c.field_at-nine.result ≡ span_at c.args.m.now plan9 = c.field_at-nine.ensures in content_there Fpl c.args.m.now own plan9 _ nine _ c.content-2.ensures
+    let own : Own Fpl c.args.m.now = c.requires in
+    let nine : c.field_at-nine.result ≡ span_at c.args.m.now plan9 = c.field_at-nine.ensures in
+    content_there Fpl c.args.m.now own plan9 _ nine _ c.content-2.ensures
 
 content-thirteen : (c : After-content-3) → c.content-3.result.now ≡ content_in c.args.m.now plan13
 content-thirteen c =
-    let own : Own Fpl c.args.m.now = c.requires in let thirteen : c.field_at-thirteen.result ≡ span_at c.args.m.now plan13 = c.field_at-thirteen.ensures in content_there Fpl c.args.m.now own plan13 _ thirteen _ c.content-3.ensures
+    let own : Own Fpl c.args.m.now = c.requires in
+    let thirteen : c.field_at-thirteen.result ≡ span_at c.args.m.now plan13 = c.field_at-thirteen.ensures in
+    content_there Fpl c.args.m.now own plan13 _ thirteen _ c.content-3.ensures
 
 content-sixteen : (c : After-content-4) → c.content-4.result.now ≡ content_in c.args.m.now plan16
 content-sixteen c =
-    let own : Own Fpl c.args.m.now = c.requires in let sixteen : c.field_at-sixteen.result ≡ span_at c.args.m.now plan16 = c.field_at-sixteen.ensures in content_there Fpl c.args.m.now own plan16 _ sixteen _ c.content-4.ensures
+    let own : Own Fpl c.args.m.now = c.requires in
+    let sixteen : c.field_at-sixteen.result ≡ span_at c.args.m.now plan16 = c.field_at-sixteen.ensures in
+    content_there Fpl c.args.m.now own plan16 _ sixteen _ c.content-4.ensures
 
 content-eighteen : (c : After-content-5) → c.content-5.result.now ≡ content_in c.args.m.now plan18
 content-eighteen c =
-    let own : Own Fpl c.args.m.now = c.requires in let eighteen : c.field_at-eighteen.result ≡ span_at c.args.m.now plan18 = c.field_at-eighteen.ensures in content_there Fpl c.args.m.now own plan18 _ eighteen _ c.content-5.ensures
+    let own : Own Fpl c.args.m.now = c.requires in
+    let eighteen : c.field_at-eighteen.result ≡ span_at c.args.m.now plan18 = c.field_at-eighteen.ensures in
+    content_there Fpl c.args.m.now own plan18 _ eighteen _ c.content-5.ensures
 
 pub content-requires : goal.content-requires
 content-requires c =

@@ -26,7 +26,9 @@ inside c n =
 
 told : (c : Else-w-o-ne47) → pair_fits (wides climbs) c.args.w.now ≡ (point_fits 5 (take c.end_of-o.result c.args.w.now) && any (wides climbs) (drop (c.end_of-o.result + 1) c.args.w.now))
 told c =
-    let signs : c.end_of-o.result ≡ leading sign c.args.w.now = omega (arith, c.end_of-o.ensures.value) in let inside : (c.end_of-o.result ≡ length c.args.w.now → ⊥) → c.end_of-o.result < length c.args.w.now = λ n. omega (arith, c.end_of-o.ensures.lower_bound.1) in let n = c.if-o-w.false in
+    let signs : c.end_of-o.result ≡ leading sign c.args.w.now = omega (arith, c.end_of-o.ensures.value) in
+    let inside : (c.end_of-o.result ≡ length c.args.w.now → ⊥) → c.end_of-o.result < length c.args.w.now = λ n. omega (arith, c.end_of-o.ensures.lower_bound.1) in
+    let n = c.if-o-w.false in
     let at = oblique_at c.args.w.now c.end_of-o.result signs (inside n) c.if-w-o-ne47.false in
     pair_at c.args.w.now c.end_of-o.result at (wides climbs) n c.end_of-o.ensures.lower_bound.1
 

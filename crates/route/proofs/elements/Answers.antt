@@ -18,7 +18,8 @@ signs c =
 
 next : (c : Then-s-o-eq32) → route_fits (split 32 (drop c.loop-w.at c.args.s.now)) ≡ (word_fits false (take (c.end_of-o.result - c.loop-w.at) (drop c.loop-w.at c.args.s.now)) && route_fits (split 32 (drop (c.end_of-o.result + 1) c.args.s.now)))
 next c =
-    let signs : all sign ((take (c.end_of-o.result - c.loop-w.at) (drop c.loop-w.at c.args.s.now))) ≡ true = word_signs c.args.s.now c.loop-w.at c.end_of-o.result c.end_of-o.ensures.value in let l : c.end_of-o.result < length c.args.s.now = omega arith in
+    let signs : all sign ((take (c.end_of-o.result - c.loop-w.at) (drop c.loop-w.at c.args.s.now))) ≡ true = word_signs c.args.s.now c.loop-w.at c.end_of-o.result c.end_of-o.ensures.value in
+    let l : c.end_of-o.result < length c.args.s.now = omega arith in
     let n = space_here c.args.s.now c.loop-w.at c.end_of-o.result c.end_of-o.ensures.value l c.if-s-o-eq32.true in
     rw (signs_plain false (take (c.end_of-o.result - c.loop-w.at) (drop c.loop-w.at c.args.s.now)) signs) at (route_next c.args.s.now c.loop-w.at c.end_of-o.result n l)
 

@@ -35,7 +35,11 @@ told c =
 -- where it is another
 changing : (c : Else-same_bytes) → element_fits true c.args.w.now ≡ (point_fits 5 (take c.args.o c.args.w.now) && any (wides changes) (drop (c.args.o + 1) c.args.w.now))
 changing c =
-    let oblique : c.args.o ≡ 0 + up_to 47 c.args.w.now = oblique_at c.args.w.now c.args.o c.requires.1 c.requires.0 c.if-w-o-ne47.false in let short : c.args.o ≡ length c.args.w.now → ⊥ = λ e. omega (arith, c.requires.0) in let inside : c.args.o ≤ length c.args.w.now = omega (arith, c.requires.0) in let told : element_fits true c.args.w.now ≡ cond (same (take c.args.o c.args.w.now) (bytes "C")) (pair_fits (wides climbs) (drop (c.args.o + 1) c.args.w.now)) (pair_fits (wides changes) c.args.w.now) = element_at c.args.w.now c.args.o oblique true short inside in rw (told, sym c.same_bytes.ensures ∙ c.if-same_bytes.false) (pair_at c.args.w.now c.args.o oblique (wides changes) short inside)
+    let oblique : c.args.o ≡ 0 + up_to 47 c.args.w.now = oblique_at c.args.w.now c.args.o c.requires.1 c.requires.0 c.if-w-o-ne47.false in
+    let short : c.args.o ≡ length c.args.w.now → ⊥ = λ e. omega (arith, c.requires.0) in
+    let inside : c.args.o ≤ length c.args.w.now = omega (arith, c.requires.0) in
+    let told : element_fits true c.args.w.now ≡ cond (same (take c.args.o c.args.w.now) (bytes "C")) (pair_fits (wides climbs) (drop (c.args.o + 1) c.args.w.now)) (pair_fits (wides changes) c.args.w.now) = element_at c.args.w.now c.args.o oblique true short inside in
+    rw (told, sym c.same_bytes.ensures ∙ c.if-same_bytes.false) (pair_at c.args.w.now c.args.o oblique (wides changes) short inside)
 
 pub returns-then-w-o-ne47 : goal.returns-then-w-o-ne47
 returns-then-w-o-ne47 c =

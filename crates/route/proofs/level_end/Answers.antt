@@ -23,6 +23,6 @@ returns-in-83 c =
 
 pub returns-in_default : goal.returns-in_default
 returns-in_default c =
-    let r = c.in-70.rest in
+    let r = c.in_default.in_default-own.rest in
     let n = no_level_letter (letter_of c.args.w.now) (λ e. r.0.1 (inr e)) (λ e. r.0.1 (inl e)) (λ e. r.1 (inr e)) (λ e. r.1 (inl e)) in
     (sym (unit_none (level_digits (letter_of c.args.w.now)) c.args.w.now n), omega arith)

@@ -23,6 +23,6 @@ returns-in-77 c =
 
 pub returns-in_default : goal.returns-in_default
 returns-in_default c =
-    let r = c.in-75.rest in
+    let r = c.in_default.in_default-own.rest in
     let n = no_speed_letter (letter_of c.args.w.now) (λ e. r.0.1 (inl e)) (λ e. r.0.1 (inr e)) r.1 in
     (sym (unit_none (speed_digits (letter_of c.args.w.now)) c.args.w.now n), omega arith)

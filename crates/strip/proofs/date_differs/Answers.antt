@@ -38,7 +38,8 @@ is-theirs c =
 
 ours-there : (c : After-date_word-theirs) → null (date_in c.args.a.now) ≡ false
 ours-there c =
-    let is_ours : c.date_word-ours.result.now ≡ ((date_in c.args.a.now)) = c.date_word-ours.ensures in some-there c.date_word-ours.result.now (date_in c.args.a.now) is_ours c.if-ours-eq0.false
+    let is_ours : c.date_word-ours.result.now ≡ ((date_in c.args.a.now)) = c.date_word-ours.ensures in
+    some-there c.date_word-ours.result.now (date_in c.args.a.now) is_ours c.if-ours-eq0.false
 
 pub returns-then-not-compares_date : goal.returns-then-not-compares_date
 returns-then-not-compares_date c =

@@ -9,23 +9,6 @@ use Rattle.supplement.proofs.Stages.{among}
 use Rattle.supplement.proofs.Steps.{as_taken}
 use Rattle.supplement.proofs.further.Goals as goal
 
--- `supplement::further` meets its contract. Assumes nothing.
-pub enum_told-1 : goal.enum_told-1
-enum_told-1 c =
-    c.in-Lights.keys1
-
-pub enum_told-in-Number : goal.enum_told-in-Number
-enum_told-in-Number c =
-    c.in-Lights.keys2
-
-pub enum_told-in-Capacity : goal.enum_told-in-Capacity
-enum_told-in-Capacity c =
-    c.in-Lights.keys3
-
-pub enum_told-in-Colours : goal.enum_told-in-Colours
-enum_told-in-Colours c =
-    c.in-Lights.keys4
-
 pub returns-in-Lights : goal.returns-in-Lights
 returns-in-Lights c =
     rw c.in-Lights.is (as_taken JacketRadio c.taken.ensures c.is_some_of.ensures)
@@ -48,10 +31,10 @@ returns-in-Aircraft c =
     let w = a.w.now in
     as_taken a.stage c.taken-in-Aircraft.ensures c.is_text_word.ensures
     ∙ sym
-    (among (λ s. further_of s w) (λ s. cond (text_word w) s Refused) (Aircraft ∷ (Remarks ∷ (Pilot ∷ []))) a.stage c.in-Lights.keys5 refl)
+    (among (λ s. further_of s w) (λ s. cond (text_word w) s Refused) (Aircraft ∷ (Remarks ∷ (Pilot ∷ []))) a.stage c.in-Aircraft.in-Aircraft-own.keys5 refl)
 
 pub returns-in_default : goal.returns-in_default
 returns-in_default c =
     let a = c.args in
     let ss = Start ∷ (Endurance ∷ (Persons ∷ (Radio ∷ (Survival ∷ (JacketRadio ∷ (Refused ∷ [])))))) in
-    sym (among (λ s. further_of s a.w.now) (λ s. Refused) ss a.stage c.in-Lights.keys6 refl)
+    sym (among (λ s. further_of s a.w.now) (λ s. Refused) ss a.stage c.in_default.in_default-own.keys6 refl)

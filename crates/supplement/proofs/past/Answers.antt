@@ -5,35 +5,6 @@ use Rattle.supplement.specs.Walk.{past as past_of}
 use Rattle.supplement.proofs.Stages.{among}
 use Rattle.supplement.proofs.past.Goals as goal
 
--- `supplement::past` meets its contract. Assumes nothing.
-pub enum_told-1 : goal.enum_told-1
-enum_told-1 c =
-    c.in-Start.keys1
-
-pub enum_told-in-Endurance : goal.enum_told-in-Endurance
-enum_told-in-Endurance c =
-    c.in-Start.keys2
-
-pub enum_told-in-Persons : goal.enum_told-in-Persons
-enum_told-in-Persons c =
-    c.in-Start.keys3
-
-pub enum_told-in-Radio : goal.enum_told-in-Radio
-enum_told-in-Radio c =
-    c.in-Start.keys4
-
-pub enum_told-in-Survival : goal.enum_told-in-Survival
-enum_told-in-Survival c =
-    c.in-Start.keys5
-
-pub enum_told-in-Aircraft : goal.enum_told-in-Aircraft
-enum_told-in-Aircraft c =
-    c.in-Start.keys8
-
-pub enum_told-in-Remarks : goal.enum_told-in-Remarks
-enum_told-in-Remarks c =
-    c.in-Start.keys9
-
 pub returns-in-Start : goal.returns-in-Start
 returns-in-Start c =
     sym (ap past_of c.in-Start.is)
@@ -56,11 +27,11 @@ returns-in-Survival c =
 
 pub returns-in-Lights : goal.returns-in-Lights
 returns-in-Lights c =
-    sym (among past_of (λ s. 5) (Lights ∷ (JacketRadio ∷ [])) c.args.stage c.in-Start.keys6 refl)
+    sym (among past_of (λ s. 5) (Lights ∷ (JacketRadio ∷ [])) c.args.stage c.in-Lights.in-Lights-own.keys6 refl)
 
 pub returns-in-Capacity : goal.returns-in-Capacity
 returns-in-Capacity c =
-    sym (among past_of (λ s. 6) (Capacity ∷ (Colours ∷ [])) c.args.stage c.in-Start.keys7 refl)
+    sym (among past_of (λ s. 6) (Capacity ∷ (Colours ∷ [])) c.args.stage c.in-Capacity.in-Capacity-own.keys7 refl)
 
 pub returns-in-Aircraft : goal.returns-in-Aircraft
 returns-in-Aircraft c =
@@ -72,4 +43,4 @@ returns-in-Remarks c =
 
 pub returns-in_default : goal.returns-in_default
 returns-in_default c =
-    sym (among past_of (λ s. 9) (Number ∷ (Pilot ∷ (Refused ∷ []))) c.args.stage c.in-Start.keys10 refl)
+    sym (among past_of (λ s. 9) (Number ∷ (Pilot ∷ (Refused ∷ []))) c.args.stage c.in_default.in_default-own.keys10 refl)

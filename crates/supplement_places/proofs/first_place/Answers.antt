@@ -44,6 +44,6 @@ returns-in-65 c =
 pub returns-in_default : goal.returns-in_default
 returns-in_default c =
     let a = c.args in
-    let r = c.in-69.rest in
+    let r = c.in_default.in_default-own.rest in
     sym (ap (λ k. first_word_place k a.w.now)
     (no_letter a.key (((r.0, λ e. r.1 (inl e)), λ e. r.1 (inr (inr e))), λ e. r.1 (inr (inl e)))))

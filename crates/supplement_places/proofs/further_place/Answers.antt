@@ -22,16 +22,16 @@ pub returns-in-Capacity : goal.returns-in-Capacity
 returns-in-Capacity c =
     let a = c.args in
     c.front_of.ensures.0
-    ∙ sym (among (λ r. further_place r a.w.now) (λ r. leading letter a.w.now) (Capacity ∷ (Colours ∷ [])) a.stage c.in-Lights.keys3 refl)
+    ∙ sym (among (λ r. further_place r a.w.now) (λ r. leading letter a.w.now) (Capacity ∷ (Colours ∷ [])) a.stage c.in-Capacity.in-Capacity-own.keys3 refl)
 
 pub returns-in-Aircraft : goal.returns-in-Aircraft
 returns-in-Aircraft c =
     let a = c.args in
     c.front_of-in-Aircraft.ensures.0
-    ∙ sym (among (λ r. further_place r a.w.now) (λ r. leading text a.w.now) (Aircraft ∷ (Remarks ∷ (Pilot ∷ []))) a.stage c.in-Lights.keys4 refl)
+    ∙ sym (among (λ r. further_place r a.w.now) (λ r. leading text a.w.now) (Aircraft ∷ (Remarks ∷ (Pilot ∷ []))) a.stage c.in-Aircraft.in-Aircraft-own.keys4 refl)
 
 pub returns-in_default : goal.returns-in_default
 returns-in_default c =
     let a = c.args in
     sym (among (λ r. further_place r a.w.now) (λ r. 0)
-    (Start ∷ (Endurance ∷ (Persons ∷ (Radio ∷ (Survival ∷ (JacketRadio ∷ (Refused ∷ []))))))) a.stage c.in-Lights.keys5 refl)
+    (Start ∷ (Endurance ∷ (Persons ∷ (Radio ∷ (Survival ∷ (JacketRadio ∷ (Refused ∷ []))))))) a.stage c.in_default.in_default-own.keys5 refl)

@@ -36,7 +36,9 @@ returns-then-w-ne47 c =
 
 placed : (c : After-first_place) → 2 + c.first_place.result ≡ item_place c.args.stage c.args.w.now
 placed c =
-    let some : length c.args.w.now ≡ 0 → ⊥ = c.if-w-eq0.false in let later : past c.args.stage < place (by_letter (get_or c.args.w.now 0 0)) = omega (arith, c.place.ensures, c.past.ensures) in item_first c.args.stage c.args.w.now some later c.first_place.result c.if-w-eq1.false c.if-w-ne47.false c.first_place.ensures
+    let some : length c.args.w.now ≡ 0 → ⊥ = c.if-w-eq0.false in
+    let later : past c.args.stage < place (by_letter (get_or c.args.w.now 0 0)) = omega (arith, c.place.ensures, c.past.ensures) in
+    item_first c.args.stage c.args.w.now some later c.first_place.result c.if-w-eq1.false c.if-w-ne47.false c.first_place.ensures
 
 pub overflow_add-result : goal.overflow_add-result
 overflow_add-result c =

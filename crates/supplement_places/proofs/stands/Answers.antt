@@ -12,4 +12,4 @@ returns-in_default c =
     sym (among stands_at (λ s. true)
     (Start ∷ (Endurance ∷ (Persons ∷ (Radio ∷ (Survival ∷ (Lights ∷ (JacketRadio
     ∷ (Number ∷ (Capacity ∷ (Colours ∷ (Aircraft ∷ (Remarks ∷ (Pilot ∷ [])))))))))))))
-    c.args.stage c.in-Refused.keys2 refl)
+    c.args.stage c.in_default.in_default-own.keys2 refl)
