@@ -1,6 +1,6 @@
 -- An item by its key, of a content and of its record: `has_key` and `words_under` tell what the record has. Assumes nothing.
 use Prim.Native.Nat.{ℕ, ◌<◌}
-use mathlib.Core.Path.{◌≡◌, refl, sym, ap, ◌∙◌}
+use mathlib.Core.Path.{◌≡◌, refl, sym, ap, subst, ◌∙◌}
 use mathlib.Core.Bool.{Bool, true, false, cond, not, false≢true}
 use mathlib.Core.List.Memᴰ
 use mathlib.Core.List.{List, [], ◌∷◌, map, Memᴰ}
@@ -93,7 +93,8 @@ module _ (ed : Edition18) where
       (Memᴰ.cases_cons m)
     where
       here : i ≡ j → under i.key (j ∷ is) ≡ join 32 (i.first ∷ i.more)
-      here q = rw (q, same_self j.key)
+      here q =
+          subst (λ (x : Worded). under x.key (j ∷ is) ≡ join 32 (x.first ∷ x.more)) (sym q) (rw (same_self j.key))
 
       later : rank_in ed j.key < rank_in ed i.key
           → under i.key is ≡ join 32 (i.first ∷ i.more) → under i.key (j ∷ is) ≡ join 32 (i.first ∷ i.more)

@@ -70,7 +70,7 @@ pub item-words-requires : goal.item-words-requires
 item-words-requires t c =
     let p = c.requires in
     let f = c.end_of-e.ensures.lower_bound in
-    let z = eqb-true _ _ (sym c.word_ends.ensures ∙ c.if-not-word_ends.false) in record { before = omega (arith, p.before, p.at_le_o.0, p.at_le_o.1, f); end_in_bounds = (search rules, search rules, z); rules_value = p.rules_value }
+    let z = eqb-true _ _ (sym c.word_ends.ensures ∙ c.if-not-word_ends.false) in (omega (arith, p.at_le_o.0, p.at_le_o.1, f), ((search rules, search rules, z), p.rules_value))
 
 pub item-returns : goal.item-returns
 item-returns t c =
@@ -125,7 +125,7 @@ words-item-requires t c =
     let words_inside : c.word_ends.result ≡ false → c.end_of-e.result < length c.args.s.now = λ n. not_over_lem c.args.s.now c.end_of-e.result words-most (sym c.word_ends.ensures ∙ n) in
     let run = run_all text c.args.s.now (c.loop-e.e + 1) c.end_of-e.result c.end_of-e.ensures.value in
     let p = c.requires in
-    let within = words_inside (c.if-not-word_ends.true) in record { before = omega (arith, p.before, c.loop-e.invariant.0, c.loop-e-test.true); at_le_o = (search rules, within, c.if-s-e-ne47.false, run); rules_value = p.rules_value }
+    let within = words_inside (c.if-not-word_ends.true) in (omega (arith, c.loop-e.invariant.0, c.loop-e-test.true), ((search rules, within, c.if-s-e-ne47.false, run), p.rules_value))
 
 pub words-returns-then-not-word_ends : goal.words-returns-then-not-word_ends
 words-returns-then-not-word_ends t c =
@@ -140,9 +140,9 @@ words-returns-then-is_single t c =
     let words-reached : ((fit_more ((edition (cells 4 c.args.keys.now) c.args.rules.now)) c.args.k (after 32 (drop c.args.end c.args.s.now)))) ≡ fit_more ((edition (cells 4 c.args.keys.now) c.args.rules.now)) c.args.k (split 32 (drop ((c.loop-e.e + 1)) c.args.s.now)) = let l = c.loop-e in
     l.invariant.2 ∙ ap (fit_more ((edition (cells 4 c.args.keys.now) c.args.rules.now)) c.args.k) (after_here 32 c.args.s.now l.e c.loop-e-test.true) in
     let words-most : c.end_of-e.result ≤ length c.args.s.now = c.end_of-e.ensures.lower_bound.1 in
-    let words-word : c.word_ends.result ≡ true → ((fit_more ((edition (cells 4 c.args.keys.now) c.args.rules.now)) c.args.k (after 32 (drop c.args.end c.args.s.now)))) ≡ ((λ r. more_fits r (take (c.end_of-e.result - ((c.loop-e.e + 1))) (drop ((c.loop-e.e + 1)) c.args.s.now)) && fit_more ((edition (cells 4 c.args.keys.now) c.args.rules.now)) c.args.k (after 32 (drop c.end_of-e.result c.args.s.now)))) c.rule_at-rule.result = λ q. words-reached
+    let words-word : c.word_ends.result ≡ true → ((fit_more ((edition (cells 4 c.args.keys.now) c.args.rules.now)) c.args.k (after 32 (drop c.args.end c.args.s.now)))) ≡ ((λ (r : Rule). more_fits r (take (c.end_of-e.result - ((c.loop-e.e + 1))) (drop ((c.loop-e.e + 1)) c.args.s.now)) && fit_more ((edition (cells 4 c.args.keys.now) c.args.rules.now)) c.args.k (after 32 (drop c.end_of-e.result c.args.s.now)))) c.rule_at-rule.result = λ q. words-reached
     ∙ more_word c.args.s.now ((c.loop-e.e + 1)) c.end_of-e.result c.end_of-e.ensures.value words-most ((edition (cells 4 c.args.keys.now) c.args.rules.now)) c.args.k (sym c.word_ends.ensures ∙ q)
-    ∙ ap ((λ r. more_fits r (take (c.end_of-e.result - ((c.loop-e.e + 1))) (drop ((c.loop-e.e + 1)) c.args.s.now)) && fit_more ((edition (cells 4 c.args.keys.now) c.args.rules.now)) c.args.k (after 32 (drop c.end_of-e.result c.args.s.now)))) (sym c.rule_at-rule.ensures) in rw (words-word (c.if-not-word_ends.false), sym c.is_single.ensures ∙ c.if-is_single.true)
+    ∙ ap ((λ (r : Rule). more_fits r (take (c.end_of-e.result - ((c.loop-e.e + 1))) (drop ((c.loop-e.e + 1)) c.args.s.now)) && fit_more ((edition (cells 4 c.args.keys.now) c.args.rules.now)) c.args.k (after 32 (drop c.end_of-e.result c.args.s.now)))) (sym c.rule_at-rule.ensures) in rw (words-word (c.if-not-word_ends.false), sym c.is_single.ensures ∙ c.if-is_single.true)
 
 pub words-text_fits-requires : goal.words-text_fits-requires
 words-text_fits-requires t c =
@@ -153,9 +153,9 @@ words-returns-then-not-text_fits t c =
     let words-reached : ((fit_more ((edition (cells 4 c.args.keys.now) c.args.rules.now)) c.args.k (after 32 (drop c.args.end c.args.s.now)))) ≡ fit_more ((edition (cells 4 c.args.keys.now) c.args.rules.now)) c.args.k (split 32 (drop ((c.loop-e.e + 1)) c.args.s.now)) = let l = c.loop-e in
     l.invariant.2 ∙ ap (fit_more ((edition (cells 4 c.args.keys.now) c.args.rules.now)) c.args.k) (after_here 32 c.args.s.now l.e c.loop-e-test.true) in
     let words-most : c.end_of-e.result ≤ length c.args.s.now = c.end_of-e.ensures.lower_bound.1 in
-    let words-word : c.word_ends.result ≡ true → ((fit_more ((edition (cells 4 c.args.keys.now) c.args.rules.now)) c.args.k (after 32 (drop c.args.end c.args.s.now)))) ≡ ((λ r. more_fits r (take (c.end_of-e.result - ((c.loop-e.e + 1))) (drop ((c.loop-e.e + 1)) c.args.s.now)) && fit_more ((edition (cells 4 c.args.keys.now) c.args.rules.now)) c.args.k (after 32 (drop c.end_of-e.result c.args.s.now)))) c.rule_at-rule.result = λ q. words-reached
+    let words-word : c.word_ends.result ≡ true → ((fit_more ((edition (cells 4 c.args.keys.now) c.args.rules.now)) c.args.k (after 32 (drop c.args.end c.args.s.now)))) ≡ ((λ (r : Rule). more_fits r (take (c.end_of-e.result - ((c.loop-e.e + 1))) (drop ((c.loop-e.e + 1)) c.args.s.now)) && fit_more ((edition (cells 4 c.args.keys.now) c.args.rules.now)) c.args.k (after 32 (drop c.end_of-e.result c.args.s.now)))) c.rule_at-rule.result = λ q. words-reached
     ∙ more_word c.args.s.now ((c.loop-e.e + 1)) c.end_of-e.result c.end_of-e.ensures.value words-most ((edition (cells 4 c.args.keys.now) c.args.rules.now)) c.args.k (sym c.word_ends.ensures ∙ q)
-    ∙ ap ((λ r. more_fits r (take (c.end_of-e.result - ((c.loop-e.e + 1))) (drop ((c.loop-e.e + 1)) c.args.s.now)) && fit_more ((edition (cells 4 c.args.keys.now) c.args.rules.now)) c.args.k (after 32 (drop c.end_of-e.result c.args.s.now)))) (sym c.rule_at-rule.ensures) in
+    ∙ ap ((λ (r : Rule). more_fits r (take (c.end_of-e.result - ((c.loop-e.e + 1))) (drop ((c.loop-e.e + 1)) c.args.s.now)) && fit_more ((edition (cells 4 c.args.keys.now) c.args.rules.now)) c.args.k (after 32 (drop c.end_of-e.result c.args.s.now)))) (sym c.rule_at-rule.ensures) in
     let e = sym c.text_fits.ensures ∙ c.if-not-text_fits.true in
     rw (words-word (c.if-not-word_ends.false), sym c.is_single.ensures ∙ c.if-is_single.false, e)
 
@@ -164,9 +164,9 @@ words-loop-e-preserved t c =
     let words-reached : ((fit_more ((edition (cells 4 c.args.keys.now) c.args.rules.now)) c.args.k (after 32 (drop c.args.end c.args.s.now)))) ≡ fit_more ((edition (cells 4 c.args.keys.now) c.args.rules.now)) c.args.k (split 32 (drop ((c.loop-e.e + 1)) c.args.s.now)) = let l = c.loop-e in
     l.invariant.2 ∙ ap (fit_more ((edition (cells 4 c.args.keys.now) c.args.rules.now)) c.args.k) (after_here 32 c.args.s.now l.e c.loop-e-test.true) in
     let words-most : c.end_of-e.result ≤ length c.args.s.now = c.end_of-e.ensures.lower_bound.1 in
-    let words-word : c.word_ends.result ≡ true → ((fit_more ((edition (cells 4 c.args.keys.now) c.args.rules.now)) c.args.k (after 32 (drop c.args.end c.args.s.now)))) ≡ ((λ r. more_fits r (take (c.end_of-e.result - ((c.loop-e.e + 1))) (drop ((c.loop-e.e + 1)) c.args.s.now)) && fit_more ((edition (cells 4 c.args.keys.now) c.args.rules.now)) c.args.k (after 32 (drop c.end_of-e.result c.args.s.now)))) c.rule_at-rule.result = λ q. words-reached
+    let words-word : c.word_ends.result ≡ true → ((fit_more ((edition (cells 4 c.args.keys.now) c.args.rules.now)) c.args.k (after 32 (drop c.args.end c.args.s.now)))) ≡ ((λ (r : Rule). more_fits r (take (c.end_of-e.result - ((c.loop-e.e + 1))) (drop ((c.loop-e.e + 1)) c.args.s.now)) && fit_more ((edition (cells 4 c.args.keys.now) c.args.rules.now)) c.args.k (after 32 (drop c.end_of-e.result c.args.s.now)))) c.rule_at-rule.result = λ q. words-reached
     ∙ more_word c.args.s.now ((c.loop-e.e + 1)) c.end_of-e.result c.end_of-e.ensures.value words-most ((edition (cells 4 c.args.keys.now) c.args.rules.now)) c.args.k (sym c.word_ends.ensures ∙ q)
-    ∙ ap ((λ r. more_fits r (take (c.end_of-e.result - ((c.loop-e.e + 1))) (drop ((c.loop-e.e + 1)) c.args.s.now)) && fit_more ((edition (cells 4 c.args.keys.now) c.args.rules.now)) c.args.k (after 32 (drop c.end_of-e.result c.args.s.now)))) (sym c.rule_at-rule.ensures) in
+    ∙ ap ((λ (r : Rule). more_fits r (take (c.end_of-e.result - ((c.loop-e.e + 1))) (drop ((c.loop-e.e + 1)) c.args.s.now)) && fit_more ((edition (cells 4 c.args.keys.now) c.args.rules.now)) c.args.k (after 32 (drop c.end_of-e.result c.args.s.now)))) (sym c.rule_at-rule.ensures) in
     let e = sym c.text_fits.ensures ∙ c.if-not-text_fits.false in (
       search rules,
       search rules,

@@ -1,7 +1,6 @@
 use lib.ListN.{length, drop}
 use Prim.Native.Nat.{ℕ, ◌-◌, ◌≤◌}
 use mathlib.Core.Path.{◌≡◌, refl, sym, ap, ◌∙◌}
-use mathlib.Core.Logic.{⊎_elim}
 use mathlib.Core.List.{List}
 use lib.Seq.{length-take-le}
 use Rattle.text.specs.Words.{Word, split, after}
@@ -10,7 +9,7 @@ use Rattle.other.specs.Field18.{group, from_key}
 use Rattle.other.proofs.Keys.{found_here, found_none, from_other, from_plain}
 use borrow.Author.Rules.{rules}
 use native.Mathlib.Omega.{arith}
-use Rattle.other.proofs.words_at.Goals.{Joined-o-w}
+use Rattle.other.proofs.words_at.Goals.{Joined-o-w, then-o-w+else-same_bytes, else-o-w}
 use Rattle.other.proofs.words_at.Goals as goal
 
 -- where the arms meet, the word at `at` is not of the key
@@ -21,10 +20,11 @@ passed c =
     let f = c.find-e in
     let g = c.find-o in
     l.invariant.1
-    ∙ ⊎_elim
-    (λ w. from_other c.args.key.now c.args.s.now l.at f.result f.ensures.value g.result g.ensures.value w.0.taken (sym w.2.ensures ∙ w.3.left))
-    (λ w. from_plain c.args.key.now c.args.s.now l.at f.result f.ensures.value g.result g.ensures.value w.left)
-    c.if-o-w.branch
+    ∙ elim c.if-o-w.branch [
+      | then-o-w+else-same_bytes w ↦
+          from_other c.args.key.now c.args.s.now l.at f.result f.ensures.value g.result g.ensures.value w.if-o-w.true (sym w.same_bytes.ensures ∙ w.if-same_bytes.false)
+      | else-o-w w ↦ from_plain c.args.key.now c.args.s.now l.at f.result f.ensures.value g.result g.ensures.value w.if-o-w.false
+    ]
 
 pub slice_bounds-same_bytes-end : goal.slice_bounds-same_bytes-end
 slice_bounds-same_bytes-end c =
