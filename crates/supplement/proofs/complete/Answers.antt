@@ -12,9 +12,3 @@ pub returns-in-Start : goal.returns-in-Start
 returns-in-Start c =
     sym (among complete_at (λ s. false) (Start ∷ (Number ∷ (Refused ∷ []))) c.args.stage c.in-Start.in-Start-own.keys1 refl)
 
-pub returns-in_default : goal.returns-in_default
-returns-in_default c =
-    sym
-    (among complete_at (λ s. true)
-    (Endurance ∷ (Persons ∷ (Radio ∷ (Survival ∷ (Lights ∷ (JacketRadio ∷ (Capacity ∷ (Colours ∷ (Aircraft ∷ (Remarks ∷ (Pilot ∷ [])))))))))))
-    c.args.stage c.in_default.in_default-own.keys2 refl)
