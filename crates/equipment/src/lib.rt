@@ -32,7 +32,7 @@ pub const SURVEILLANCE_INDEX: [u8; 26] =
 
 // Whether the equipment fits, left of the oblique, in the present edition.
 fn equipment_fits(s: &[u8]) -> bool
-    ensures { result ≡ side_fits present.left present.most-left (codes s.now) }
+    ensures { result ≡ side_fits present.left present.most_left (codes s.now) }
 {
     side_by(
         &EQUIPMENT_INDEX,
@@ -44,7 +44,7 @@ fn equipment_fits(s: &[u8]) -> bool
 
 // Whether the surveillance fits, behind the oblique, in the present edition.
 fn surveillance_fits(s: &[u8]) -> bool
-    ensures { result ≡ side_fits present.right present.most-right (codes s.now) }
+    ensures { result ≡ side_fits present.right present.most_right (codes s.now) }
 {
     side_by(
         &SURVEILLANCE_INDEX,

@@ -155,7 +155,7 @@ module _ (n : ℕ) (w : Word) (b : ℕ) (l : 1 ≤ n) (m : n ≤ 99) (e : type_f
   unfolding whole tail
   cut =
       let t = typed w e in
-      lead_seam true (spell_count n) tail (digits_run (spell_count n) (count_back n l m).0) (starts_append w (47 ∷ (b ∷ [])) t.some-signs t.starts)
+      lead_seam true (spell_count n) tail (digits_run (spell_count n) (count_back n l m).0) (starts_append w (47 ∷ (b ∷ [])) t.some_signs_lem t.starts)
 
   number_is : number whole ≡ spell_count n
   unfolding whole
@@ -204,12 +204,12 @@ facts =
     record {
       spelled = spelled;
       held = held;
-      taken = λ r v. let p = parts r v in taken r.count r.type r.wake p.least p.most p.type-fits p.wake-fits;
-      back = λ r v. let p = parts r v in back r.count r.type r.wake p.least p.most p.type-fits p.wake-fits;
+      taken = λ r v. let p = parts r v in taken r.count r.type r.wake p.least p.most p.type_fits_lem p.wake_fits_lem;
+      back = λ r v. let p = parts r v in back r.count r.type r.wake p.least p.most p.type_fits_lem p.wake_fits_lem;
       tidied = λ s e.
           let r = record9 s in
           let p = parts r (held s e) in
-          let t : tidy (spell9 r) ≡ true = tidy_whole r.count r.type r.wake p.least p.most p.type-fits p.wake-fits in
+          let t : tidy (spell9 r) ≡ true = tidy_whole r.count r.type r.wake p.least p.most p.type_fits_lem p.wake_fits_lem in
           ap tidy (sym (spelled s e)) ∙ t;
     }
 

@@ -84,13 +84,13 @@ all-behind last h (i ∷ is) e =
     let r : rank_in base dof < rank_in base i.key = omega arith in
     let n : same i.key dof ≡ false = same_other i.key dof (λ q. omega (arith, ap (rank_in base) q)) in
     record {
-      no_earlier = rw (le-ltb (rank_in base i.key) (rank_in base dof) (omega arith)) t.no-earlier;
-      all_later = rw (lt-ltb (rank_in base dof) (rank_in base i.key) r) (ap (λ (js : List Worded). i ∷ js) t.all-later);
-      no_date = rw n t.no-date;
+      no_earlier = rw (le-ltb (rank_in base i.key) (rank_in base dof) (omega arith)) t.no_earlier;
+      all_later = rw (lt-ltb (rank_in base dof) (rank_in base i.key) r) (ap (λ (js : List Worded). i ∷ js) t.all_later);
+      no_date = rw n t.no_date;
     }
 
 around_behind : (d : Word) (is : List Worded) → Later is → around d is ≡ date_items d ++ is
-around_behind d is t = rw t.no-earlier (ap (λ (js : List Worded). date_items d ++ js) t.all-later)
+around_behind d is t = rw t.no_earlier (ap (λ (js : List Worded). date_items d ++ js) t.all_later)
 
 -- an item of DOF is left out
 around_date : (d : Word) (i : Worded) (is : List Worded) → i.key ≡ dof → Later is → around d (i ∷ is) ≡ date_items d ++ is
@@ -139,7 +139,7 @@ around_own last (i ∷ is) e =
         ap (λ (w : Word). around w (i ∷ is)) d ∙ around_date i.first i is k (behind_date last i is f k)
         ∙ ap (λ (js : List Worded). js ++ is) (some_date i.first (date_some i.first o.0))
         ∙ ap (λ (j : Worded). j ∷ is) (whole k o.1)
-    go f ih (further r p q) = let t = from_further last i is f r in ap (λ (w : Word). around w (i ∷ is)) t.no-date ∙ around_behind [] (i ∷ is) t
+    go f ih (further r p q) = let t = from_further last i is f r in ap (λ (w : Word). around w (i ∷ is)) t.no_date ∙ around_behind [] (i ∷ is) t
 
 -- and the others are as they were
 others_inserted : (d : Word) (is : List Worded) → only other_key (inserted d is) ≡ only other_key is

@@ -82,10 +82,10 @@ module _ (a b c d e f : ℕ) (is-date : date (a ∷ b ∷ c ∷ d ∷ e ∷ f �
   november y = refl
 
   from_one : date (a ∷ bytes "00101") ≡ true
-  from_one = date_of_lem a 48 48 49 48 49 h.a-digit refl refl refl refl refl (omega arith) (omega (arith, january (year (a ∷ bytes "00101"))))
+  from_one = date_of_lem a 48 48 49 48 49 h.a_digit refl refl refl refl refl (omega arith) (omega (arith, january (year (a ∷ bytes "00101"))))
 
   from_two : date (a ∷ b ∷ bytes "0101") ≡ true
-  from_two = date_of_lem a b 48 49 48 49 h.a-digit h.b-digit refl refl refl refl (omega arith) (omega (arith, january (year (a ∷ b ∷ bytes "0101"))))
+  from_two = date_of_lem a b 48 49 48 49 h.a_digit h.b_digit refl refl refl refl (omega arith) (omega (arith, january (year (a ∷ b ∷ bytes "0101"))))
 
   month_range : (1 ≤ (c - 48) * 10 + (d - 48)) × ((c - 48) * 10 + (d - 48) ≤ 12)
   month_range =
@@ -96,7 +96,7 @@ module _ (a b c d e f : ℕ) (is-date : date (a ∷ b ∷ c ∷ d ∷ e ∷ f �
 
   in_november : date (a ∷ b ∷ bytes "1101") ≡ true
   in_november =
-      date_of_lem a b 49 49 48 49 h.a-digit h.b-digit refl refl refl refl (omega arith) (omega (arith, november (year (a ∷ b ∷ bytes "1101"))))
+      date_of_lem a b 49 49 48 49 h.a_digit h.b_digit refl refl refl refl (omega arith) (omega (arith, november (year (a ∷ b ∷ bytes "1101"))))
 
   from_three : date (a ∷ b ∷ c ∷ bytes "101") ≡ true
   from_three = go (eqb c 48) refl
@@ -108,7 +108,7 @@ module _ (a b c d e f : ℕ) (is-date : date (a ∷ b ∷ c ∷ d ∷ e ∷ f �
       go true q = at 48 (eqb-true c 48 q) from_two
       go false q =
           let n = eqb-false c 48 q in
-          let r = digit_range c h.c-digit in
+          let r = digit_range c h.c_digit in
           let m = month_range.1 in
           let z : c ≡ 49 = omega arith in
           at 49 z in_november
@@ -117,7 +117,7 @@ module _ (a b c d e f : ℕ) (is-date : date (a ∷ b ∷ c ∷ d ∷ e ∷ f �
   from_four =
       let o = h.one in
       let m = h.most in
-      date_of_lem a b c d 48 49 h.a-digit h.b-digit h.c-digit h.d-digit refl refl (omega arith) (omega arith)
+      date_of_lem a b c d 48 49 h.a_digit h.b_digit h.c_digit h.d_digit refl refl (omega arith) (omega arith)
 
   -- the day's first digit, with 1 or with 0
   from_five : (date (a ∷ b ∷ c ∷ d ∷ e ∷ bytes "1") || (date (a ∷ b ∷ c ∷ d ∷ e ∷ bytes "0") || false)) ≡ true
@@ -129,10 +129,10 @@ module _ (a b c d e f : ℕ) (is-date : date (a ∷ b ∷ c ∷ d ∷ e ∷ f �
           rw z (or-true (date (a ∷ b ∷ c ∷ d ∷ e ∷ 49 ∷ [])))
       go false q =
           let n = eqb-false f 48 q in
-          let r = digit_range f h.f-digit in
+          let r = digit_range f h.f_digit in
           let o = h.one in
           let m = h.most in
-          rw (date_of_lem a b c d e 49 h.a-digit h.b-digit h.c-digit h.d-digit h.e-digit refl (omega arith) (omega arith))
+          rw (date_of_lem a b c d e 49 h.a_digit h.b_digit h.c_digit h.d_digit h.e_digit refl (omega arith) (omega arith))
 
   six_kept : (n : ℕ) → n ≤ 6 → date_go (take n (a ∷ b ∷ c ∷ d ∷ e ∷ f ∷ [])) ≡ true
   unfolding date days_in

@@ -17,10 +17,6 @@ pub slice_bounds-scratch-end : goal.slice_bounds-scratch-end
 slice_bounds-scratch-end c =
     simp length-set (omega (arith, c.put-n.ensures.0, c.put-n.auto.out))
 
-pub slice_bounds-some_codes-end : goal.slice_bounds-some_codes-end
-slice_bounds-some_codes-end c =
-    sym (length-take-le _ _ (array-share-prefix-scratch c))
-
 pub returns : goal.returns
 returns c =
     let a = c.args in
