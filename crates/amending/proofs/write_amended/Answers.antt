@@ -40,7 +40,7 @@ put_field-o-requires c =
 
 pub overflow_add-o : goal.overflow_add-o
 overflow_add-o c =
-    omega (arith, turn_room (turn (goal.at.overflow_add-o c).After-end-e), c.put_field-o.ensures.0, c.loop-k.invariant.0.enough, c.good)
+    omega (arith, turn_room (turn (goal.at.overflow_add-o c).After-end-e), c.put_field-o.ensures.0, c.loop-k.invariant.0.enough, c.well_formed)
 
 pub behind-c-requires : goal.behind-c-requires
 behind-c-requires c =
@@ -59,7 +59,7 @@ bounds-out-o c =
 pub overflow_add-result : goal.overflow_add-result
 overflow_add-result c =
     let l = c.loop-k.invariant.0 in
-    omega (arith, last_long l c.loop-k-test.false, l.enough, c.good)
+    omega (arith, last_long l c.loop-k-test.false, l.enough, c.well_formed)
 
 pub shape_of-out : goal.shape_of-out
 shape_of-out c =

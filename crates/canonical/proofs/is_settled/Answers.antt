@@ -12,9 +12,3 @@ pub returns-in-Colours : goal.returns-in-Colours
 returns-in-Colours c =
     sym (among settled (λ s. true) (Colours ∷ (Aircraft ∷ (Remarks ∷ (Pilot ∷ [])))) c.args.stage c.in-Colours.in-Colours-own.keys1 refl)
 
-pub returns-in_default : goal.returns-in_default
-returns-in_default c =
-    sym
-    (among settled (λ s. false)
-    (Start ∷ (Endurance ∷ (Persons ∷ (Radio ∷ (Survival ∷ (Lights ∷ (JacketRadio ∷ (Number ∷ (Capacity ∷ (Refused ∷ []))))))))))
-    c.args.stage c.in_default.in_default-own.keys2 refl)

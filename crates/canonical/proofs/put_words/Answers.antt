@@ -74,7 +74,7 @@ put-requires c =
 
 pub overflow_add-result : goal.overflow_add-result
 overflow_add-result c =
-    omega (arith, tail-room (goal.at.overflow_add-result c).Then-is_settled, c.put.ensures.0, c.requires.1, c.good.1.0)
+    omega (arith, tail-room (goal.at.overflow_add-result c).Then-is_settled, c.put.ensures.0, c.requires.1, c.well_formed.1.0)
 
 pub returns-then-is_settled : goal.returns-then-is_settled
 returns-then-is_settled c =
@@ -91,7 +91,7 @@ put_word-o-requires c =
 
 pub overflow_add-o : goal.overflow_add-o
 overflow_add-o c =
-    omega (arith, fits (goal.at.overflow_add-o c).After-read_as-stage, c.put_word-o.ensures.0, c.requires.1, c.well-formed.1.0)
+    omega (arith, fits (goal.at.overflow_add-o c).After-read_as-stage, c.put_word-o.ensures.0, c.requires.1, c.well_formed.1.0)
 
 pub returns-then-e-s : goal.returns-then-e-s
 returns-then-e-s c =
@@ -107,7 +107,7 @@ bounds-out-o c =
 pub overflow_add-o-in-loop-w : goal.overflow_add-o-in-loop-w
 overflow_add-o-in-loop-w c =
     let q = room (rewrite c.read_as-stage.result (take (c.find-e.result - c.loop-w.at) (drop c.loop-w.at c.args.s.now))) (32 ∷ join 32 (rewritten c.read_as-stage.result (split 32 (drop (c.find-e.result + 1) c.args.s.now)))) (next (goal.at.overflow_add-o-in-loop-w c).After-read_as-stage (omega arith)) in
-    omega (arith, c.put_word-o.ensures.0, q, c.requires.1, c.well-formed.1.0)
+    omega (arith, c.put_word-o.ensures.0, q, c.requires.1, c.well_formed.1.0)
 
 pub loop-w-preserved : goal.loop-w-preserved
 loop-w-preserved c =

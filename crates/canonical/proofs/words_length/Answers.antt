@@ -3,8 +3,14 @@ use mathlib.Core.Path.{◌≡◌, ap}
 use native.Mathlib.Omega.{arith}
 use lib.ListN.{length, drop, length-append, length-drop}
 use lib.Seq.{length-take-le}
+use Rattle.canonical.specs.Rewriting.{rewritten, rewritten_text}
 use Rattle.canonical.proofs.Words.{text_last, text_next}
 use Rattle.canonical.proofs.words_length.Goals as goal
+
+pub loop-stage-init : goal.loop-stage-init
+unfolding rewritten_text
+loop-stage-init c =
+    (omega arith, omega arith, omega arith)
 
 pub returns-then-e-s : goal.returns-then-e-s
 returns-then-e-s c =

@@ -46,7 +46,7 @@ bounds-ends-j-2 c =
 
 pub overflow_add-at : goal.overflow_add-at
 overflow_add-at c =
-    omega (arith, later (goal.at.overflow_add-at c).Else-j-eq0, inside (goal.at.overflow_add-at c).Start, c.well-formed)
+    omega (arith, later (goal.at.overflow_add-at c).Else-j-eq0, inside (goal.at.overflow_add-at c).Start, c.well_formed)
 
 pub slice_bounds-result-count : goal.slice_bounds-result-count
 slice_bounds-result-count c =

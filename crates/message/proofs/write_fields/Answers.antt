@@ -114,7 +114,7 @@ write_fitting-o-requires c =
 
 pub overflow_add-o : goal.overflow_add-o
 overflow_add-o c =
-    omega (arith, turn_room (turn (goal.at.overflow_add-o c).At-loop-row), c.write_fitting-o.ensures.0, c.requires.1, c.good)
+    omega (arith, turn_room (turn (goal.at.overflow_add-o c).At-loop-row), c.write_fitting-o.ensures.0, c.requires.1, c.well_formed)
 
 pub bounds-out-o : goal.bounds-out-o
 bounds-out-o c =
@@ -123,7 +123,7 @@ bounds-out-o c =
 pub overflow_add-result : goal.overflow_add-result
 overflow_add-result c =
     let l = last_long (turn (goal.at.overflow_add-result c).At-loop-row) c.write_fitting-o.ensures.0 c.write_fitting-o.ensures.1 (no_more (goal.at.overflow_add-result c).Then-e-s) c.out-1.given.1 in
-    omega (arith, l, c.requires.1, c.good)
+    omega (arith, l, c.requires.1, c.well_formed)
 
 pub shape_of-out-then-e-s : goal.shape_of-out-then-e-s
 shape_of-out-then-e-s c =
@@ -145,7 +145,7 @@ bounds-out-o-in-loop-row c =
 pub overflow_add-o-in-loop-row : goal.overflow_add-o-in-loop-row
 overflow_add-o-in-loop-row c =
     let l = next_room (turn (goal.at.overflow_add-o-in-loop-row c).At-loop-row) c.write_fitting-o.ensures.0 c.write_fitting-o.ensures.1 (more (goal.at.overflow_add-o-in-loop-row c).Else-e-s) c.out-1.given.1 in
-    omega (arith, l, c.out-1.given.1, (writing (goal.at.overflow_add-o-in-loop-row c).At-loop-row).long, length-set c.args.out.now 0 40, c.good)
+    omega (arith, l, c.out-1.given.1, (writing (goal.at.overflow_add-o-in-loop-row c).At-loop-row).long, length-set c.args.out.now 0 40, c.well_formed)
 
 pub overflow_add-at : goal.overflow_add-at
 overflow_add-at c =

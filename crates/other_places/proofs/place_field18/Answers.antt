@@ -4,6 +4,11 @@ use Rattle.other.specs.Rules.{base, sound_keys}
 use Rattle.other_places.specs.Places.{place18}
 use Rattle.other_places.proofs.place_field18.Goals as goal
 
+pub place_edition-requires : goal.place_edition-requires
+unfolding sound_keys
+place_edition-requires c =
+    refl
+
 pub returns : goal.returns
 unfolding base place18
 returns c =
