@@ -5,7 +5,7 @@ use Rattle.dates.proofs.Walk.{Ahead, ahead_first, place_nothing, place_instead, 
 use Rattle.dates.proofs.place_of.Given as goal
 
 abbrev pub invariant-loop-key : goal.invariant-loop-key
-invariant-loop-key l = Ahead l.s at
+invariant-loop-key l = Ahead l.s l.at
 
 abbrev pub decreases-loop-key : goal.decreases-loop-key
-decreases-loop-key l = length l.s - at
+decreases-loop-key l = length l.s - l.at
