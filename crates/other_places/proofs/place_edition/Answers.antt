@@ -31,18 +31,18 @@ stuck c h z =
     words_stuck (items (edition (cells 4 c.args.keys.now) c.args.rules.now)) (items_word (edition (cells 4 c.args.keys.now) c.args.rules.now)) c.loop-at.k c.args.s.now c.loop-at.at c.find-e.result c.find-e.ensures.value h
     (after_none (edition (cells 4 c.args.keys.now) c.args.rules.now) c.loop-at.k (take (c.find-e.result - c.loop-at.at) (drop c.loop-at.at c.args.s.now)) (sym c.rank_after-j.ensures ∙ z))
 
-after-it : (c : After-rank_after-j) (h : end found < length (content l)) (n : rank ≡ 0 → ⊥) → (items (edition (cells 4 c.args.keys.now) c.args.rules.now)).after c.loop-at.k (take (c.find-e.result - c.loop-at.at) (drop c.loop-at.at c.args.s.now)) ≡ some c.rank_after-j.result
+after-it : (c : After-rank_after-j) (h : c.find-e.result < length c.args.s.now) (n : c.rank_after-j.result ≡ 0 → ⊥) → (items (edition (cells 4 c.args.keys.now) c.args.rules.now)).after c.loop-at.k (take (c.find-e.result - c.loop-at.at) (drop c.loop-at.at c.args.s.now)) ≡ some c.rank_after-j.result
 after-it c h n =
     after_some (edition (cells 4 c.args.keys.now) c.args.rules.now) c.loop-at.k (take (c.find-e.result - c.loop-at.at) (drop c.loop-at.at c.args.s.now)) c.rank_after-j.result c.rank_after-j.ensures n
 
-ends : (c : After-rank_after-j) (h : end found < length (content l)) (n : rank ≡ 0 → ⊥) → (items (edition (cells 4 c.args.keys.now) c.args.rules.now)).goes c.rank_after-j.result ≡ false → (words_place (items ((edition (cells 4 c.args.keys.now) c.args.rules.now))) (items_word ((edition (cells 4 c.args.keys.now) c.args.rules.now))) c.loop-at.k (split 32 (drop c.loop-at.at c.args.s.now))) ≡ length (take (c.find-e.result - c.loop-at.at) (drop c.loop-at.at c.args.s.now))
+ends : (c : After-rank_after-j) (h : c.find-e.result < length c.args.s.now) (n : c.rank_after-j.result ≡ 0 → ⊥) → (items (edition (cells 4 c.args.keys.now) c.args.rules.now)).goes c.rank_after-j.result ≡ false → (words_place (items ((edition (cells 4 c.args.keys.now) c.args.rules.now))) (items_word ((edition (cells 4 c.args.keys.now) c.args.rules.now))) c.loop-at.k (split 32 (drop c.loop-at.at c.args.s.now))) ≡ length (take (c.find-e.result - c.loop-at.at) (drop c.loop-at.at c.args.s.now))
 ends c h n g =
-    words_end (items (edition (cells 4 c.args.keys.now) c.args.rules.now)) (items_word (edition (cells 4 c.args.keys.now) c.args.rules.now)) c.loop-at.k c.args.s.now c.loop-at.at c.find-e.result c.find-e.ensures.value c.rank_after-j.result h (after-it c) g
+    words_end (items (edition (cells 4 c.args.keys.now) c.args.rules.now)) (items_word (edition (cells 4 c.args.keys.now) c.args.rules.now)) c.loop-at.k c.args.s.now c.loop-at.at c.find-e.result c.find-e.ensures.value c.rank_after-j.result h (after-it c h n) g
 
-goes_on_lem : (c : After-rank_after-j) (h : end found < length (content l)) (n : rank ≡ 0 → ⊥) → (items (edition (cells 4 c.args.keys.now) c.args.rules.now)).goes c.rank_after-j.result ≡ true
+goes_on_lem : (c : After-rank_after-j) (h : c.find-e.result < length c.args.s.now) (n : c.rank_after-j.result ≡ 0 → ⊥) → (items (edition (cells 4 c.args.keys.now) c.args.rules.now)).goes c.rank_after-j.result ≡ true
     → (words_place (items ((edition (cells 4 c.args.keys.now) c.args.rules.now))) (items_word ((edition (cells 4 c.args.keys.now) c.args.rules.now))) c.loop-at.k (split 32 (drop c.loop-at.at c.args.s.now))) ≡ suc (length (take (c.find-e.result - c.loop-at.at) (drop c.loop-at.at c.args.s.now))) + words_place (items (edition (cells 4 c.args.keys.now) c.args.rules.now)) (items_word (edition (cells 4 c.args.keys.now) c.args.rules.now)) c.rank_after-j.result (split 32 (drop (c.find-e.result + 1) c.args.s.now))
 goes_on_lem c h n g =
-    words_next (items (edition (cells 4 c.args.keys.now) c.args.rules.now)) (items_word (edition (cells 4 c.args.keys.now) c.args.rules.now)) c.loop-at.k c.args.s.now c.loop-at.at c.find-e.result c.find-e.ensures.value c.rank_after-j.result h (after-it c) g
+    words_next (items (edition (cells 4 c.args.keys.now) c.args.rules.now)) (items_word (edition (cells 4 c.args.keys.now) c.args.rules.now)) c.loop-at.k c.args.s.now c.loop-at.at c.find-e.result c.find-e.ensures.value c.rank_after-j.result h (after-it c h n) g
 
 pub overflow_add-result : goal.overflow_add-result
 overflow_add-result c =
