@@ -2,23 +2,23 @@ use Prim.Native.Nat.{ℕ, ◌≤◌}
 use mathlib.Core.Path.{◌≡◌, sym, ap}
 use mathlib.Core.List.{List}
 use lib.ListN.{length}
+use Rattle.kinds.specs.declared.Role.{Role}
 use Rattle.canonical.proofs.Turns.{put_same, room_same}
 use Rattle.dates.specs.Dates.{Puts}
 use Rattle.amending.specs.Amended.{content_in}
 use Rattle.amending.proofs.put_content.Goals.{Start}
 use Rattle.amending.proofs.put_content.Goals as goal
 
-as-role : (c : Start) (e : s.args.role ≡ role) → ((λ r. content_in r c.args.own.now c.args.said.now c.args.k)) c.args.role ≡ ((λ r. content_in r c.args.own.now c.args.said.now c.args.k)) role
-as-role c e =
-    ap ((λ r. content_in r c.args.own.now c.args.said.now c.args.k)) e
+as-role : (c : Start) {role : Role} (e : c.args.role ≡ role) → content_in c.args.role c.args.own.now c.args.said.now c.args.k
+    ≡ content_in role c.args.own.now c.args.said.now c.args.k
+as-role c e = ap (λ (r : Role). content_in r c.args.own.now c.args.said.now c.args.k) e
 
-asked : (c : Start) (e : s.args.role ≡ role) → length (((λ r. content_in r c.args.own.now c.args.said.now c.args.k)) role) ≤ length c.args.out.now
-asked c e =
-    room_same c.args.out.now (as-role c) c.requires.1
+asked : (c : Start) {role : Role} (e : c.args.role ≡ role) → length (content_in role c.args.own.now c.args.said.now c.args.k) ≤ length c.args.out.now
+asked c e = room_same c.args.out.now (as-role c e) c.requires.1
 
-given : (c : Start) (e : s.args.role ≡ role) → {n : ℕ} {after : List ℕ} → Puts (((λ r. content_in r c.args.own.now c.args.said.now c.args.k)) role) n c.args.out.now after → Puts (((λ r. content_in r c.args.own.now c.args.said.now c.args.k)) c.args.role) n c.args.out.now after
-given c e p =
-    put_same c.args.out.now (sym (as-role c)) p
+given : (c : Start) {role : Role} (e : c.args.role ≡ role) {n : ℕ} {after : List ℕ} → Puts (content_in role c.args.own.now c.args.said.now c.args.k) n c.args.out.now after
+    → Puts (content_in c.args.role c.args.own.now c.args.said.now c.args.k) n c.args.out.now after
+given c e p = put_same c.args.out.now (sym (as-role c e)) p
 
 pub put_changed-requires : goal.put_changed-requires
 put_changed-requires c =

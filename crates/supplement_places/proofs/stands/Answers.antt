@@ -6,10 +6,3 @@ use Rattle.supplement.specs.declared.Stage.TheVariants.{Aircraft, Remarks, Pilot
 use Rattle.supplement.proofs.Stages.{among}
 use Rattle.supplement_places.specs.Places.{stands as stands_at}
 use Rattle.supplement_places.proofs.stands.Goals as goal
-
-pub returns-in_default : goal.returns-in_default
-returns-in_default c =
-    sym (among stands_at (λ s. true)
-    (Start ∷ (Endurance ∷ (Persons ∷ (Radio ∷ (Survival ∷ (Lights ∷ (JacketRadio
-    ∷ (Number ∷ (Capacity ∷ (Colours ∷ (Aircraft ∷ (Remarks ∷ (Pilot ∷ [])))))))))))))
-    c.args.stage c.in_default.in_default-own.keys2 refl)
