@@ -10,22 +10,22 @@ use Rattle.message.proofs.Reached.{accepted_taken}
 use Rattle.board.specs.House.{lent}
 use Rattle.board.specs.Turns.{room_for}
 use Rattle.board.proofs.Turns.{low_below, file_full, file_unread, file_unfit, file_filed}
-use Rattle.board.proofs.file_for.Goals.{After-lowest_of-k, After-read, In-Accepted-2}
+use Rattle.board.proofs.file_for.Goals.{After-lowest_of-k, After-read, In-Accepted}
 use Rattle.board.proofs.file_for.Goals as goal
 
 room : (c : After-read) → room_for c.args.f c.args.board.places ≡ true
 room c =
     sym c.has_room.ensures ∙ c.if-not-has_room.false
 
-read_as_lem : (c : In-Accepted-2) → answer_of c.args.msg.now 1800 ≡ ReadAs c.in-Accepted.t c.in-Accepted.n
+read_as_lem : (c : In-Accepted) → answer_of c.args.msg.now 1800 ≡ ReadAs c.in-Accepted.t c.in-Accepted.n
 read_as_lem c =
     sym c.read.ensures.0 ∙ c.in-Accepted.is
 
-short : (c : In-Accepted-2) → c.in-Accepted.n ≤ 1800
+short : (c : In-Accepted) → c.in-Accepted.n ≤ 1800
 short c =
     let k = accepted_taken _ c.args.msg.now 1800 _ (read_as_lem c) in omega (arith, k.fits, k.long)
 
-fits : (c : In-Accepted-2) → c.in-Accepted.n ≤ length c.read.new.out
+fits : (c : In-Accepted) → c.in-Accepted.n ≤ length c.read.new.out
 fits c =
     omega (arith, (short c), c.read.auto.out)
 
@@ -43,20 +43,20 @@ returns-then-not-has_room c =
 pub returns-then-not-is_plan : goal.returns-then-not-is_plan
 returns-then-not-is_plan c =
     let a = c.args in
-    file_unfit a.f a.board a.bytes.now a.msg.now (room (goal.at.returns-then-not-is_plan c).After-read) _ _ _ (read_as_lem (goal.at.returns-then-not-is_plan c).In-Accepted-2) c.refused-then-not-is_plan.ensures
+    file_unfit a.f a.board a.bytes.now a.msg.now (room (goal.at.returns-then-not-is_plan c).After-read) _ _ _ (read_as_lem (goal.at.returns-then-not-is_plan c).In-Accepted) c.refused-then-not-is_plan.ensures
     (sym c.is_plan.ensures ∙ c.if-not-is_plan.true)
 
 pub slice_bounds-scratch-end : goal.slice_bounds-scratch-end
 slice_bounds-scratch-end c =
-    fits (goal.at.slice_bounds-scratch-end c).In-Accepted-2
+    fits (goal.at.slice_bounds-scratch-end c).In-Accepted
 
 pub slice_bounds-put-end : goal.slice_bounds-put-end
 slice_bounds-put-end c =
-    sym (length-take-le _ _ (fits (goal.at.slice_bounds-put-end c).In-Accepted-2))
+    sym (length-take-le _ _ (fits (goal.at.slice_bounds-put-end c).In-Accepted))
 
 pub put-b-requires : goal.put-b-requires
 put-b-requires c =
-    (below (goal.at.put-b-requires c).After-lowest_of-k, omega (arith, short (goal.at.put-b-requires c).In-Accepted-2, length-take-le _ c.read.new.out (fits (goal.at.put-b-requires c).In-Accepted-2)))
+    (below (goal.at.put-b-requires c).After-lowest_of-k, omega (arith, short (goal.at.put-b-requires c).In-Accepted, length-take-le _ c.read.new.out (fits (goal.at.put-b-requires c).In-Accepted)))
 
 pub returns-in-Refused : goal.returns-in-Refused
 returns-in-Refused c =
@@ -66,5 +66,5 @@ returns-in-Refused c =
 pub returns-else-not-is_plan : goal.returns-else-not-is_plan
 returns-else-not-is_plan c =
     let a = c.args in
-    file_filed a.f a.board a.bytes.now a.msg.now (room (goal.at.returns-else-not-is_plan c).After-read) _ _ _ (read_as_lem (goal.at.returns-else-not-is_plan c).In-Accepted-2) lent c.read.new.out _ _
+    file_filed a.f a.board a.bytes.now a.msg.now (room (goal.at.returns-else-not-is_plan c).After-read) _ _ _ (read_as_lem (goal.at.returns-else-not-is_plan c).In-Accepted) lent c.read.new.out _ _
     (sym c.is_plan.ensures ∙ c.if-not-is_plan.false) c.read.ensures.1 refl c.lowest_of-k.ensures refl c.put-b.ensures

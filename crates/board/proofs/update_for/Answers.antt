@@ -11,7 +11,7 @@ use Rattle.racks.specs.Places.{shown_to}
 use Rattle.racks.proofs.Slots.{flight_inside}
 use Rattle.board.specs.House.{lent}
 use Rattle.board.proofs.Turns.{update_none, update_refused, update_taken}
-use Rattle.board.proofs.update_for.Goals.{After-update, In-Accepted-2}
+use Rattle.board.proofs.update_for.Goals.{After-update, In-Accepted}
 use Rattle.board.proofs.update_for.Goals as goal
 
 inside : (c : After-update) → c.args.slot < 10
@@ -29,28 +29,28 @@ new_is : (c : After-update) → c.update.new.out ≡ out_after ((shown_to c.args
 new_is c =
     c.update.ensures.1 ∙ ap (λ (w : List ℕ). out_after w c.in-Flight.held c.args.msg.now lent) c.strip_in.ensures
 
-short : (c : In-Accepted-2) → c.in-Accepted.n ≤ 1800
+short : (c : In-Accepted) → c.in-Accepted.n ≤ 1800
 short c =
     let updates : (u : Updated) → c.update.result ≡ u → update_of ((shown_to c.args.f c.args.slot c.args.board.places c.args.bytes.now)) c.in-Flight.held c.args.msg.now 1800 ≡ u = λ u e. sym (ap (λ (w : List ℕ). update_of w c.in-Flight.held c.args.msg.now 1800) c.strip_in.ensures)
     ∙ sym c.update.ensures.0
     ∙ e in
     accepted_fits _ _ _ 1800 _ _ (updates _ c.in-Accepted.is)
 
-fits : (c : In-Accepted-2) → c.in-Accepted.n ≤ length c.update.new.out
+fits : (c : In-Accepted) → c.in-Accepted.n ≤ length c.update.new.out
 fits c =
     omega (arith, (short c), c.update.auto.out)
 
 pub slice_bounds-new-end : goal.slice_bounds-new-end
 slice_bounds-new-end c =
-    fits (goal.at.slice_bounds-new-end c).In-Accepted-2
+    fits (goal.at.slice_bounds-new-end c).In-Accepted
 
 pub slice_bounds-put-end : goal.slice_bounds-put-end
 slice_bounds-put-end c =
-    sym (length-take-le _ _ (fits (goal.at.slice_bounds-put-end c).In-Accepted-2))
+    sym (length-take-le _ _ (fits (goal.at.slice_bounds-put-end c).In-Accepted))
 
 pub put-b-requires : goal.put-b-requires
 put-b-requires c =
-    (inside (goal.at.put-b-requires c).After-update, omega (arith, short (goal.at.put-b-requires c).In-Accepted-2, length-take-le _ c.update.new.out (fits (goal.at.put-b-requires c).In-Accepted-2)))
+    (inside (goal.at.put-b-requires c).After-update, omega (arith, short (goal.at.put-b-requires c).In-Accepted, length-take-le _ c.update.new.out (fits (goal.at.put-b-requires c).In-Accepted)))
 
 pub returns-in-Nothing : goal.returns-in-Nothing
 returns-in-Nothing c =
