@@ -18,8 +18,8 @@ kept c e =
 
 parts : (c : After-behind_aerodrome) → c.args.content.now ++ c.behind_aerodrome.result.now ≡ (put_in c.args.k c.args.content.now c.args.own.now)
 parts c =
-    let as-tested : {b : Bool} → c.is_bare.result ≡ b → cond b (c.args.content.now ++ drop 4 c.args.own.now) c.args.content.now ≡ ((put_in c.args.k c.args.content.now c.args.own.now)) = λ e. ap (λ (b : Bool). cond b (c.args.content.now ++ drop 4 c.args.own.now) c.args.content.now) (sym e ∙ c.is_bare.ensures) in
-    ap (λ (w : Word). c.args.content.now ++ w) c.behind_aerodrome.ensures ∙ as-tested c.if-is_bare.true
+    ap (λ (w : Word). c.args.content.now ++ w) c.behind_aerodrome.ensures
+    ∙ ap (λ (b : Bool). cond b (c.args.content.now ++ drop 4 c.args.own.now) c.args.content.now) (sym c.if-is_bare.true ∙ c.is_bare.ensures)
 
 pub put_two-requires : goal.put_two-requires
 put_two-requires c =

@@ -1,0 +1,6 @@
+use Rattle.demands.proofs.Whys.{cause_shows}
+use Rattle.demands.proofs.cause.Goals as goal
+
+pub returns : goal.returns
+returns c =
+    cause_shows _ _ _ _ c.cause_of.ensures
