@@ -1,0 +1,91 @@
+-- `lines::opening_of` meets its contract. Assumes nothing.
+use borrow.Author.Rules.{rules}
+use Rattle.lines.specs.Lines.{opening}
+use Rattle.lines.proofs.opening_of.Statement.{statement}
+use Rattle.lines.proofs.opening_of.Tie as tie
+
+enum_told : tie.Need-enum-told
+enum_told c = search rules
+
+enum-told-2 : tie.Need-enum-told-2
+enum-told-2 c = search rules
+
+enum-told-3 : tie.Need-enum-told-3
+enum-told-3 c = search rules
+
+enum-told-4 : tie.Need-enum-told-4
+enum-told-4 c = search rules
+
+enum-told-5 : tie.Need-enum-told-5
+enum-told-5 c = search rules
+
+enum-told-6 : tie.Need-enum-told-6
+enum-told-6 c = search rules
+
+enum-told-7 : tie.Need-enum-told-7
+enum-told-7 c = search rules
+
+enum-told-8 : tie.Need-enum-told-8
+enum-told-8 c = search rules
+
+enum-told-9 : tie.Need-enum-told-9
+enum-told-9 c = search rules
+
+returns : tie.Need-returns
+unfolding opening
+returns c = rw c.before.before.enum_told.given.1
+
+returns-2 : tie.Need-returns-2
+unfolding opening
+returns-2 c = rw c.before.before.enum-told2.given.1
+
+returns-3 : tie.Need-returns-3
+unfolding opening
+returns-3 c = rw c.before.before.enum-told3.given.1
+
+returns-4 : tie.Need-returns-4
+unfolding opening
+returns-4 c = rw c.before.before.enum-told4.given.1
+
+returns-5 : tie.Need-returns-5
+unfolding opening
+returns-5 c = rw c.before.before.enum-told5.given.1
+
+returns-6 : tie.Need-returns-6
+unfolding opening
+returns-6 c = rw c.before.before.enum-told6.given.1
+
+returns-7 : tie.Need-returns-7
+unfolding opening
+returns-7 c = rw c.before.before.enum-told7.given.1
+
+returns-8 : tie.Need-returns-8
+unfolding opening
+returns-8 c = rw c.before.before.enum-told8.given.1
+
+returns-9 : tie.Need-returns-9
+unfolding opening
+returns-9 c = rw c.before.before.enum-told9.given.1
+
+pub opening-of-spec : {M : Type 1} → statement M
+opening-of-spec =
+    tie.close
+    (tie.spec
+    enum_told
+    enum-told-2
+    enum-told-3
+    enum-told-4
+    enum-told-5
+    enum-told-6
+    enum-told-7
+    enum-told-8
+    enum-told-9
+    returns
+    returns-2
+    returns-3
+    returns-4
+    returns-5
+    returns-6
+    returns-7
+    returns-8
+    returns-9)
