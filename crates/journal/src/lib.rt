@@ -273,7 +273,7 @@ fn append_or_cut(journal: &JournalFile, line: &[u8], end: u64) -> bool {
 
 // Keeps an accepted call.
 pub fn keep(journal: Journal<'_>, line: &[u8]) -> bool
-    ensures { Answers journal result }
+    ensures { Answers journal.entry result }
 {
     match journal {
         Journal::Nowhere => true,
