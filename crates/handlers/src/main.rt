@@ -51,7 +51,7 @@ fn make<R: Print + Eprint>(
     bytes: &mut [u8; 36000],
 ) -> Board
     requires { Sized board.places bytes.old }
-    ensures { Makes journal call line.now board.places bytes.old result.places bytes.new }
+    ensures { Makes journal.entry call line.now board.places bytes.old result.places bytes.new }
 {
     let mut trial = *bytes;
     let t = play(board, call, line, &mut trial);
@@ -76,7 +76,7 @@ fn take<R: Print + Eprint>(
     bytes: &mut [u8; 36000],
 ) -> Board
     requires { Sized board.places bytes.old }
-    ensures { Takes journal line.now board.places bytes.old result.places bytes.new }
+    ensures { Takes journal.entry line.now board.places bytes.old result.places bytes.new }
 {
     match calls::ask_in(line) {
         Ask::Calls(call) => make(console, board, journal, call, line, bytes),
@@ -105,7 +105,7 @@ fn end_line<R: Print + Eprint>(
     bytes: &mut [u8; 36000],
 ) -> Board
     requires { (w.n ≤ length line.now) × Sized board.places bytes.old }
-    ensures { Ends journal (waits_in w line.now) board.places bytes.old result.places bytes.new }
+    ensures { Ends journal.entry (waits_in w line.now) board.places bytes.old result.places bytes.new }
 {
     if w.over {
         say::print(console, b"TOO LONG\n");
@@ -123,7 +123,7 @@ fn serve<R: Print + Eprint, I: Read>(
     bytes: &mut [u8; 36000],
 ) -> Board
     requires { Sized board.places bytes.old }
-    ensures { Serves journal board.places bytes.old result.places bytes.new }
+    ensures { Serves journal.entry board.places bytes.old result.places bytes.new }
 {
     let mut chunk = [0u8; 4096];
     let mut line = [0u8; 4096];
