@@ -10,7 +10,9 @@ ghost use Rattle.desk.specs.Desk.{standing_in, cause_to, standing_after, after_a
 
 use causes::Cause;
 use message::Answer;
+use say::Console;
 use state::{State, Strip};
+use std::process::ExitCode;
 use strip::Updated;
 
 // What the desk holds: nothing yet, or a flight's state and how many bytes of a buffer its strip takes.
@@ -99,13 +101,18 @@ fn cause(desk: Held, piece: &[u8], strip: &[u8]) -> Cause
 }
 
 // Takes a piece: prints its line and hands back what the desk then holds.
-fn take(desk: Held, piece: &[u8], strip: &mut [u8]) -> Held
+fn take<R: Print + Eprint>(
+    console: &Console<'_, R>,
+    desk: Held,
+    piece: &[u8],
+    strip: &mut [u8],
+) -> Held
     requires { (length strip.old ≡ most) × InRoom desk }
     ensures { (standing_in result strip.new ≡ standing_after (standing_in desk strip.old) piece.now) × InRoom result }
 {
     match answer(desk, piece, strip) {
         Updated::Accepted(held, n) => {
-            say::strip(held, &strip[..n]);
+            say::strip(console, held, &strip[..n]);
             Held::Flight(held, n)
         }
         Updated::Refused {
@@ -113,14 +120,14 @@ fn take(desk: Held, piece: &[u8], strip: &mut [u8]) -> Held
             field,
             place,
         } => {
-            say_cause::refusal(number, field, place, cause(desk, piece, strip));
+            say_cause::refusal(console, number, field, place, cause(desk, piece, strip));
             desk
         }
     }
 }
 
 // Takes each piece of an input in its turn.
-fn run(s: &[u8], strip: &mut [u8]) -> Held
+fn run<R: Print + Eprint>(console: &Console<'_, R>, s: &[u8], strip: &mut [u8]) -> Held
     requires { length strip.old ≡ most }
     ensures { standing_in result strip.new ≡ after_all none (pieces_of s.now) }
 {
@@ -128,15 +135,17 @@ fn run(s: &[u8], strip: &mut [u8]) -> Held
     let mut at = pieces::skip_white(s, 0);
     while at < s.len() {
         let e = pieces::piece_end(s, at);
-        desk = take(desk, &s[at..e], strip);
+        desk = take(console, desk, &s[at..e], strip);
         at = pieces::skip_white(s, e);
     }
     desk
 }
 
-fn main() {
+fn main(rt: HostRuntime) -> ExitCode {
+    let console = Console::new(&rt);
     let mut buffer = [0u8; 65537];
-    let n = say::messages(&mut buffer);
+    let n = say::messages(&console, &mut rt.stdin(), &mut buffer);
     let mut strip = [0u8; outer::MOST_BYTES];
-    run(&buffer[..n], &mut strip);
+    run(&console, &buffer[..n], &mut strip);
+    say::status(&console)
 }

@@ -75,7 +75,7 @@ all_accepted b (w ∷ ws) = accepts b w && all_accepted (after_waits b w) ws
 
 abbrev pub keeps : Journal → Bool
 keeps Nowhere = false
-keeps (At fd) = true
+keeps (At file) = true
 
 -- what was asked for is done; or, where there is a journal, it could not be kept and the board is as it was
 pub data Kept (j : Bool) (b c d : Board house) : Type 0 where

@@ -11,8 +11,11 @@ ghost use Rattle.handlers.specs.Walk.{accepted_as, call_of, Makes, Takes, Ends, 
 
 use board::{Turn, Verdict};
 use calls::{Ask, Call};
-use journal::{Journal, Reader, Waiting};
+use journal::{Journal, JournalFile, Reader, Waiting};
 use racks::Board;
+use say::Console;
+use std::io::Read;
+use std::process::ExitCode;
 
 fn is_accepted(v: Verdict) -> bool
     ensures { result ≡ accepted_as v }
@@ -39,9 +42,16 @@ fn play(board: Board, call: Call, line: &[u8], bytes: &mut [u8; 36000]) -> Turn
 }
 
 // Makes a call, on a copy of the strips: the board stays as it was where the call is accepted and cannot be kept.
-fn make(board: Board, journal: Journal, call: Call, line: &[u8], bytes: &mut [u8; 36000]) -> Board
+fn make<R: Print + Eprint>(
+    console: &Console<'_, R>,
+    board: Board,
+    journal: Journal<'_>,
+    call: Call,
+    line: &[u8],
+    bytes: &mut [u8; 36000],
+) -> Board
     requires { Sized board.places bytes.old }
-    ensures { Makes journal call line.now board.places bytes.old result.places bytes.new }
+    ensures { Makes journal.entry call line.now board.places bytes.old result.places bytes.new }
 {
     let mut trial = *bytes;
     let t = play(board, call, line, &mut trial);
@@ -49,58 +59,71 @@ fn make(board: Board, journal: Journal, call: Call, line: &[u8], bytes: &mut [u8
     let v = t.verdict;
     if is_accepted(v) {
         if !journal::keep(journal, line) {
-            say::print(b"NOT KEPT\n");
+            say::print(console, b"NOT KEPT\n");
             return board;
         }
     }
     *bytes = trial;
-    say_board::tell(b, call, v, line, bytes);
+    say_board::tell(console, b, call, v, line, bytes);
     b
 }
 
-fn take(board: Board, journal: Journal, line: &[u8], bytes: &mut [u8; 36000]) -> Board
+fn take<R: Print + Eprint>(
+    console: &Console<'_, R>,
+    board: Board,
+    journal: Journal<'_>,
+    line: &[u8],
+    bytes: &mut [u8; 36000],
+) -> Board
     requires { Sized board.places bytes.old }
-    ensures { Takes journal line.now board.places bytes.old result.places bytes.new }
+    ensures { Takes journal.entry line.now board.places bytes.old result.places bytes.new }
 {
     match calls::ask_in(line) {
-        Ask::Calls(call) => make(board, journal, call, line, bytes),
+        Ask::Calls(call) => make(console, board, journal, call, line, bytes),
         Ask::Look { firm, slot } => {
-            say_board::show_strip(board, firm, slot, bytes);
+            say_board::show_strip(console, board, firm, slot, bytes);
             board
         }
         Ask::List(firm) => {
-            say_board::show_list(board, firm, bytes);
+            say_board::show_list(console, board, firm, bytes);
             board
         }
         Ask::NoCall => {
-            say::print(b"BAD LINE\n");
+            say::print(console, b"BAD LINE\n");
             board
         }
     }
 }
 
 // A line has ended.
-fn end_line(
+fn end_line<R: Print + Eprint>(
+    console: &Console<'_, R>,
     board: Board,
-    journal: Journal,
+    journal: Journal<'_>,
     w: Waiting,
     line: &[u8],
     bytes: &mut [u8; 36000],
 ) -> Board
     requires { (w.n ≤ length line.now) × Sized board.places bytes.old }
-    ensures { Ends journal (waits_in w line.now) board.places bytes.old result.places bytes.new }
+    ensures { Ends journal.entry (waits_in w line.now) board.places bytes.old result.places bytes.new }
 {
     if w.over {
-        say::print(b"TOO LONG\n");
+        say::print(console, b"TOO LONG\n");
         return board;
     }
-    take(board, journal, &line[..w.n], bytes)
+    take(console, board, journal, &line[..w.n], bytes)
 }
 
 // Takes standard input to its end. A loop has to end, so the lines are counted down, from a number that no run uses up.
-fn serve(board: Board, journal: Journal, bytes: &mut [u8; 36000]) -> Board
+fn serve<R: Print + Eprint, I: Read>(
+    console: &Console<'_, R>,
+    from: &mut I,
+    board: Board,
+    journal: Journal<'_>,
+    bytes: &mut [u8; 36000],
+) -> Board
     requires { Sized board.places bytes.old }
-    ensures { Serves journal board.places bytes.old result.places bytes.new }
+    ensures { Serves journal.entry board.places bytes.old result.places bytes.new }
 {
     let mut chunk = [0u8; 4096];
     let mut line = [0u8; 4096];
@@ -109,13 +132,13 @@ fn serve(board: Board, journal: Journal, bytes: &mut [u8; 36000]) -> Board
     let mut turns = u64::MAX;
     while turns > 0 {
         turns -= 1;
-        let t = journal::next_of_input(reader, &mut chunk, &mut line);
+        let t = journal::next_of_input(console, from, reader, &mut chunk, &mut line);
         if !t.ended {
             return now;
         }
         reader = t.reader;
         let w = t.waiting;
-        now = end_line(now, journal, w, &line, bytes);
+        now = end_line(console, now, journal, w, &line, bytes);
     }
     now
 }
@@ -175,7 +198,11 @@ fn replay_end(board: Board, w: Waiting, line: &[u8], bytes: &mut [u8; 36000]) ->
 }
 
 // Plays the journal from the empty board to its end. What cannot be played again is said.
-fn replay_all(fd: i32, bytes: &mut [u8; 36000]) -> Played
+fn replay_all<R: Eprint>(
+    console: &Console<'_, R>,
+    file: &JournalFile,
+    bytes: &mut [u8; 36000],
+) -> Played
     requires { length bytes.old ≡ 36000 }
     ensures { PlaysAgain result bytes.new }
 {
@@ -186,7 +213,7 @@ fn replay_all(fd: i32, bytes: &mut [u8; 36000]) -> Played
     let mut turns = u64::MAX;
     while turns > 0 {
         turns -= 1;
-        let t = journal::next_of_journal(fd, reader, &mut chunk, &mut line);
+        let t = journal::next_of_journal(console, file, reader, &mut chunk, &mut line);
         let w = t.waiting;
         if !t.ended {
             return Played {
@@ -199,7 +226,7 @@ fn replay_all(fd: i32, bytes: &mut [u8; 36000]) -> Played
         let r = replay_end(now, w, &line, bytes);
         now = r.board;
         if !r.going {
-            journal::complain_of_line();
+            journal::complain_of_line(console);
             return stuck(now);
         }
     }
@@ -207,28 +234,40 @@ fn replay_all(fd: i32, bytes: &mut [u8; 36000]) -> Played
 }
 
 // Plays the journal, then takes standard input.
-fn start(fd: i32, bytes: &mut [u8; 36000])
+fn start<R: Print + Eprint, I: Read>(
+    console: &Console<'_, R>,
+    from: &mut I,
+    file: &JournalFile,
+    bytes: &mut [u8; 36000],
+)
     requires { length bytes.old ≡ 36000 }
 {
-    let s = replay_all(fd, bytes);
+    let s = replay_all(console, file, bytes);
     if !s.going {
         return;
     }
-    if journal::drop_torn(fd, s.torn) {
+    if journal::drop_torn(console, file, s.torn) {
         let board = s.board;
-        serve(board, Journal::At(fd), bytes);
+        serve(console, from, board, Journal::At(file), bytes);
     }
 }
 
-fn main() {
+fn main(rt: HostRuntime) -> ExitCode {
+    let console = Console::new(&rt);
+    let mut input = rt.stdin();
     let mut bytes = [0u8; 36000];
-    if os::arg_count() < 2 {
-        serve(racks::empty(), Journal::Nowhere, &mut bytes);
-        return;
+    if !journal::is_named(&rt) {
+        serve(
+            &console,
+            &mut input,
+            racks::empty(),
+            Journal::Nowhere,
+            &mut bytes,
+        );
+        return say::status(&console);
     }
-    let fd = journal::open_named();
-    if fd < 0 {
-        return;
+    if let Some(file) = journal::open_named(&console, &rt) {
+        start(&console, &mut input, &file, &mut bytes);
     }
-    start(fd, &mut bytes);
+    say::status(&console)
 }

@@ -79,7 +79,7 @@ pub record ReadsOn (w : Waits) (left : List ℕ) (t : Taken) (chunk line : List 
 -- without a journal nothing is lost
 abbrev pub Answers : Journal → Bool → Type 0
 Answers Nowhere kept = kept ≡ true
-Answers (At fd) kept = Unit
+Answers (At file) kept = Unit
 
 -- EXAMPLES, computed: two lines, and a third that has not ended
 

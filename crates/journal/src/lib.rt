@@ -4,16 +4,28 @@
 ghost use Rattle.std.specs.Prelude.{◌≡◌, true, false, [], ◌≤◌, length};
 ghost use Rattle.journal.specs.Lines.{Answers, fresh, pushed, waits_in, left_in, Lies, Scans, ReadsOn};
 
-use libc::{STDERR_FILENO, STDIN_FILENO};
+use say::Console;
+use std::cell::Cell;
+use std::env::{Env, FillError};
+use std::fs::{File, Files, OpenOptions};
+use std::io;
+use std::io::{Read, Seek, SeekFrom, Write};
 
 // The most bytes of a line, its end not counted.
 const MOST_LINE: usize = 4096;
 
+// The file of a journal, and whether it could not be cut back to what it was: then no later line is kept in it.
+#[derive(Drop)]
+pub struct JournalFile {
+    file: File,
+    lost: Cell<bool>,
+}
+
 // Where the accepted calls are kept.
 #[derive(Clone, Copy)]
-pub enum Journal {
+pub enum Journal<'a> {
     Nowhere,
-    At(i32),
+    At(&'a JournalFile),
 }
 
 // A line as far as it has come: how many bytes of it are in the buffer; or that it is too long.
@@ -106,7 +118,13 @@ fn stopped(w: Waiting, failed: bool) -> Taken
 }
 
 // Reads once more for a line that has not ended; but not for one that is too long, unless that is asked for.
-fn read_on(fd: i32, long: bool, w: Waiting, chunk: &mut [u8], line: &mut [u8]) -> Taken
+fn read_on<I: Read>(
+    from: &mut I,
+    long: bool,
+    w: Waiting,
+    chunk: &mut [u8],
+    line: &mut [u8],
+) -> Taken
     requires { (w.n ≤ 4096) × (length chunk.old ≡ 4096) × (length line.old ≡ 4096) }
     ensures { ReadsOn (waits_in w line.old) [] result chunk.new line.new }
 {
@@ -115,19 +133,21 @@ fn read_on(fd: i32, long: bool, w: Waiting, chunk: &mut [u8], line: &mut [u8]) -
             return stopped(w, true);
         }
     }
-    let got = libc::read(fd, chunk);
-    if got < 0 {
-        return stopped(w, true);
+    match from.read(chunk) {
+        Ok(0) => stopped(w, false),
+        Ok(n) => scan(Reader { at: 0, got: n }, w, chunk, line),
+        Err(_) => stopped(w, true),
     }
-    let n = io::count(got, chunk);
-    if n == 0 {
-        return stopped(w, false);
-    }
-    scan(Reader { at: 0, got: n }, w, chunk, line)
 }
 
 // The next line, from what is left of the last read and from further reads. A loop has to end, so these are counted down, from a number that none uses up.
-fn next_line(fd: i32, long: bool, reader: Reader, chunk: &mut [u8], line: &mut [u8]) -> Taken
+fn next_line<I: Read>(
+    from: &mut I,
+    long: bool,
+    reader: Reader,
+    chunk: &mut [u8],
+    line: &mut [u8],
+) -> Taken
     requires { Lies reader (record { n = 0; over = false }) chunk.old line.old }
     ensures { ReadsOn fresh (left_in reader chunk.old) result chunk.new line.new }
 {
@@ -135,7 +155,7 @@ fn next_line(fd: i32, long: bool, reader: Reader, chunk: &mut [u8], line: &mut [
     let mut turns = u64::MAX;
     while turns > 0 && t.going {
         let w = t.waiting;
-        t = read_on(fd, long, w, chunk, line);
+        t = read_on(from, long, w, chunk, line);
         turns -= 1;
     }
     t
@@ -150,13 +170,19 @@ fn has_begun(w: Waiting) -> bool {
 }
 
 // The next line of standard input; its last one needs no end. A read that fails looks like the end, and is said.
-pub fn next_of_input(reader: Reader, chunk: &mut [u8; 4096], line: &mut [u8; 4096]) -> Taken
+pub fn next_of_input<R: Eprint, I: Read>(
+    console: &Console<'_, R>,
+    from: &mut I,
+    reader: Reader,
+    chunk: &mut [u8; 4096],
+    line: &mut [u8; 4096],
+) -> Taken
     requires { (reader.at ≤ reader.got) × (reader.got ≤ 4096) }
     ensures { ReadsOn fresh (left_in reader chunk.old) result chunk.new line.new }
 {
-    let t = next_line(STDIN_FILENO, true, reader, chunk, line);
+    let t = next_line(from, true, reader, chunk, line);
     if t.failed {
-        say::complain(b"beechdoublet: standard input cannot be read\n");
+        say::complain(console, "beechdoublet: standard input cannot be read\n");
     }
     let w = t.waiting;
     let ended = t.ended;
@@ -176,24 +202,26 @@ pub fn next_of_input(reader: Reader, chunk: &mut [u8; 4096], line: &mut [u8; 409
 }
 
 // Says that a line of the journal cannot be played again.
-pub fn complain_of_line() {
+pub fn complain_of_line<R: Eprint>(console: &Console<'_, R>) {
     say::complain(
-        b"beechdoublet: a line of the journal is no call that is accepted; the journal is left as it is\n",
+        console,
+        "beechdoublet: a line of the journal is no call that is accepted; the journal is left as it is\n",
     );
 }
 
 // Says why the next line of the journal cannot be had: it is too long, or a read failed.
-fn complain_of(w: Waiting) {
+fn complain_of<R: Eprint>(console: &Console<'_, R>, w: Waiting) {
     if w.over {
-        complain_of_line();
+        complain_of_line(console);
         return;
     }
-    say::complain(b"beechdoublet: the journal cannot be read\n");
+    say::complain(console, "beechdoublet: the journal cannot be read\n");
 }
 
 // The next line of the journal. One that is too long is not read on, and a read that fails is said.
-pub fn next_of_journal(
-    fd: i32,
+pub fn next_of_journal<R: Eprint>(
+    console: &Console<'_, R>,
+    journal: &JournalFile,
     reader: Reader,
     chunk: &mut [u8; 4096],
     line: &mut [u8; 4096],
@@ -201,10 +229,11 @@ pub fn next_of_journal(
     requires { (reader.at ≤ reader.got) × (reader.got ≤ 4096) }
     ensures { ReadsOn fresh (left_in reader chunk.old) result chunk.new line.new }
 {
-    let t = next_line(fd, false, reader, chunk, line);
+    let mut file = &journal.file;
+    let t = next_line(&mut file, false, reader, chunk, line);
     if t.failed {
         let w = t.waiting;
-        complain_of(w);
+        complain_of(console, w);
     }
     t
 }
@@ -212,115 +241,142 @@ pub fn next_of_journal(
 // KEEPING A LINE
 
 // Appends a line, and waits until it has reached the device.
-fn append(fd: i32, line: &[u8]) -> bool {
-    if !io::write_all(fd, line) {
-        return false;
-    }
-    if !io::write_all(fd, b"\n") {
-        return false;
-    }
-    libc::fsync(fd) == 0
+fn append(file: &File, line: &[u8]) -> io::Result<()> {
+    let mut to = file;
+    to.write_all(line)?;
+    to.write_all(b"\n")?;
+    file.sync_all()
 }
 
-// Keeps a line in a file. Where that fails the file is cut back to what it was; where that fails too, it is closed, and no later line is kept.
-fn keep_at(fd: i32, line: &[u8]) -> bool {
-    let end = libc::lseek(fd, 0, libc::SEEK_END);
-    if end < 0 {
+// Keeps a line in a file. Where that fails the file is cut back to what it was; where that fails too, it is lost, and no later line is kept.
+fn keep_at(journal: &JournalFile, line: &[u8]) -> bool {
+    if journal.lost.get() {
         return false;
     }
-    if append(fd, line) {
+    let mut file = &journal.file;
+    match file.seek(SeekFrom::End(0)) {
+        Ok(end) => append_or_cut(journal, line, end),
+        Err(_) => false,
+    }
+}
+
+// Appends a line to a file, or cuts it back to its end.
+fn append_or_cut(journal: &JournalFile, line: &[u8], end: u64) -> bool {
+    if append(&journal.file, line).is_ok() {
         return true;
     }
-    if libc::ftruncate(fd, end) != 0 {
-        libc::close(fd);
+    if journal.file.set_len(end).is_err() {
+        journal.lost.set(true);
     }
     false
 }
 
 // Keeps an accepted call.
-pub fn keep(journal: Journal, line: &[u8]) -> bool
-    ensures { Answers journal result }
+pub fn keep(journal: Journal<'_>, line: &[u8]) -> bool
+    ensures { Answers journal.entry result }
 {
     match journal {
         Journal::Nowhere => true,
-        Journal::At(fd) => keep_at(fd, line),
+        Journal::At(file) => keep_at(file, line),
     }
 }
 
 // THE FILE
 
 // Opens the journal, and makes it where it is missing.
-fn open_or_make(path: &[u8]) -> i32 {
-    let fd = os::open_update(path);
-    if 0 <= fd {
-        return fd;
+fn open_or_make<R: Files<File = File>>(rt: &R, path: &str) -> io::Result<File> {
+    match OpenOptions::new().read(true).write(true).open(rt, path) {
+        Ok(file) => Ok(file),
+        Err(_) => File::create_new(rt, path),
     }
-    let made = os::create(path);
-    if made < 0 {
-        return made;
-    }
-    libc::close(made);
-    os::open_update(path)
 }
 
-// The number under which a journal is read and kept. It is negative where the journal cannot be opened, which is said.
-fn open_at(path: &[u8]) -> i32 {
-    let fd = open_or_make(path);
-    if fd < 0 {
-        say::complain(b"beechdoublet: the journal cannot be opened\n");
+// The journal, to be read and kept. There is none where it cannot be opened, which is said.
+fn open_at<R: Eprint + Files<File = File>>(
+    console: &Console<'_, R>,
+    rt: &R,
+    path: &str,
+) -> Option<JournalFile> {
+    match open_or_make(rt, path) {
+        Ok(file) => Some(JournalFile {
+            file,
+            lost: Cell::new(false),
+        }),
+        Err(_) => {
+            say::complain(console, "beechdoublet: the journal cannot be opened\n");
+            None
+        }
     }
-    fd
+}
+
+// The name of the journal is longer than 4,096 bytes, or is no text.
+fn no_name<R: Eprint>(console: &Console<'_, R>) -> Option<JournalFile> {
+    say::complain(
+        console,
+        "beechdoublet: the name of the journal cannot be read\n",
+    );
+    None
+}
+
+// Whether the program has an argument, which names a journal.
+pub fn is_named<R: Env>(rt: &R) -> bool {
+    let mut path = [0u8; 4096];
+    match rt.arg(1, &mut path) {
+        Err(FillError::NotPresent) => false,
+        _ => true,
+    }
 }
 
 // The same of the journal that the program's argument names.
-pub fn open_named() -> i32 {
-    let mut path = io::buffer();
-    let n = os::arg(1, &mut path);
-    if os::errno() != 0 {
-        say::complain(b"beechdoublet: the name of the journal cannot be read\n");
-        return -1;
+pub fn open_named<R: Eprint + Env + Files<File = File>>(
+    console: &Console<'_, R>,
+    rt: &R,
+) -> Option<JournalFile> {
+    let mut path = [0u8; 4096];
+    match rt.arg(1, &mut path) {
+        Ok(n) => match str::from_utf8(&path[..n]) {
+            Ok(text) => open_at(console, rt, text),
+            Err(_) => no_name(console),
+        },
+        Err(_) => no_name(console),
     }
-    open_at(&path[..n])
 }
 
 // Goes back n bytes in a file.
-fn go_back(fd: i32, n: usize) -> bool {
+fn go_back(file: &File, n: usize) -> io::Result<()> {
+    let mut from = file;
     let mut left = n;
     while left > 0 {
-        if libc::lseek(fd, -1, libc::SEEK_CUR) < 0 {
-            return false;
-        }
+        from.seek(SeekFrom::Current(-1))?;
         left -= 1;
     }
-    true
+    Ok(())
 }
 
 // Drops the last n bytes of the journal, which was read to its end.
-fn drop_last(fd: i32, n: usize) -> bool {
-    if !go_back(fd, n) {
-        return false;
-    }
-    let end = libc::lseek(fd, 0, libc::SEEK_CUR);
-    if libc::ftruncate(fd, end) != 0 {
-        return false;
-    }
-    libc::fsync(fd) == 0
+fn drop_last(file: &File, n: usize) -> io::Result<()> {
+    go_back(file, n)?;
+    let mut from = file;
+    let end = from.seek(SeekFrom::Current(0))?;
+    file.set_len(end)?;
+    file.sync_all()
 }
 
 // Drops the n bytes of a last line without its end, and says so; or says that they cannot be dropped.
-pub fn drop_torn(fd: i32, n: usize) -> bool {
+pub fn drop_torn<R: Eprint>(console: &Console<'_, R>, journal: &JournalFile, n: usize) -> bool {
     if n == 0 {
         return true;
     }
-    if !drop_last(fd, n) {
+    if drop_last(&journal.file, n).is_err() {
         say::complain(
-            b"beechdoublet: the last line of the journal has no end, and cannot be dropped\n",
+            console,
+            "beechdoublet: the last line of the journal has no end, and cannot be dropped\n",
         );
         return false;
     }
-    io::write_all(
-        STDERR_FILENO,
-        b"handlers: the last line of the journal has no end, and was dropped\n",
+    say::note(
+        console,
+        "handlers: the last line of the journal has no end, and was dropped\n",
     );
     true
 }

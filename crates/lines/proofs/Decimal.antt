@@ -8,7 +8,7 @@ use native.Mathlib.Nat.{pow-succ', pow-le-pow_right}
 use lib.Dec.{ltb, leb}
 use lib.ListN.{length, length-append}
 use borrow.Author.Tests.{ltb-false, lt-ltb, le-ltb, leb-true, leb-false}
-use Rattle.io.specs.Digits.{hex_digit_ascii, last_digits, IsDigitCount}
+use Rattle.io.specs.Digits.{hex_digit_ascii, last_digits as last_in_base, IsDigitCount}
 use Rattle.shape.proofs.Numbers.{ten}
 use Rattle.lines.specs.Lines.{last_digits, decimal, refused_line}
 
@@ -17,7 +17,7 @@ use Rattle.lines.specs.Lines.{last_digits, decimal, refused_line}
 last_glyph : (n : ℕ) → hex_digit_ascii (n % 10) ≡ 48 + n % 10
 last_glyph n = rw (lt-ltb (n % 10) 10 (omega arith))
 
-fewest_digits : (k most n : ℕ) → suc k ≤ most → n < 10 ^ suc k → (0 < k → 10 ^ k ≤ n) → last_digits 10 (suc k) n ≡ last_digits most n
+fewest_digits : (k most n : ℕ) → suc k ≤ most → n < 10 ^ suc k → (0 < k → 10 ^ k ≤ n) → last_in_base 10 (suc k) n ≡ last_digits most n
 fewest_digits k zero n l h p = absurd (omega arith)
 fewest_digits zero (suc most) n l h p = let s : n < 10 = h in rw (last_glyph n, lt-ltb n 10 s)
 fewest_digits (suc k) (suc most) n l h p =
@@ -41,7 +41,7 @@ twenty n k f h = go (leb k 20) refl
         let p : 10 ^ 20 ≤ 10 ^ (k - 1) = pow-le-pow_right (omega arith) {i = 20} {j = k - 1} l in
         absurd (omega (arith, f.2 (omega arith)))
 
-pub as_written : (n k : ℕ) → IsDigitCount 10 1 n k → n < 18446744073709551616 → last_digits 10 k n ≡ decimal n
+pub as_written : (n k : ℕ) → IsDigitCount 10 1 n k → n < 18446744073709551616 → last_in_base 10 k n ≡ decimal n
 unfolding decimal
 as_written n zero f h = absurd (omega (arith, f.0))
 as_written n (suc k) f h =

@@ -43,6 +43,7 @@ fn put_refused(number: u8, field: u8, place: usize, out: &mut [u8]) -> usize
 }
 
 // What stands before the spelling.
+#[tactic(auto, unfolding(crate::specs::Lines::opening))]
 fn opening_of(t: MessageType) -> [u8; 7]
     ensures { result ≡ opening t }
 {

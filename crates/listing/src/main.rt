@@ -6,6 +6,9 @@ ghost use Rattle.io.specs.Counts.{IsPrefixLen};
 ghost use Rattle.text.specs.Lent.{front};
 ghost use Rattle.listing.specs.Listing.{listed};
 
+use say::Console;
+use std::process::ExitCode;
+
 // Writes the listing of an input at the front of `out`. No line takes more than nine times the bytes of its piece, and that of `)` takes nine.
 fn put_list(s: &[u8], out: &mut [u8]) -> usize
     requires { 9 * length s.now + 4 ≤ length out.old }
@@ -31,10 +34,12 @@ fn list(s: &[u8], out: &mut [u8; 589828]) -> usize
     put_list(s, out)
 }
 
-fn main() {
+fn main(rt: HostRuntime) -> ExitCode {
+    let console = Console::new(&rt);
     let mut buffer = [0u8; 65537];
-    let n = say::messages(&mut buffer);
+    let n = say::messages(&console, &mut rt.stdin(), &mut buffer);
     let mut out = [0u8; 589828];
     let k = list(&buffer[..n], &mut out);
-    say::print(&out[..k]);
+    say::print(&console, &out[..k]);
+    say::status(&console)
 }

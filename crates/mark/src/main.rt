@@ -24,6 +24,8 @@ ghost use Rattle.mark.specs.Mark.{
 };
 
 use message::Answer;
+use say::Console;
+use std::process::ExitCode;
 
 fn ends_line(b: u8) -> bool
     ensures { result ≡ ends_line b }
@@ -192,10 +194,12 @@ fn mark(s: &[u8], out: &mut [u8; 917504]) -> usize
     put_marks(s, out)
 }
 
-fn main() {
+fn main(rt: HostRuntime) -> ExitCode {
+    let console = Console::new(&rt);
     let mut buffer = [0u8; 65537];
-    let n = say::messages(&mut buffer);
+    let n = say::messages(&console, &mut rt.stdin(), &mut buffer);
     let mut out = [0u8; 917504];
     let k = mark(&buffer[..n], &mut out);
-    say::print(&out[..k]);
+    say::print(&console, &out[..k]);
+    say::status(&console)
 }

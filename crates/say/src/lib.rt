@@ -1,5 +1,5 @@
 // What the programs read and print. No contract can say what is read or printed; what a line says of a time is spelled by a function with one.
-// A program cannot end with a status: what could not be read or written it says on standard error, and ./run ends with status 1 then.
+// What could not be read or written a program says on standard error, once, and it ends with status 1 then.
 #![tactic(auto)]
 
 ghost use Rattle.std.specs.Prelude.{◌≡◌, ◌+◌, ◌<◌, ◌≤◌};
@@ -8,31 +8,64 @@ ghost use Rattle.shape.specs.Time.{spell_clock};
 
 use aerodromes::Aerodrome;
 use kinds::MessageType;
-use libc::{STDERR_FILENO, STDIN_FILENO, STDOUT_FILENO};
 use shape::Clock;
 use state::{Departure, State, Strip};
+use std::cell::Cell;
+use std::io::Read;
+use std::process::ExitCode;
 
-// Says what went wrong first, and no more: standard error is then closed.
-pub fn complain(what: &[u8]) {
-    io::write_all(STDERR_FILENO, what);
-    libc::close(STDERR_FILENO);
+// Where a program prints, and whether it has said that something went wrong.
+#[derive(Drop)]
+pub struct Console<'a, R> {
+    rt: &'a R,
+    complained: Cell<bool>,
 }
 
-// Complains unless standard input has ended.
-fn expect_end() {
-    let mut further = [0u8; 1];
-    if libc::read(STDIN_FILENO, &mut further) != 0 {
-        complain(b"beechdoublet: standard input cannot be read\n");
+impl<'a, R> Console<'a, R> {
+    // One on which nothing has gone wrong yet.
+    pub fn new(rt: &'a R) -> Console<'a, R> {
+        Console {
+            rt,
+            complained: Cell::new(false),
+        }
     }
 }
 
-// Reads standard input up to its end, or as much as `buf` holds, and gives the count. A read that fails looks like the end; one further tells them apart.
-pub fn input(buf: &mut [u8]) -> usize
+// Says what went wrong first, and no more.
+pub fn complain<R: Eprint>(console: &Console<'_, R>, what: &str) {
+    if !console.complained.get() {
+        note(console, what);
+        console.complained.set(true);
+    }
+}
+
+// Writes to standard error what is no fault. Where that fails there is nowhere to say so.
+pub fn note<R: Eprint>(console: &Console<'_, R>, what: &str) {
+    let _ = console.rt.eprint(what);
+}
+
+// The status that a program ends with: 1 where it has complained, and 0 otherwise.
+pub fn status<R>(console: &Console<'_, R>) -> ExitCode {
+    if console.complained.get() {
+        return ExitCode::FAILURE;
+    }
+    ExitCode::SUCCESS
+}
+
+// Reads standard input up to its end, or as much as `buf` holds, and gives the count. A read that fails looks like the end, and is said.
+pub fn input<R: Eprint, I: Read>(console: &Console<'_, R>, from: &mut I, buf: &mut [u8]) -> usize
     ensures { IsPrefixLen result buf.new }
 {
-    let n = io::read_full(STDIN_FILENO, buf);
-    if n < buf.len() {
-        expect_end();
+    let mut n = 0;
+    while n < buf.len() {
+        match from.read(&mut buf[n..]) {
+            Ok(0) => return n,
+            Ok(more) => n += more,
+            Err(_) => {
+                complain(console, "beechdoublet: standard input cannot be read\n");
+                return n;
+            }
+        }
     }
     n
 }
@@ -42,29 +75,33 @@ const MOST_INPUT: usize = 65536;
 
 // Reads the messages of standard input, and gives the count. Of more than `MOST_INPUT` bytes it says `TOO LONG`, and gives none; `buf` has one byte more
 // than that, to show it.
-pub fn messages(buf: &mut [u8; 65537]) -> usize
+pub fn messages<R: Print + Eprint, I: Read>(
+    console: &Console<'_, R>,
+    from: &mut I,
+    buf: &mut [u8; 65537],
+) -> usize
     ensures { (result ≤ 65536) × IsPrefixLen result buf.new }
 {
-    let n = input(buf);
+    let n = input(console, from, buf);
     if MOST_INPUT < n {
-        print(b"TOO LONG\n");
+        print(console, b"TOO LONG\n");
         return 0;
     }
     n
 }
 
 // Writes to standard output.
-pub fn print(bytes: &[u8]) {
-    if !io::write_all(STDOUT_FILENO, bytes) {
-        complain(b"beechdoublet: standard output cannot be written\n");
+pub fn print<R: Print + Eprint>(console: &Console<'_, R>, bytes: &[u8]) {
+    if console.rt.write_all(bytes).is_err() {
+        complain(console, "beechdoublet: standard output cannot be written\n");
     }
 }
 
 // Writes a number, as decimal digits.
-pub fn decimal(n: u64) {
+pub fn decimal<R: Print + Eprint>(console: &Console<'_, R>, n: u64) {
     let mut digits = [0u8; 20];
     let k = io::decimal(n, &mut digits);
-    print(&digits[..k]);
+    print(console, &digits[..k]);
 }
 
 // One digit; from ten on the byte that lies so far behind `0`.
@@ -89,87 +126,87 @@ pub fn four_digits(t: Clock) -> [u8; 4]
     ]
 }
 
-fn time(t: Clock) {
-    print(&four_digits(t));
+fn time<R: Print + Eprint>(console: &Console<'_, R>, t: Clock) {
+    print(console, &four_digits(t));
 }
 
-fn departure(d: Departure) {
+fn departure<R: Print + Eprint>(console: &Console<'_, R>, d: Departure) {
     match d {
-        Departure::Known(t) => time(t),
-        Departure::Unknown => print(b"----"),
+        Departure::Known(t) => time(console, t),
+        Departure::Unknown => print(console, b"----"),
     }
 }
 
-fn arrival(d: Departure, a: Aerodrome, t: Clock) {
-    print(b"ARRIVED ");
-    departure(d);
-    print(b" ");
-    print(&[a.0, a.1, a.2, a.3]);
-    print(b" ");
-    time(t);
+fn arrival<R: Print + Eprint>(console: &Console<'_, R>, d: Departure, a: Aerodrome, t: Clock) {
+    print(console, b"ARRIVED ");
+    departure(console, d);
+    print(console, b" ");
+    print(console, &[a.0, a.1, a.2, a.3]);
+    print(console, b" ");
+    time(console, t);
 }
 
 // A state: its name, and its times and aerodrome. Any state is printed; only one that `Strip::is_sound` passes has times and an aerodrome as
 // document 01 writes them.
-pub fn state(s: State) {
+pub fn state<R: Print + Eprint>(console: &Console<'_, R>, s: State) {
     match s {
-        State::Filed => print(b"FILED"),
+        State::Filed => print(console, b"FILED"),
         State::Departed(t) => {
-            print(b"DEPARTED ");
-            time(t);
+            print(console, b"DEPARTED ");
+            time(console, t);
         }
-        State::Arrived(d, a, t) => arrival(d, a, t),
-        State::Cancelled => print(b"CANCELLED"),
+        State::Arrived(d, a, t) => arrival(console, d, a, t),
+        State::Cancelled => print(console, b"CANCELLED"),
     }
 }
 
-fn type_of(t: MessageType) {
+fn type_of<R: Print + Eprint>(console: &Console<'_, R>, t: MessageType) {
     match t {
-        MessageType::Fpl => print(b"OK FPL"),
-        MessageType::Chg => print(b"OK CHG"),
-        MessageType::Cnl => print(b"OK CNL"),
-        MessageType::Dla => print(b"OK DLA"),
-        MessageType::Dep => print(b"OK DEP"),
-        MessageType::Arr => print(b"OK ARR"),
-        MessageType::Rqp => print(b"OK RQP"),
-        MessageType::Rqs => print(b"OK RQS"),
-        MessageType::Spl => print(b"OK SPL"),
+        MessageType::Fpl => print(console, b"OK FPL"),
+        MessageType::Chg => print(console, b"OK CHG"),
+        MessageType::Cnl => print(console, b"OK CNL"),
+        MessageType::Dla => print(console, b"OK DLA"),
+        MessageType::Dep => print(console, b"OK DEP"),
+        MessageType::Arr => print(console, b"OK ARR"),
+        MessageType::Rqp => print(console, b"OK RQP"),
+        MessageType::Rqs => print(console, b"OK RQS"),
+        MessageType::Spl => print(console, b"OK SPL"),
     }
 }
 
 // The end of a line: a space and the spelling.
-pub fn spelled(spelling: &[u8]) {
-    print(b" ");
-    print(spelling);
-    print(b"\n");
+pub fn spelled<R: Print + Eprint>(console: &Console<'_, R>, spelling: &[u8]) {
+    print(console, b" ");
+    print(console, spelling);
+    print(console, b"\n");
 }
 
 // An accepted message: `OK`, its type, its spelling.
-pub fn accepted(t: MessageType, spelling: &[u8]) {
-    type_of(t);
-    spelled(spelling);
+pub fn accepted<R: Print + Eprint>(console: &Console<'_, R>, t: MessageType, spelling: &[u8]) {
+    type_of(console, t);
+    spelled(console, spelling);
 }
 
 // A strip: `OK`, its state, its spelling.
-pub fn strip(held: Strip, spelling: &[u8]) {
+pub fn strip<R: Print + Eprint>(console: &Console<'_, R>, held: Strip, spelling: &[u8]) {
     let s = held.state;
-    print(b"OK ");
-    state(s);
-    spelled(spelling);
+    print(console, b"OK ");
+    state(console, s);
+    spelled(console, spelling);
 }
 
 // A refusal up to the end of its line: `NO`, number, field, place.
-pub fn refused(number: u8, field: u8, place: usize) {
-    print(b"NO ");
-    decimal(number as u64);
-    print(b" ");
-    decimal(field as u64);
-    print(b" ");
-    decimal(place as u64);
+pub fn refused<R: Print + Eprint>(console: &Console<'_, R>, number: u8, field: u8, place: usize) {
+    print(console, b"NO ");
+    decimal(console, number as u64);
+    print(console, b" ");
+    decimal(console, field as u64);
+    print(console, b" ");
+    decimal(console, place as u64);
 }
 
 // A refusal, as a line.
-pub fn refusal(number: u8, field: u8, place: usize) {
-    refused(number, field, place);
-    print(b"\n");
+pub fn refusal<R: Print + Eprint>(console: &Console<'_, R>, number: u8, field: u8, place: usize) {
+    refused(console, number, field, place);
+    print(console, b"\n");
 }

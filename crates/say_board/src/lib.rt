@@ -5,113 +5,179 @@ use board::{Looked, Verdict};
 use calls::Call;
 use racks::Board;
 use rooms::Named;
+use say::Console;
 use state::Strip;
 
 // A strip that was just filed: its slot, its state and its spelling.
-fn tell_filed(board: Board, call: Call, slot: usize, bytes: &[u8; 36000]) {
+fn tell_filed<R: Print + Eprint>(
+    console: &Console<'_, R>,
+    board: Board,
+    call: Call,
+    slot: usize,
+    bytes: &[u8; 36000],
+) {
     if let Call::File { firm, .. } = call {
-        say::print(b"OK ");
-        say::decimal(slot as u64);
-        say::print(b" FILED");
-        say::spelled(board::strip_of(board, firm, slot, bytes));
+        say::print(console, b"OK ");
+        say::decimal(console, slot as u64);
+        say::print(console, b" FILED");
+        say::spelled(console, board::strip_of(board, firm, slot, bytes));
     }
 }
 
 // A strip that was updated: its state and its spelling.
-fn tell_updated(board: Board, call: Call, held: Strip, bytes: &[u8; 36000]) {
+fn tell_updated<R: Print + Eprint>(
+    console: &Console<'_, R>,
+    board: Board,
+    call: Call,
+    held: Strip,
+    bytes: &[u8; 36000],
+) {
     if let Call::Update { firm, slot, .. } = call {
-        say::strip(held, board::strip_of(board, firm, slot, bytes));
+        say::strip(console, held, board::strip_of(board, firm, slot, bytes));
     }
 }
 
 // The state of the strip in a slot, behind a space.
-fn show_found(board: Board, firm: u8, slot: usize) {
+fn show_found<R: Print + Eprint>(console: &Console<'_, R>, board: Board, firm: u8, slot: usize) {
     if let Looked::Stands(held) = board::look(board, firm, slot) {
-        say::print(b" ");
+        say::print(console, b" ");
         let s = held.state;
-        say::state(s);
+        say::state(console, s);
     }
 }
 
 // Why an update of the strip in a slot was refused, as the desk shows it.
-fn show_why(board: Board, firm: u8, slot: usize, msg: &[u8], bytes: &[u8; 36000]) {
+fn show_why<R: Print + Eprint>(
+    console: &Console<'_, R>,
+    board: Board,
+    firm: u8,
+    slot: usize,
+    msg: &[u8],
+    bytes: &[u8; 36000],
+) {
     if let Looked::Stands(held) = board::look(board, firm, slot) {
         let strip = board::strip_of(board, firm, slot, bytes);
-        say_cause::names(causes::cause_of(strip, held, msg));
+        say_cause::names(console, causes::cause_of(strip, held, msg));
     }
 }
 
 // The cause of a refusal, behind its number, field and place. It is asked of the board as it stands: a refused call leaves it as it was.
-fn show_cause(board: Board, call: Call, line: &[u8], bytes: &[u8; 36000]) {
+fn show_cause<R: Print + Eprint>(
+    console: &Console<'_, R>,
+    board: Board,
+    call: Call,
+    line: &[u8],
+    bytes: &[u8; 36000],
+) {
     match call {
         Call::File { .. } => {}
         Call::Update { firm, slot, from } => {
-            show_why(board, firm, slot, calls::message_of(line, from), bytes)
+            show_why(
+                console,
+                board,
+                firm,
+                slot,
+                calls::message_of(line, from),
+                bytes,
+            )
         }
-        Call::Clear { firm, slot } => show_found(board, firm, slot),
+        Call::Clear { firm, slot } => show_found(console, board, firm, slot),
     }
 }
 
 // The answer to a call; the board is as it then stands.
-pub fn tell(board: Board, call: Call, v: Verdict, line: &[u8], bytes: &[u8; 36000]) {
+pub fn tell<R: Print + Eprint>(
+    console: &Console<'_, R>,
+    board: Board,
+    call: Call,
+    v: Verdict,
+    line: &[u8],
+    bytes: &[u8; 36000],
+) {
     match v {
-        Verdict::Filed(slot) => tell_filed(board, call, slot, bytes),
-        Verdict::Updated(held, _) => tell_updated(board, call, held, bytes),
-        Verdict::Cleared => say::print(b"OK CLEARED\n"),
+        Verdict::Filed(slot) => tell_filed(console, board, call, slot, bytes),
+        Verdict::Updated(held, _) => tell_updated(console, board, call, held, bytes),
+        Verdict::Cleared => say::print(console, b"OK CLEARED\n"),
         Verdict::Refused {
             number,
             field,
             place,
         } => {
-            say::refused(number, field, place);
-            show_cause(board, call, line, bytes);
-            say::print(b"\n");
+            say::refused(console, number, field, place);
+            show_cause(console, board, call, line, bytes);
+            say::print(console, b"\n");
         }
     }
 }
 
 // The strip in a slot, or why there is none.
-pub fn show_strip(board: Board, firm: u8, slot: usize, bytes: &[u8; 36000]) {
+pub fn show_strip<R: Print + Eprint>(
+    console: &Console<'_, R>,
+    board: Board,
+    firm: u8,
+    slot: usize,
+    bytes: &[u8; 36000],
+) {
     match board::look(board, firm, slot) {
-        Looked::Stands(held) => say::strip(held, board::strip_of(board, firm, slot, bytes)),
+        Looked::Stands(held) => say::strip(
+            console,
+            held,
+            board::strip_of(board, firm, slot, bytes),
+        ),
         Looked::Refused {
             number,
             field,
             place,
-        } => say::refusal(number, field, place),
+        } => say::refusal(console, number, field, place),
     }
 }
 
 // Of a strip in the list: its slot, its identification and its state.
-fn show_entry(board: Board, firm: u8, slot: usize, bytes: &[u8; 36000]) {
+fn show_entry<R: Print + Eprint>(
+    console: &Console<'_, R>,
+    board: Board,
+    firm: u8,
+    slot: usize,
+    bytes: &[u8; 36000],
+) {
     if let Looked::Stands(held) = board::look(board, firm, slot) {
-        say::print(b" ");
-        say::decimal(slot as u64);
-        say::print(b" ");
+        say::print(console, b" ");
+        say::decimal(console, slot as u64);
+        say::print(console, b" ");
         let seven = amending::field(board::strip_of(board, firm, slot, bytes), kinds::PLAN_7);
-        say::print(head::identification(seven));
-        say::print(b" ");
+        say::print(console, head::identification(seven));
+        say::print(console, b" ");
         let s = held.state;
-        say::state(s);
+        say::state(console, s);
     }
 }
 
-fn show_entries(board: Board, firm: u8, bytes: &[u8; 36000]) {
+fn show_entries<R: Print + Eprint>(
+    console: &Console<'_, R>,
+    board: Board,
+    firm: u8,
+    bytes: &[u8; 36000],
+) {
     let mut slot = 0;
     while slot < 10 {
-        show_entry(board, firm, slot, bytes);
+        show_entry(console, board, firm, slot, bytes);
         slot += 1;
     }
 }
 
 // The strips of a firm, by rising slot.
-pub fn show_list(board: Board, firm: u8, bytes: &[u8; 36000]) {
+pub fn show_list<R: Print + Eprint>(
+    console: &Console<'_, R>,
+    board: Board,
+    firm: u8,
+    bytes: &[u8; 36000],
+) {
     match rooms::firm_named(firm) {
-        Named::Nobody => say::refusal(18, 0, 0),
+        Named::Nobody => say::refusal(console, 18, 0, 0),
         Named::By(_) => {
-            say::print(b"OK");
-            show_entries(board, firm, bytes);
-            say::print(b"\n");
+            say::print(console, b"OK");
+            show_entries(console, board, firm, bytes);
+            say::print(console, b"\n");
         }
     }
 }

@@ -2,61 +2,67 @@
 #![tactic(auto)]
 
 use causes::{Cause, Key};
-use say::print;
+use say::{Console, print};
 use strip::Differences;
 
-fn name(shown: bool, word: &[u8]) {
+fn name<R: Print + Eprint>(console: &Console<'_, R>, shown: bool, word: &[u8]) {
     if shown {
-        print(b" ");
-        print(word);
+        print(console, b" ");
+        print(console, word);
     }
 }
 
-fn differences(d: Differences) {
-    name(d.identification, b"IDENTIFICATION");
-    name(d.aerodrome, b"AERODROME");
-    name(d.time, b"TIME");
-    name(d.destination, b"DESTINATION");
-    name(d.date, b"DATE");
+fn differences<R: Print + Eprint>(console: &Console<'_, R>, d: Differences) {
+    name(console, d.identification, b"IDENTIFICATION");
+    name(console, d.aerodrome, b"AERODROME");
+    name(console, d.time, b"TIME");
+    name(console, d.destination, b"DESTINATION");
+    name(console, d.date, b"DATE");
 }
 
-fn key(k: Key) {
+fn key<R: Print + Eprint>(console: &Console<'_, R>, k: Key) {
     match k {
-        Key::Typ => print(b" TYP"),
-        Key::Dep => print(b" DEP"),
-        Key::Dest => print(b" DEST"),
-        Key::Altn => print(b" ALTN"),
+        Key::Typ => print(console, b" TYP"),
+        Key::Dep => print(console, b" DEP"),
+        Key::Dest => print(console, b" DEST"),
+        Key::Altn => print(console, b" ALTN"),
     }
 }
 
 // The names of a cause; nothing where nothing more is shown.
-pub fn names(c: Cause) {
+pub fn names<R: Print + Eprint>(console: &Console<'_, R>, c: Cause) {
     match c {
         Cause::NothingMore => {}
-        Cause::Another(d) => differences(d),
-        Cause::Missing(k) => key(k),
+        Cause::Another(d) => differences(console, d),
+        Cause::Missing(k) => key(console, k),
         Cause::Forbidden(s) => {
-            print(b" ");
-            say::state(s);
+            print(console, b" ");
+            say::state(console, s);
         }
     }
 }
 
 // A refusal of an update, as a line: `NO`, number, field, place and the names of its cause.
-pub fn refusal(number: u8, field: u8, place: usize, c: Cause) {
-    say::refused(number, field, place);
-    names(c);
-    print(b"\n");
+pub fn refusal<R: Print + Eprint>(
+    console: &Console<'_, R>,
+    number: u8,
+    field: u8,
+    place: usize,
+    c: Cause,
+) {
+    say::refused(console, number, field, place);
+    names(console, c);
+    print(console, b"\n");
 }
 
 // A cause by itself, as a line: `CAUSE`, its number and its names, or `NONE`.
-pub fn line(c: Cause) {
+pub fn line<R: Print + Eprint>(console: &Console<'_, R>, c: Cause) {
     match c {
-        Cause::NothingMore => print(b"NONE"),
-        Cause::Another(_) => print(b"CAUSE 12"),
-        Cause::Missing(_) => print(b"CAUSE 10"),
-        Cause::Forbidden(_) => print(b"CAUSE 13"),
+        Cause::NothingMore => print(console, b"NONE"),
+        Cause::Another(_) => print(console, b"CAUSE 12"),
+        Cause::Missing(_) => print(console, b"CAUSE 10"),
+        Cause::Forbidden(_) => print(console, b"CAUSE 13"),
     }
-    names(c);
-    print(b"\n");
+    names(console, c);
+    print(console, b"\n");
 }

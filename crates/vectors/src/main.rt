@@ -10,9 +10,10 @@ use aerodromes::Aerodrome;
 use asked::Asked;
 use kinds::Form;
 use message::Answer;
-use say::print;
+use say::{Console, print};
 use shape::Clock;
 use state::{Departure, State, Strip};
+use std::process::ExitCode;
 use strip::Updated;
 use text::Kind;
 
@@ -31,8 +32,8 @@ type Line = [u8; 8192];
 
 type Out = [u8; 1800];
 
-fn say_bad() {
-    print(b"BAD LINE\n");
+fn say_bad<R: Print + Eprint>(console: &Console<'_, R>) {
+    print(console, b"BAD LINE\n");
 }
 
 // BYTES WRITTEN AS TEXT
@@ -176,63 +177,75 @@ fn spelling(out: &Out, n: usize) -> &[u8] {
 }
 
 // Says so if a byte from n on is not as it was.
-fn check_kept(out: &Out, n: usize) {
+fn check_kept<R: Print + Eprint>(console: &Console<'_, R>, out: &Out, n: usize) {
     let mut i = n;
     while i < MOST_ROOM {
         if out[i] != BEFORE {
-            print(b"CHANGED\n");
+            print(console, b"CHANGED\n");
             return;
         }
         i += 1;
     }
 }
 
-fn read(msg: &[u8], room: usize) {
+fn read<R: Print + Eprint>(console: &Console<'_, R>, msg: &[u8], room: usize) {
     if MOST_ROOM < room {
-        say_bad();
+        say_bad(console);
         return;
     }
     let mut out = [BEFORE; 1800];
     match message::read(msg, &mut out[0..room]) {
         Answer::Accepted(t, n) => {
-            say::accepted(t, spelling(&out, n));
-            check_kept(&out, n);
+            say::accepted(console, t, spelling(&out, n));
+            check_kept(console, &out, n);
         }
         Answer::Refused {
             number,
             field,
             place,
         } => {
-            say::refusal(number, field, place);
-            check_kept(&out, 0);
+            say::refusal(console, number, field, place);
+            check_kept(console, &out, 0);
         }
     }
 }
 
 // A part of a strip or of a CHG: where it stands, and what it is.
-fn say_part(place: &[u8], from: usize, to: usize, content: &[u8]) {
-    print(place);
-    say::decimal(from as u64);
-    print(b" ");
-    say::decimal(to as u64);
-    say::spelled(content);
+fn say_part<R: Print + Eprint>(
+    console: &Console<'_, R>,
+    place: &[u8],
+    from: usize,
+    to: usize,
+    content: &[u8],
+) {
+    print(console, place);
+    say::decimal(console, from as u64);
+    print(console, b" ");
+    say::decimal(console, to as u64);
+    say::spelled(console, content);
 }
 
 // Asks for the field in force of a strip and a CHG: where it stands, and its content.
-fn show<'a>(chg: &'a [u8], number: usize, held: Strip, strip: &'a [u8]) {
+fn show<'a, R: Print + Eprint>(
+    console: &Console<'_, R>,
+    chg: &'a [u8],
+    number: usize,
+    held: Strip,
+    strip: &'a [u8],
+) {
     if MOST_ASKED < number {
-        say_bad();
+        say_bad(console);
         return;
     }
     let content = asked::in_force(strip, held, chg, number as u8);
     match asked::ask(strip, held, chg, number as u8) {
-        Asked::InStrip { from, to } => say_part(b"IN STRIP ", from, to, content),
-        Asked::InChange { from, to } => say_part(b"IN CHG ", from, to, content),
+        Asked::InStrip { from, to } => say_part(console, b"IN STRIP ", from, to, content),
+        Asked::InChange { from, to } => say_part(console, b"IN CHG ", from, to, content),
         Asked::Refused {
             number: n,
             field,
             place,
-        } => say::refusal(n, field, place),
+        } => say::refusal(console, n, field, place),
     }
 }
 
@@ -256,16 +269,16 @@ fn form_of(rank: usize) -> Form {
 }
 
 // Holds a content to the form that a word names.
-fn fit(word: &[u8], content: &[u8]) {
+fn fit<R: Print + Eprint>(console: &Console<'_, R>, word: &[u8], content: &[u8]) {
     let k = text::rank_of(word, b"3 7 8 9 10 13 13open 15 16 16plan 17 18 19");
     if k == 0 {
-        say_bad();
+        say_bad(console);
         return;
     }
     if forms::fits_form(form_of(k), content) {
-        print(b"FITS\n");
+        print(console, b"FITS\n");
     } else {
-        print(b"NO\n");
+        print(console, b"NO\n");
     }
 }
 
@@ -279,14 +292,21 @@ fn strip_held(plan: &Line, n: usize) -> &[u8] {
 }
 
 // What leaves the strip as it is.
-fn tell<'a>(letter: u8, word: &[u8], msg: &'a [u8], held: Strip, strip: &'a [u8]) {
+fn tell<'a, R: Print + Eprint>(
+    console: &Console<'_, R>,
+    letter: u8,
+    word: &[u8],
+    msg: &'a [u8],
+    held: Strip,
+    strip: &'a [u8],
+) {
     match letter {
-        b'R' => read(msg, MOST_ROOM),
-        b'r' => read(msg, number_of(word)),
-        b'F' => show(msg, number_of(word), held, strip),
-        b'W' => say_cause::line(causes::cause_of(strip, held, msg)),
-        b'C' => fit(word, msg),
-        _ => say_bad(),
+        b'R' => read(console, msg, MOST_ROOM),
+        b'r' => read(console, msg, number_of(word)),
+        b'F' => show(console, msg, number_of(word), held, strip),
+        b'W' => say_cause::line(console, causes::cause_of(strip, held, msg)),
+        b'C' => fit(console, word, msg),
+        _ => say_bad(console),
     }
 }
 
@@ -299,10 +319,16 @@ fn keep(strip: &[u8], plan: &mut Line) -> usize {
 }
 
 // Holds a strip, in `plan`, with the state that a word says.
-fn hold(word: &[u8], strip: &[u8], run: Run, plan: &mut Line) -> Run {
+fn hold<R: Print + Eprint>(
+    console: &Console<'_, R>,
+    word: &[u8],
+    strip: &[u8],
+    run: Run,
+    plan: &mut Line,
+) -> Run {
     match state_of(word) {
         Said::Known(state) => {
-            print(b"HELD\n");
+            print(console, b"HELD\n");
             Run {
                 gathered: 0,
                 length: keep(strip, plan),
@@ -310,16 +336,22 @@ fn hold(word: &[u8], strip: &[u8], run: Run, plan: &mut Line) -> Run {
             }
         }
         Said::Nothing => {
-            say_bad();
+            say_bad(console);
             run
         }
     }
 }
 
 // Offers a message to the strip held.
-fn offer(msg: &[u8], room: usize, run: Run, plan: &mut Line) -> Run {
+fn offer<R: Print + Eprint>(
+    console: &Console<'_, R>,
+    msg: &[u8],
+    room: usize,
+    run: Run,
+    plan: &mut Line,
+) -> Run {
     if MOST_ROOM < room {
-        say_bad();
+        say_bad(console);
         return run;
     }
     let held = run.held;
@@ -327,8 +359,8 @@ fn offer(msg: &[u8], room: usize, run: Run, plan: &mut Line) -> Run {
     match strip::update(strip_held(plan, run.length), held, msg, &mut out[0..room]) {
         Updated::Accepted(next, n) => {
             let new = spelling(&out, n);
-            say::strip(next, new);
-            check_kept(&out, n);
+            say::strip(console, next, new);
+            check_kept(console, &out, n);
             Run {
                 gathered: 0,
                 length: keep(new, plan),
@@ -340,8 +372,8 @@ fn offer(msg: &[u8], room: usize, run: Run, plan: &mut Line) -> Run {
             field,
             place,
         } => {
-            say::refusal(number, field, place);
-            check_kept(&out, 0);
+            say::refusal(console, number, field, place);
+            check_kept(console, &out, 0);
             run
         }
     }
@@ -364,7 +396,14 @@ fn number_of(w: &[u8]) -> usize {
 }
 
 // Answers what a line asks of the bytes that it has from a place up to another; a word may stand before them.
-fn ask(line: &Line, from: usize, e: usize, run: Run, plan: &mut Line) -> Run
+fn ask<R: Print + Eprint>(
+    console: &Console<'_, R>,
+    line: &Line,
+    from: usize,
+    e: usize,
+    run: Run,
+    plan: &mut Line,
+) -> Run
     requires { (from ≤ e) × (e ≤ 8192) }
 {
     let whole = &line[..];
@@ -373,12 +412,19 @@ fn ask(line: &Line, from: usize, e: usize, run: Run, plan: &mut Line) -> Run
     let msg = &whole[from..e];
     let letter = line[0];
     match letter {
-        b'U' => offer(msg, MOST_ROOM, run, plan),
-        b'u' => offer(msg, number_of(word), run, plan),
-        b'H' => hold(word, msg, run, plan),
+        b'U' => offer(console, msg, MOST_ROOM, run, plan),
+        b'u' => offer(console, msg, number_of(word), run, plan),
+        b'H' => hold(console, word, msg, run, plan),
         _ => {
             let held = run.held;
-            tell(letter, word, msg, held, strip_held(plan, run.length));
+            tell(
+                console,
+                letter,
+                word,
+                msg,
+                held,
+                strip_held(plan, run.length),
+            );
             run
         }
     }
@@ -399,18 +445,24 @@ fn text_from(line: &Line) -> usize
 }
 
 // Answers a line of n bytes.
-fn answer(n: usize, line: &mut Line, run: Run, plan: &mut Line) -> Run {
+fn answer<R: Print + Eprint>(
+    console: &Console<'_, R>,
+    n: usize,
+    line: &mut Line,
+    run: Run,
+    plan: &mut Line,
+) -> Run {
     if MOST_LINE < n {
-        print(b"TOO LONG\n");
+        print(console, b"TOO LONG\n");
         return run;
     }
     let from = text_from(line);
     let e = decode(line, from, n);
     if n < e {
-        say_bad();
+        say_bad(console);
         return run;
     }
-    ask(line, from, e, run, plan)
+    ask(console, line, from, e, run, plan)
 }
 
 // THE LINES OF STANDARD INPUT: they are gathered from blocks, and each is answered once it ends
@@ -425,14 +477,20 @@ fn gather(b: u8, n: usize, line: &mut Line) -> usize {
 }
 
 // Answers the lines that end in a block, and gathers what is left of it.
-fn each_byte(block: &[u8], line: &mut Line, run: Run, plan: &mut Line) -> Run {
+fn each_byte<R: Print + Eprint>(
+    console: &Console<'_, R>,
+    block: &[u8],
+    line: &mut Line,
+    run: Run,
+    plan: &mut Line,
+) -> Run {
     let mut kept = run;
     let mut i = 0;
     while i < block.len() {
         let b = block[i];
         i += 1;
         if b == b'\n' {
-            kept = answer(kept.gathered, line, kept, plan);
+            kept = answer(console, kept.gathered, line, kept, plan);
             kept.gathered = 0;
         } else {
             kept.gathered = gather(b, kept.gathered, line);
@@ -443,8 +501,9 @@ fn each_byte(block: &[u8], line: &mut Line, run: Run, plan: &mut Line) -> Run {
 
 // Reads blocks up to one that is not full. A proved loop has to end, and nothing says that an input does: the turns are counted down from a
 // number that no run uses up. The last line may have no line feed behind it.
-fn main() {
-    let mut block = io::large_buffer();
+fn main(rt: HostRuntime) -> ExitCode {
+    let console = Console::new(&rt);
+    let mut block = [0u8; 65536];
     let mut line = [0u8; 8192];
     let mut plan = [0u8; 8192];
     let mut run = Run {
@@ -456,14 +515,15 @@ fn main() {
     };
     let mut turns = u64::MAX;
     while turns > 0 {
-        let n = say::input(&mut block);
-        run = each_byte(&block[..n], &mut line, run, &mut plan);
+        let n = say::input(&console, &mut rt.stdin(), &mut block);
+        run = each_byte(&console, &block[..n], &mut line, run, &mut plan);
         turns -= 1;
         if n < 65536 {
             turns = 0;
         }
     }
     if 0 < run.gathered {
-        answer(run.gathered, &mut line, run, &mut plan);
+        answer(&console, run.gathered, &mut line, run, &mut plan);
     }
+    say::status(&console)
 }
