@@ -47,4 +47,4 @@ returns-in-Refused c =
 pub returns-in-Read : goal.returns-in-Read
 returns-in-Read c =
     let a = c.args in let told = was_opened a.strip.now a.held a.chg.now a.number _ _ (is_open (goal.at.returns-in-Read c).In-Read)
-    _ (whole_there a.strip.now a.held a.chg.now _ _ (is_open (goal.at.returns-in-Read c).In-Read) _ _ c.open_strip.ensures.1) _ c.ask_read.ensures in record { value = told.0; shows = told.1 }
+    _ (whole_there a.strip.now a.held a.chg.now _ _ (is_open (goal.at.returns-in-Read c).In-Read) _ _ c.open_strip.ensures.1) _ (c.ask_read.ensures.value, c.ask_read.ensures.shows) in record { value = told.0; shows = told.1 }

@@ -57,4 +57,4 @@ ask_texts-requires c =
 pub returns : goal.returns
 returns c =
     let a = c.args in let p = c.requires in let told = spelled_so a.t a.spelled.now a.strip.now a.chg.now a.number (change (goal.at.returns c).Else-not-is_change) (own-spelling (goal.at.returns c).Else-not-same_bytes) p.0 p.2
-    _ _ (inner_slice a.strip.now) (inner_slice a.chg.now) _ c.ask_texts.ensures in record { value = told.0; shows = told.1 }
+    _ _ (inner_slice a.strip.now) (inner_slice a.chg.now) _ (c.ask_texts.ensures.value, c.ask_texts.ensures.shows_text) in record { value = told.0; shows = told.1 }

@@ -41,4 +41,4 @@ stands-requires c =
 pub returns : goal.returns
 returns c =
     let a = c.args in let told = asked_for a.plan.now a.said.now a.number (same-flight (goal.at.returns c).After-named_bare) _ c.rank_of-k.ensures (bare-tested (goal.at.returns c).After-named_bare ∙ c.if-named_bare.false)
-    c.if-k-eq0.false _ c.stands.ensures in record { value = told.0; shows_text = told.1 }
+    c.if-k-eq0.false _ (c.stands.ensures.value, c.stands.ensures.shows_text) in record { value = told.0; shows_text = told.1 }
