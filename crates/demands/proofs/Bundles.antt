@@ -104,6 +104,8 @@ module _ (b : Standing) (o : Offer) (es : List Word) (c : Accepts updater b o es
 run_stands : (held : Strip) (cs : List Word) → contents (message_of cs) ≡ cs → (b : Standing) → b ≡ standing (message_of cs) held
     → (run : List Offer) (es : List Word) → OneByOne updater b run es → offered_all updater b run ≡ standing (message_of (replaced_by cs es)) held
 run_stands held cs q b e [] [] none_left = e
+run_stands held cs q b e [] (x ∷ es) singles = elim singles [ ]
+run_stands held cs q b e (o ∷ run) [] singles = elim singles [ ]
 run_stands held cs q b e (o ∷ run) (x ∷ es) (and_then c rest) =
     let p : contents b.strip ≡ cs = ap (λ (y : Standing). contents y.strip) e ∙ q in
     let after = ap₂ (λ (l : List Word) (h : Strip). standing (message_of (replaced l x)) h) p (ap (λ (y : Standing). y.held) e) in

@@ -5,5 +5,4 @@ use Rattle.board_numbers.proofs.held_numbers.Goals as goal
 
 pub returns-in-Flight : goal.returns-in-Flight
 returns-in-Flight c =
-    let f = c.held-1.given in
     row_laid c.in-Flight.strip.state c.in-Flight.n c.state_numbers-e.result c.state_numbers-e.ensures ∙ sym (ap held_numbers c.in-Flight.is)

@@ -12,5 +12,4 @@ returns-in-Nobody c =
 pub returns-in-By : goal.returns-in-By
 returns-in-By c =
     let firm = firm_of c.args.firm in
-    let f = c.enum_told-in-By-1.given in
     sym (ap not_board (names_firm firm c.in-By.field-0 (sym c.firm_named.ensures ∙ c.in-By.is)))

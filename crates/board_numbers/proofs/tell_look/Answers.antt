@@ -6,7 +6,6 @@ use Rattle.board_numbers.proofs.tell_look.Goals as goal
 
 pub returns-in-Stands : goal.returns-in-Stands
 returns-in-Stands c =
-    let g = c.l-1.given in
     let a = c.args in
     let laid = state_laid c.in-Stands.strip.state c.state_numbers-e.result c.state_numbers-e.ensures in
     (rw c.in-Stands.is, rw c.in-Stands.is (ap (λ (ns : List ℕ). 0 ∷ (0 ∷ (0 ∷ (ns ++ (a.from ∷ a.long ∷ []))))) laid))
