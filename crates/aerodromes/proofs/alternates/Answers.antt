@@ -1,8 +1,9 @@
-use Prim.Native.Nat.{ℕ, ◌-◌, ◌≤◌}
-use mathlib.Core.Path.{◌≡◌, refl, sym, ap, ◌∙◌}
-use lib.ListN.{length, drop}
+-- `aerodromes::alternates` meets its contract. Assumes nothing.
+use Prim.Native.Nat.{ℕ}
+use mathlib.Core.Path.{sym, ap, ◌∙◌}
+use lib.ListN.{drop}
 use Rattle.text.specs.Words.{split}
-use Rattle.aerodromes.specs.Field16.{few_aerodromes, most_alternates}
+use Rattle.aerodromes.specs.Field16.{few_aerodromes}
 use Rattle.aerodromes.proofs.Index.{few_none, few_stop, few_last, few_next}
 use borrow.Author.Rules.{rules}
 use native.Mathlib.Omega.{arith}

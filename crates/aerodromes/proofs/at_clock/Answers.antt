@@ -1,3 +1,4 @@
+-- `aerodromes::at_clock` meets its contract. Assumes nothing.
 use mathlib.Core.Path.{sym, ◌∙◌}
 use lib.Seq.{length-take-le}
 use Rattle.shape.specs.Time.{clock_hours}
@@ -5,7 +6,6 @@ use Rattle.aerodromes.proofs.Index.{joined_short, joined_stop, clock_rest}
 use native.Mathlib.Omega.{arith}
 use Rattle.aerodromes.proofs.at_clock.Goals as goal
 
--- `aerodromes::at_clock` meets its contract. Assumes nothing.
 pub returns-then-w-lt4 : goal.returns-then-w-lt4
 returns-then-w-lt4 c =
     rw (joined_short clock_hours c.args.w.now c.if-w-lt4.true)

@@ -1,3 +1,4 @@
+-- `aerodromes::at_elapsed` meets its contract. Assumes nothing.
 use mathlib.Core.Path.{sym, ◌∙◌}
 use lib.Seq.{length-take-le}
 use Rattle.shape.specs.Time.{elapsed_hours}
@@ -5,7 +6,6 @@ use Rattle.aerodromes.proofs.Index.{joined_short, joined_stop, elapsed_rest}
 use native.Mathlib.Omega.{arith}
 use Rattle.aerodromes.proofs.at_elapsed.Goals as goal
 
--- `aerodromes::at_elapsed` meets its contract. Assumes nothing.
 pub returns-then-w-lt4 : goal.returns-then-w-lt4
 returns-then-w-lt4 c =
     rw (joined_short elapsed_hours c.args.w.now c.if-w-lt4.true)

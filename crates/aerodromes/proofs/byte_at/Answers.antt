@@ -1,3 +1,4 @@
+-- `aerodromes::byte_at` meets its contract. Assumes nothing.
 use mathlib.Core.Path.{sym}
 use lib.ListN.{get_or-eq_default}
 use Rattle.aerodromes.proofs.byte_at.Goals as goal

@@ -1,3 +1,4 @@
+-- `aerodromes::fits_field13` meets its contract. Assumes nothing.
 use Rattle.shape.proofs.Times.{by_clock}
 use Rattle.aerodromes.proofs.fits_field13.Goals as goal
 

@@ -1,3 +1,4 @@
+-- `aerodromes::fits_field13_open` meets its contract. Assumes nothing.
 use mathlib.Core.Path.{sym, ◌∙◌}
 use Rattle.shape.proofs.Times.{by_clock}
 use Rattle.aerodromes.proofs.Index.{open_alone, open_joined}

@@ -1,3 +1,4 @@
+-- `aerodromes::fits_field16_entry` meets its contract. Assumes nothing.
 use mathlib.Core.Path.{sym, ap, ◌∙◌}
 use mathlib.Core.Bool.{Bool, ◌||◌}
 use Rattle.aerodromes.specs.Field16.{fits16plan}

@@ -1,3 +1,4 @@
+-- `aerodromes::four_letters` meets its contract. Assumes nothing.
 use mathlib.Core.Path.{◌≡◌}
 use lib.ListN.{length}
 use borrow.Author.Tests.{ne_eqb, eq-eqb}
@@ -5,7 +6,6 @@ use Rattle.aerodromes.specs.Aerodromes.{four_letters}
 use native.Mathlib.Omega.{arith}
 use Rattle.aerodromes.proofs.four_letters.Goals as goal
 
--- `aerodromes::four_letters` meets its contract. Assumes nothing.
 pub returns-then-w-ne4 : goal.returns-then-w-ne4
 unfolding four_letters
 returns-then-w-ne4 c =

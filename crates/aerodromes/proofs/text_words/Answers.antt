@@ -1,6 +1,6 @@
-use Prim.Native.Nat.{◌-◌, ◌≤◌}
-use mathlib.Core.Path.{◌≡◌, refl, sym, ◌∙◌}
-use Rattle.text.specs.Words.{all, split, text_word}
+-- `aerodromes::text_words` meets its contract. Assumes nothing.
+use mathlib.Core.Path.{sym, ◌∙◌}
+use Rattle.text.specs.Words.{text_word}
 use Rattle.aerodromes.proofs.Index.{each_stop, each_last, each_next}
 use borrow.Author.Rules.{rules}
 use native.Mathlib.Omega.{arith}

@@ -1,3 +1,4 @@
+-- `aerodromes_places::landed_next` meets its contract. Assumes nothing.
 use mathlib.Core.Path.{◌≡◌, sym, ap, ◌∙◌}
 use mathlib.Core.Bool.{true}
 use Rattle.alphabet.specs.Text.{bytes}

@@ -1,3 +1,4 @@
+-- `aerodromes_places::landed_place` meets its contract. Assumes nothing.
 use mathlib.Core.Path.{sym, ◌∙◌}
 use Rattle.aerodromes_places.proofs.Landed.{place_first, place_one, place_text}
 use Rattle.aerodromes_places.proofs.landed_place.Goals as goal

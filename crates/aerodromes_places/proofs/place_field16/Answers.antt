@@ -1,3 +1,4 @@
+-- `aerodromes_places::place_field16` meets its contract. Assumes nothing.
 use mathlib.Core.Path.{refl}
 use Rattle.places.proofs.Index.{fixed_short, fixed_whole}
 use Rattle.alphabet.specs.Alphabet.{letter}

@@ -1,9 +1,9 @@
-use mathlib.Core.Path.{◌≡◌, sym, ◌∙◌}
-use Prim.Native.Nat.{ℕ, ◌+◌, ◌-◌, ◌≤◌}
-use lib.ListN.{length, take, drop}
-use Rattle.text.specs.Words.{Word, split}
+use mathlib.Core.Path.{◌≡◌}
+use Prim.Native.Nat.{◌+◌, ◌-◌, ◌≤◌}
+use lib.ListN.{length, drop}
+use Rattle.text.specs.Words.{split}
 use Rattle.places.specs.Words.{words_place}
-use Rattle.aerodromes_places.specs.Places.{plan, plan_place, place16plan}
+use Rattle.aerodromes_places.specs.Places.{plan, plan_place}
 use Rattle.aerodromes_places.proofs.place_field16_plan.Given as goal
 
 abbrev pub invariant-loop-at : goal.invariant-loop-at

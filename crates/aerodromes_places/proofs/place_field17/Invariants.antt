@@ -1,9 +1,9 @@
-use Prim.Native.Nat.{ℕ, ◌+◌, ◌-◌, ◌≤◌}
-use mathlib.Core.Path.{◌≡◌, sym, ap, ◌∙◌}
-use lib.ListN.{length, take, drop}
-use Rattle.text.specs.Words.{Word, split}
+use Prim.Native.Nat.{◌+◌, ◌-◌, ◌≤◌}
+use mathlib.Core.Path.{◌≡◌}
+use lib.ListN.{length, drop}
+use Rattle.text.specs.Words.{split}
 use Rattle.places.specs.Words.{words_place}
-use Rattle.aerodromes_places.specs.Places.{landed, landed_place, place17}
+use Rattle.aerodromes_places.specs.Places.{landed, landed_place}
 use Rattle.aerodromes_places.proofs.place_field17.Given as goal
 
 abbrev pub invariant-loop-at : goal.invariant-loop-at

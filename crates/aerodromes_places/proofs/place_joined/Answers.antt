@@ -1,3 +1,4 @@
+-- `aerodromes_places::place_joined` meets its contract. Assumes nothing.
 use Rattle.places.proofs.Index.{fixed_short, fixed_whole, behind_within}
 use Rattle.alphabet.specs.Alphabet.{letter}
 use Rattle.places.specs.Parts.{time_place}

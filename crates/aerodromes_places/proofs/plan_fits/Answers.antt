@@ -1,3 +1,4 @@
+-- `aerodromes_places::plan_fits` meets its contract. Assumes nothing.
 use mathlib.Core.Path.{sym, ◌∙◌}
 use borrow.Author.Tests.{eq-eqb, ne_eqb, lt-leb, le-leb}
 use Rattle.shape.specs.Time.{elapsed_hours}

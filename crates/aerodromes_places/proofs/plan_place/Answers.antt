@@ -1,3 +1,4 @@
+-- `aerodromes_places::plan_place` meets its contract. Assumes nothing.
 use borrow.Author.Tests.{eq-eqb, ne_eqb, lt-leb, le-leb}
 use Rattle.aerodromes_places.proofs.plan_place.Goals as goal
 

@@ -1,6 +1,4 @@
-use Prim.Native.Nat.{◌-◌}
-use mathlib.Core.Path.{◌≡◌, refl, ◌∙◌}
-use mathlib.Core.Bool.{◌&&◌}
+use mathlib.Core.Path.{◌∙◌}
 use Rattle.alphabet.proofs.Blocks.{inner_next, inner_end}
 use Rattle.alphabet.proofs.all_inner.Goals as goal
 

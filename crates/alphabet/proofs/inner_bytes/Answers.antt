@@ -1,6 +1,7 @@
-use Prim.Native.Nat.{ℕ, ◌+◌, ◌-◌, ◌≤◌}
-use mathlib.Core.Path.{◌≡◌, sym, ◌∙◌}
-use lib.ListN.{length, drop}
+-- `alphabet::inner_bytes` meets its contract. Assumes nothing.
+use Prim.Native.Nat.{◌-◌}
+use mathlib.Core.Path.{sym, ◌∙◌}
+use lib.ListN.{length}
 use Rattle.alphabet.proofs.Blocks.{inner_block, inner_last, inner_rest}
 use native.Mathlib.Omega.{arith}
 use Rattle.alphabet.proofs.inner_bytes.Goals as goal

@@ -1,5 +1,5 @@
-use Prim.Native.Nat.{◌+◌, ◌-◌, ◌≤◌}
-use mathlib.Core.Path.{◌≡◌, refl, sym, ◌∙◌}
+-- `alphabet::inner_each` meets its contract. Assumes nothing.
+use mathlib.Core.Path.{refl, sym, ◌∙◌}
 use native.Mathlib.Omega.{arith}
 use Rattle.alphabet.specs.Alphabet.{inner_byte, inner_bytes}
 use Rattle.alphabet.proofs.Known.{count_stop, count_next, count_end}

@@ -1,7 +1,7 @@
 use Prim.Native.Nat.{◌+◌, ◌-◌, ◌≤◌}
-use mathlib.Core.Path.{◌≡◌, refl, sym, ◌∙◌}
+use mathlib.Core.Path.{◌≡◌}
 use lib.ListN.{length, drop}
-use Rattle.alphabet.specs.Alphabet.{inner_byte, inner_bytes}
+use Rattle.alphabet.specs.Alphabet.{inner_bytes}
 use Rattle.alphabet.proofs.inner_each.Given as goal
 
 abbrev pub invariant-loop-i : goal.invariant-loop-i

@@ -1,7 +1,7 @@
+-- `alphabet::is_octal` meets its contract. Assumes nothing.
 use Rattle.alphabet.proofs.Classes.{under, over}
 use Rattle.alphabet.proofs.is_octal.Goals as goal
 
--- `alphabet::is_octal` meets its contract. Assumes nothing.
 pub returns-then-b-lt48 : goal.returns-then-b-lt48
 returns-then-b-lt48 c =
     under 48 55 c.args.b c.if-b-lt48.true

@@ -1,3 +1,4 @@
+-- `alphabet::is_text` meets its contract. Assumes nothing.
 use borrow.Author.Rules.{rules}
 use Rattle.alphabet.proofs.Classes.{text_tests}
 use Rattle.alphabet.proofs.is_text.Goals as goal

@@ -1,9 +1,9 @@
+-- `alphabet::is_white` meets its contract. Assumes nothing.
 use borrow.Author.Tests.{ne_eqb}
 use Rattle.alphabet.specs.Alphabet.{white}
 use Rattle.alphabet.proofs.Classes.{last_test}
 use Rattle.alphabet.proofs.is_white.Goals as goal
 
--- `alphabet::is_white` meets its contract. Assumes nothing.
 pub returns-then-b-eq32 : goal.returns-then-b-eq32
 unfolding white
 returns-then-b-eq32 c =

@@ -1,7 +1,7 @@
 use Prim.Native.Nat.{◌+◌, ◌-◌, ◌≤◌}
-use mathlib.Core.Path.{◌≡◌, refl, sym, ◌∙◌}
+use mathlib.Core.Path.{◌≡◌}
 use lib.ListN.{length, drop}
-use Rattle.alphabet.specs.Alphabet.{in_alphabet, known}
+use Rattle.alphabet.specs.Alphabet.{known}
 use Rattle.alphabet.proofs.known_bytes.Given as goal
 
 abbrev pub invariant-loop-i : goal.invariant-loop-i

@@ -1,3 +1,4 @@
+-- `amending::behind` meets its contract. Assumes nothing.
 use Rattle.text.proofs.Index.{drop_end}
 use Prim.Native.Nat.{ℕ, suc}
 use mathlib.Core.Path.{sym, ap, ◌∙◌}

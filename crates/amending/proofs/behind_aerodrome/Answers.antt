@@ -1,3 +1,4 @@
+-- `amending::behind_aerodrome` meets its contract. Assumes nothing.
 use lib.ListN.{length}
 use mathlib.Core.Path.{sym, ◌∙◌}
 use Rattle.text.proofs.Index.{rest, drop_end}

@@ -1,3 +1,4 @@
+-- `amending::field` meets its contract. Assumes nothing.
 use mathlib.Core.Path.{sym, ap, ◌∙◌}
 use Rattle.text.specs.Words.{before}
 use Rattle.message.proofs.Nth.{field_at_lem}

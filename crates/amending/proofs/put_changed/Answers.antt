@@ -1,3 +1,4 @@
+-- `amending::put_changed` meets its contract. Assumes nothing.
 use Prim.Native.Nat.{ℕ}
 use mathlib.Core.Path.{◌≡◌, sym, ap}
 use mathlib.Core.Option.{Option}
@@ -9,7 +10,6 @@ use Rattle.force.proofs.Walk.{as_found}
 use Rattle.amending.proofs.put_changed.Goals.{In-At}
 use Rattle.amending.proofs.put_changed.Goals as goal
 
--- `amending::put_changed` meets its contract. Assumes nothing.
 -- the content, once it is known whether the text names the field
 given_by : (k : ℕ) (own : Word) {o v : Option Word} → o ≡ v → changed_by k v own ≡ changed_by k o own
 given_by k own e = sym (ap (λ (o : Option Word). changed_by k o own) e)

@@ -1,3 +1,4 @@
+-- `amending::put_date` meets its contract. Assumes nothing.
 use mathlib.Core.Path.{◌≡◌, sym, ap}
 use mathlib.Core.Bool.{Bool, cond}
 use lib.ListN.{length}
@@ -8,7 +9,6 @@ use Rattle.amending.specs.Amended.{dated_by}
 use Rattle.amending.proofs.Dated.{null_none, null_some}
 use Rattle.amending.proofs.put_date.Goals as goal
 
--- `amending::put_date` meets its contract. Assumes nothing.
 -- what is written, with no date and with one
 kept : (own date : Word) → length date ≡ 0 → own ≡ dated_by date own
 kept own date e = sym (ap (λ (b : Bool). cond b own (with_date date own)) (null_none date e))

@@ -1,3 +1,4 @@
+-- `amending::put_delayed` meets its contract. Assumes nothing.
 use Prim.Native.Nat.{ℕ}
 use mathlib.Core.Path.{◌≡◌, sym, ap, ap₂, ◌∙◌}
 use mathlib.Core.List.{List, ◌++◌}
@@ -13,7 +14,6 @@ use Rattle.amending.specs.Amended.{dated_by, content_in}
 use Rattle.amending.proofs.put_delayed.Goals.{After-aerodrome_of, After-date_word-date, Else-k-eq-PLAN_18}
 use Rattle.amending.proofs.put_delayed.Goals as goal
 
--- `amending::put_delayed` meets its contract. Assumes nothing.
 -- what is written, at field 13, at field 18 and at others
 retimed : (own : Word) (said : List ℕ) (k : ℕ) → k ≡ plan13 → take 4 own ++ drop 4 (field_at said brief13) ≡ content_in Delays own said k
 retimed own said k e = rw (eq-eqb k 5 e)

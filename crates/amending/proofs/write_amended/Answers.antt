@@ -1,7 +1,8 @@
-use Prim.Native.Nat.{ℕ, ◌-◌}
+-- `amending::write_amended` meets its contract. Assumes nothing.
+use Prim.Native.Nat.{◌-◌}
 use lib.ListN.{take, drop, length-set}
 use Rattle.amending.specs.Amended.{content_in}
-use Rattle.amending.proofs.Writing.{AtField, first_field, behind_field, content_to, Amending, amending_starts}
+use Rattle.amending.proofs.Writing.{first_field, behind_field, content_to, amending_starts}
 use Rattle.amending.proofs.Writing.{Turn, turn_room, turn_fits, turn_next, last_long, last_room, last_written}
 use native.Mathlib.Omega.{arith}
 use Rattle.amending.proofs.write_amended.Goals.{After-end-e}

@@ -1,5 +1,5 @@
-use Prim.Native.Nat.{ℕ, ◌-◌}
-use Rattle.amending.proofs.Writing.{AtField, first_field, behind_field, content_to, Amending, amending_starts}
+use Prim.Native.Nat.{◌-◌}
+use Rattle.amending.proofs.Writing.{AtField, Amending}
 use Rattle.amending.proofs.write_amended.Given as goal
 
 abbrev pub invariant-loop-k : goal.invariant-loop-k

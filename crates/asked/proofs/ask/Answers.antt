@@ -1,4 +1,5 @@
-use Prim.Native.Nat.{ℕ, ◌≤◌}
+-- `asked::ask` meets its contract. Assumes nothing.
+use Prim.Native.Nat.{◌≤◌}
 use mathlib.Core.Path.{◌≡◌, refl, sym, ◌∙◌}
 use native.Mathlib.Omega.{arith}
 use lib.ListN.{length, take}

@@ -1,3 +1,4 @@
+-- `asked::ask_texts` meets its contract. Assumes nothing.
 use mathlib.Core.Path.{◌≡◌, sym, ap, ◌∙◌}
 use mathlib.Core.Bool.{false}
 use Rattle.text.specs.Words.{split}

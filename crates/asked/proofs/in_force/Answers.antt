@@ -1,3 +1,4 @@
+-- `asked::in_force` meets its contract. Assumes nothing.
 use mathlib.Core.Path.{◌≡◌, refl}
 use Rattle.space.specs.Fields.{inner}
 use Rattle.force.specs.InForce.{in_force}

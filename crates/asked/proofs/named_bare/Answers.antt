@@ -1,3 +1,4 @@
+-- `asked::named_bare` meets its contract. Assumes nothing.
 use mathlib.Core.Path.{◌∙◌}
 use Rattle.force.specs.declared.Found.TheVariants.{At}
 use Rattle.force.specs.InForce.{FoundIn}

@@ -1,9 +1,9 @@
+-- `asked::rank_of` meets its contract. Assumes nothing.
 use mathlib.Core.Path.{sym, ap}
 use borrow.Author.Tests.{ne_eqb}
 use Rattle.asked.specs.Asking.{rank_of}
 use Rattle.asked.proofs.rank_of.Goals as goal
 
--- `asked::rank_of` meets its contract. Assumes nothing.
 pub returns-in-7 : goal.returns-in-7
 returns-in-7 c =
     sym (ap rank_of c.in-7.is)

@@ -1,3 +1,4 @@
+-- `asked::stands` meets its contract. Assumes nothing.
 use Rattle.force.specs.declared.Found.TheVariants.{At}
 use Rattle.force.specs.InForce.{FoundIn}
 use Rattle.force.proofs.Walk.{as_found}

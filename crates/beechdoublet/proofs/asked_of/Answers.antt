@@ -1,3 +1,4 @@
+-- `beechdoublet::asked_of` meets its contract. Assumes nothing.
 use Rattle.beechdoublet.proofs.asked_of.Goals as goal
 
 pub returns-in-Held : goal.returns-in-Held

@@ -1,3 +1,4 @@
+-- `beechdoublet::beechdoublet_cause` meets its contract. Assumes nothing.
 use Rattle.beechdoublet.proofs.beechdoublet_cause.Goals as goal
 
 pub returns : goal.returns

@@ -1,3 +1,4 @@
+-- `beechdoublet::beechdoublet_field` meets its contract. Assumes nothing.
 use Rattle.beechdoublet.proofs.beechdoublet_field.Goals as goal
 
 pub returns : goal.returns

@@ -1,3 +1,4 @@
+-- `beechdoublet::beechdoublet_in_force` meets its contract. Assumes nothing.
 use Rattle.beechdoublet.proofs.beechdoublet_in_force.Goals as goal
 
 pub returns : goal.returns

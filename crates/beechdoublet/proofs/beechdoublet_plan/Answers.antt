@@ -1,3 +1,4 @@
+-- `beechdoublet::beechdoublet_plan` meets its contract. Assumes nothing.
 use Rattle.beechdoublet.proofs.beechdoublet_plan.Goals as goal
 
 pub returns : goal.returns

@@ -1,3 +1,4 @@
+-- `beechdoublet::beechdoublet_read` meets its contract. Assumes nothing.
 use mathlib.Core.Path.{ap, ◌∙◌}
 use Rattle.beechdoublet.specs.Numbers.{read_number, read_numbers}
 use Rattle.beechdoublet.proofs.beechdoublet_read.Goals as goal

@@ -1,3 +1,4 @@
+-- `beechdoublet::beechdoublet_sound` meets its contract. Assumes nothing.
 use mathlib.Core.Path.{sym, ap, ◌∙◌}
 use Rattle.handed.specs.States.{sound_as}
 use Rattle.beechdoublet.proofs.beechdoublet_sound.Goals as goal

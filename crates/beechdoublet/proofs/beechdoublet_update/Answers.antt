@@ -1,3 +1,4 @@
+-- `beechdoublet::beechdoublet_update` meets its contract. Assumes nothing.
 use Rattle.beechdoublet.proofs.beechdoublet_update.Goals as goal
 
 pub returns : goal.returns

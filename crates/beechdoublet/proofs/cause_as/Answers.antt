@@ -1,3 +1,4 @@
+-- `beechdoublet::cause_as` meets its contract. Assumes nothing.
 use Rattle.beechdoublet.proofs.cause_as.Goals as goal
 
 pub returns-in-Held : goal.returns-in-Held

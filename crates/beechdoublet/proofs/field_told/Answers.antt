@@ -1,7 +1,7 @@
+-- `beechdoublet::field_told_lem` meets its contract. Assumes nothing.
 use borrow.Author.Tests.{le-ltb, lt-ltb, ne_eqb, eq-eqb}
 use Rattle.beechdoublet.proofs.field_told.Goals as goal
 
--- `beechdoublet::field_told_lem` meets its contract. Assumes nothing.
 pub returns-then-asked-le255 : goal.returns-then-asked-le255
 returns-then-asked-le255 c =
     rw (le-ltb 255 _ c.if-asked-le255.true)

@@ -1,3 +1,4 @@
+-- `beechdoublet::parts_numbers` meets its contract. Assumes nothing.
 use Rattle.beechdoublet.proofs.Steps.{date_laid}
 use Rattle.beechdoublet.proofs.parts_numbers.Goals as goal
 

@@ -1,3 +1,4 @@
+-- `beechdoublet::set_numbers` meets its contract. Assumes nothing.
 use Rattle.beechdoublet.proofs.set_numbers.Goals as goal
 
 pub returns : goal.returns

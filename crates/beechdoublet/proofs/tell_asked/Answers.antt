@@ -1,3 +1,4 @@
+-- `beechdoublet::tell_asked` meets its contract. Assumes nothing.
 use Rattle.beechdoublet.proofs.tell_asked.Goals as goal
 
 pub returns-in-InStrip : goal.returns-in-InStrip

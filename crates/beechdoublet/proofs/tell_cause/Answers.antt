@@ -1,3 +1,4 @@
+-- `beechdoublet::tell_cause` meets its contract. Assumes nothing.
 use Rattle.beechdoublet.proofs.tell_cause.Goals as goal
 
 pub returns-in-Another : goal.returns-in-Another

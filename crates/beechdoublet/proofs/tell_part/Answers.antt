@@ -1,3 +1,4 @@
+-- `beechdoublet::tell_part` meets its contract. Assumes nothing.
 use Rattle.beechdoublet.proofs.tell_part.Goals as goal
 
 pub returns-in-At : goal.returns-in-At

@@ -1,3 +1,4 @@
+-- `beechdoublet::tell_plan` meets its contract. Assumes nothing.
 use Rattle.beechdoublet.proofs.tell_plan.Goals as goal
 
 pub returns-in-Parts : goal.returns-in-Parts

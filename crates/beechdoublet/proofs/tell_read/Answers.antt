@@ -1,3 +1,4 @@
+-- `beechdoublet::tell_read` meets its contract. Assumes nothing.
 use Rattle.beechdoublet.proofs.tell_read.Goals as goal
 
 pub returns-in-Accepted : goal.returns-in-Accepted

@@ -1,3 +1,4 @@
+-- `beechdoublet::tell_update` meets its contract. Assumes nothing.
 use Rattle.beechdoublet.proofs.tell_update.Goals as goal
 
 pub returns-in-Accepted : goal.returns-in-Accepted

@@ -1,3 +1,4 @@
+-- `beechdoublet::updated` meets its contract. Assumes nothing.
 use Rattle.beechdoublet.proofs.updated.Goals as goal
 
 pub returns-in-Held : goal.returns-in-Held

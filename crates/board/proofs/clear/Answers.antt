@@ -1,3 +1,4 @@
+-- `board::clear` meets its contract. Assumes nothing.
 use mathlib.Core.Path.{sym, ◌∙◌}
 use Rattle.rooms.specs.Rooms.Act.{clear}
 use Rattle.rooms.proofs.Firms.{names_firm, names_nobody}

@@ -1,3 +1,4 @@
+-- `board::clear_for` meets its contract. Assumes nothing.
 use Prim.Native.Nat.{◌<◌}
 use mathlib.Core.Path.{refl, sym, ◌∙◌}
 use Rattle.racks.proofs.Slots.{flight_inside}

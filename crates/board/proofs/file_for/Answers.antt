@@ -1,4 +1,5 @@
-use Prim.Native.Nat.{ℕ, ◌≤◌, ◌<◌}
+-- `board::file_for` meets its contract. Assumes nothing.
+use Prim.Native.Nat.{◌≤◌, ◌<◌}
 use mathlib.Core.Path.{◌≡◌, refl, sym, ◌∙◌}
 use mathlib.Core.Bool.{true}
 use native.Mathlib.Omega.{arith}

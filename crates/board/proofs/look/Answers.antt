@@ -1,3 +1,4 @@
+-- `board::look` meets its contract. Assumes nothing.
 use mathlib.Core.Path.{sym, ap, ◌∙◌}
 use mathlib.Core.Option.{Option}
 use Rattle.rooms.specs.declared.Firm.{Firm}

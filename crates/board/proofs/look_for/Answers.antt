@@ -1,3 +1,4 @@
+-- `board::look_for` meets its contract. Assumes nothing.
 use mathlib.Core.Path.{sym, ap, ◌∙◌}
 use Rattle.board.specs.Turns.{looked_as}
 use Rattle.board.proofs.look_for.Goals as goal

@@ -1,3 +1,4 @@
+-- `board::strip_of` meets its contract. Assumes nothing.
 use mathlib.Core.Path.{sym, ap, ◌∙◌}
 use mathlib.Core.Option.{Option}
 use Rattle.rooms.specs.declared.Firm.{Firm}

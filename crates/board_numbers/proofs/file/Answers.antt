@@ -1,3 +1,4 @@
+-- `board_numbers::file` meets its contract. Assumes nothing.
 use mathlib.Core.Path.{◌≡◌, sym, ◌∙◌}
 use borrow.Author.Tests.{not-true, not-false}
 use Rattle.handed.specs.States.{byte_of}

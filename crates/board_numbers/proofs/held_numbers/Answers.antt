@@ -1,3 +1,4 @@
+-- `board_numbers::held_numbers` meets its contract. Assumes nothing.
 use mathlib.Core.Path.{sym, ap, ◌∙◌}
 use Rattle.board_numbers.specs.Numbers.{held_numbers}
 use Rattle.board_numbers.proofs.Rows.{row_laid}

@@ -1,3 +1,4 @@
+-- `board_numbers::held_of` meets its contract. Assumes nothing.
 use Rattle.board_numbers.proofs.Rows.{none_held, one_held}
 use Rattle.board_numbers.proofs.held_of.Goals as goal
 

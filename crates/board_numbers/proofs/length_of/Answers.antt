@@ -1,7 +1,7 @@
+-- `board_numbers::length_of` meets its contract. Assumes nothing.
 use borrow.Author.Tests.{lt-ltb, le-ltb}
 use Rattle.board_numbers.proofs.length_of.Goals as goal
 
--- `board_numbers::length_of` meets its contract. Assumes nothing.
 pub returns-then-n-lt1801 : goal.returns-then-n-lt1801
 returns-then-n-lt1801 c =
     rw (lt-ltb c.args.n 1801 c.if-n-lt1801.true)

@@ -1,3 +1,4 @@
+-- `board_numbers::look` meets its contract. Assumes nothing.
 use mathlib.Core.Path.{◌≡◌, sym, ◌∙◌}
 use Rattle.handed.specs.States.{byte_of}
 use borrow.Author.Tests.{not-true, not-false}

@@ -1,3 +1,4 @@
+-- `board_numbers::not_board` meets its contract. Assumes nothing.
 use Rattle.rooms.specs.Rooms.{firm_of}
 use mathlib.Core.Path.{sym, ap, ◌∙◌}
 use Rattle.rooms.proofs.Firms.{names_firm, names_nobody}

@@ -1,3 +1,4 @@
+-- `board_numbers::not_board_look` meets its contract. Assumes nothing.
 use Rattle.rooms.specs.Rooms.{firm_of}
 use mathlib.Core.Path.{sym, ap, ◌∙◌}
 use Rattle.rooms.proofs.Firms.{names_nobody, names_firm}

@@ -1,9 +1,10 @@
+-- `board_numbers::places_of` meets its contract. Assumes nothing.
 use Rattle.text.proofs.Index.{rest}
 use Rattle.board_numbers.proofs.Rows.{ahead, ahead_first, ahead_next, place_put, all_read}
-use Prim.Native.Nat.{◌+◌, ◌*◌, ◌-◌, ◌≤◌}
+use Prim.Native.Nat.{◌+◌, ◌*◌}
 use mathlib.Core.Path.{◌≡◌, refl, sym, ap, ◌∙◌}
 use mathlib.Core.List.{List, ◌∷◌, ◌++◌}
-use lib.ListN.{length, take, length-set}
+use lib.ListN.{take, length-set}
 use Rattle.racks.specs.declared.Held.{Held}
 use Rattle.racks.specs.declared.Place.{Place}
 use Rattle.board_numbers.specs.Numbers.{held_of, board_of}

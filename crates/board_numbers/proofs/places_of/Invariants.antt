@@ -1,9 +1,9 @@
-use Rattle.board_numbers.proofs.Rows.{ahead, ahead_first, ahead_next, place_put, all_read}
-use Prim.Native.Nat.{◌+◌, ◌*◌, ◌-◌, ◌≤◌}
-use mathlib.Core.Path.{◌≡◌, refl, sym, ap, ◌∙◌}
-use mathlib.Core.List.{List, ◌∷◌, ◌++◌}
-use lib.ListN.{length, take, length-set}
-use Rattle.board_numbers.specs.Numbers.{held_of, board_of}
+use Rattle.board_numbers.proofs.Rows.{ahead}
+use Prim.Native.Nat.{◌-◌, ◌≤◌}
+use mathlib.Core.Path.{◌≡◌}
+use mathlib.Core.List.{◌++◌}
+use lib.ListN.{length, take}
+use Rattle.board_numbers.specs.Numbers.{board_of}
 use Rattle.board_numbers.proofs.places_of.Given as goal
 
 abbrev pub invariant-loop-i : goal.invariant-loop-i

@@ -1,10 +1,11 @@
+-- `board_numbers::put_places` meets its contract. Assumes nothing.
 use Rattle.text.proofs.Index.{rest}
-use Prim.Native.Nat.{◌*◌, ◌-◌, ◌≤◌}
+use Prim.Native.Nat.{◌*◌}
 use mathlib.Core.Path.{◌≡◌, refl, sym, ap, ◌∙◌}
 use lib.ListN.{length, length-drop}
 use Rattle.racks.specs.Places.{held_at}
 use Rattle.board_numbers.specs.Numbers.{held_numbers}
-use Rattle.board_numbers.proofs.Rows.{so_far, row_long, row_written, written_long, all_written}
+use Rattle.board_numbers.proofs.Rows.{row_long, row_written, written_long, all_written}
 use native.Mathlib.Omega.{arith}
 use Rattle.board_numbers.proofs.put_places.Goals.{After-held_numbers-row}
 use Rattle.board_numbers.proofs.put_places.Goals as goal

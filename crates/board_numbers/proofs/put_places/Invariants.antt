@@ -1,7 +1,7 @@
 use Prim.Native.Nat.{◌*◌, ◌-◌, ◌≤◌}
-use mathlib.Core.Path.{◌≡◌, refl, sym, ap, ◌∙◌}
-use lib.ListN.{length, length-drop}
-use Rattle.board_numbers.proofs.Rows.{so_far, row_long, row_written, written_long, all_written}
+use mathlib.Core.Path.{◌≡◌}
+use lib.ListN.{length}
+use Rattle.board_numbers.proofs.Rows.{so_far}
 use Rattle.board_numbers.proofs.put_places.Given as goal
 
 abbrev pub invariant-loop-i : goal.invariant-loop-i

@@ -1,7 +1,8 @@
-use Prim.Native.Nat.{◌+◌, ◌-◌, ◌≤◌, ◌<◌}
-use mathlib.Core.Path.{◌≡◌, refl, ◌∙◌}
-use mathlib.Core.List.{[], ◌∷◌, ◌++◌}
-use lib.ListN.{length, get_or, take, drop, length-set}
+-- `board_numbers::put_row` meets its contract. Assumes nothing.
+use Prim.Native.Nat.{◌+◌, ◌<◌}
+use mathlib.Core.Path.{◌≡◌, ◌∙◌}
+use mathlib.Core.List.{[], ◌∷◌}
+use lib.ListN.{length, get_or, drop, length-set}
 use Rattle.text.proofs.Index.{drop_here}
 use Rattle.text.proofs.Lent.{store, next_out, whole_out}
 use native.Mathlib.Omega.{arith}

@@ -1,3 +1,4 @@
+-- `board_numbers::start_of` meets its contract. Assumes nothing.
 use Rattle.rooms.specs.Rooms.{firm_of}
 use Rattle.rooms.specs.declared.Firm.TheVariants.{First, Second}
 use Rattle.board_numbers.proofs.Steps.{start_none, start_past, start_here}

@@ -1,3 +1,4 @@
+-- `board_numbers::tell` meets its contract. Assumes nothing.
 use Rattle.board_numbers.proofs.tell.Goals as goal
 
 pub returns-in-Filed : goal.returns-in-Filed

@@ -1,3 +1,4 @@
+-- `calls::ask_in` meets its contract. Assumes nothing.
 use mathlib.Core.Path.{sym, ◌∙◌}
 use Rattle.calls.proofs.Lines.{no_firm_lem, with_firm}
 use Rattle.calls.proofs.ask_in.Goals as goal

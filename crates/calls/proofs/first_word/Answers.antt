@@ -1,3 +1,4 @@
+-- `calls::first_word` meets its contract. Assumes nothing.
 use mathlib.Core.Path.{sym}
 use lib.Seq.{length-take-le}
 use Rattle.calls.proofs.Lines.{first_is}

@@ -1,3 +1,4 @@
+-- `calls::has_more` meets its contract. Assumes nothing.
 use Rattle.calls.proofs.Lines.{holds_is}
 use Rattle.calls.proofs.has_more.Goals as goal
 

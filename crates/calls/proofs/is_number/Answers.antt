@@ -1,8 +1,8 @@
+-- `calls::is_number` meets its contract. Assumes nothing.
 use mathlib.Core.Path.{◌∙◌}
 use Rattle.calls.proofs.Lines.{no_number, all_digits}
 use Rattle.calls.proofs.is_number.Goals as goal
 
--- `calls::is_number` meets its contract. Assumes nothing.
 pub returns-then-w-lt1 : goal.returns-then-w-lt1
 returns-then-w-lt1 c =
     no_number c.args.w.now c.if-w-lt1.true

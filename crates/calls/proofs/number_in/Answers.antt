@@ -1,7 +1,7 @@
+-- `calls::number_in` meets its contract. Assumes nothing.
 use Rattle.calls.proofs.Lines.{many_digits, low_digit, one_digit}
 use Rattle.calls.proofs.number_in.Goals as goal
 
--- `calls::number_in` meets its contract. Assumes nothing.
 pub returns-then-w-ne1 : goal.returns-then-w-ne1
 returns-then-w-ne1 c =
     many_digits c.args.w.now c.if-w-ne1.true

@@ -1,3 +1,4 @@
+-- `calls::place_as` meets its contract. Assumes nothing.
 use mathlib.Core.Path.{◌≡◌, sym, ◌∙◌}
 use mathlib.Core.Bool.{false}
 use Rattle.alphabet.specs.Text.{bytes}

@@ -1,3 +1,4 @@
+-- `calls::rest_of` meets its contract. Assumes nothing.
 use Rattle.calls.proofs.Lines.{none_behind, rest_behind}
 use Rattle.calls.proofs.rest_of.Goals as goal
 

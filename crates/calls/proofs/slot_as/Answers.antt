@@ -1,3 +1,4 @@
+-- `calls::slot_as` meets its contract. Assumes nothing.
 use mathlib.Core.Path.{sym, ◌∙◌}
 use Rattle.calls.proofs.Lines.{no_slot, with_slot}
 use Rattle.calls.proofs.slot_as.Goals as goal

@@ -1,3 +1,4 @@
+-- `calls::verb_as` meets its contract. Assumes nothing.
 use mathlib.Core.Path.{sym, ◌∙◌}
 use Rattle.calls.proofs.Lines.{files, file_bare, list_more, lists, names_slot}
 use Rattle.calls.proofs.verb_as.Goals as goal

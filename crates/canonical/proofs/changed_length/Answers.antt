@@ -1,3 +1,4 @@
+-- `canonical::changed_length` meets its contract. Assumes nothing.
 use mathlib.Core.Path.{sym, ap, ◌∙◌}
 use lib.ListN.{length}
 use Rattle.canonical.proofs.Steps.{stripped_length, changed_letters, changed_count, changed_not}

@@ -1,3 +1,4 @@
+-- `canonical::followed_as` meets its contract. Assumes nothing.
 use mathlib.Core.Path.{refl, sym, ap, ◌∙◌}
 use mathlib.Core.Bool.{true, ◌||◌}
 use mathlib.Core.List.{[], ◌∷◌}

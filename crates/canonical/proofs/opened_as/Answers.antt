@@ -1,7 +1,8 @@
+-- `canonical::opened_as` meets its contract. Assumes nothing.
 use Prim.Native.Nat.{ℕ}
 use mathlib.Core.Bool.{Bool, cond}
 use mathlib.Core.Path.{◌≡◌, refl, ap, ◌∙◌}
-use Rattle.text.specs.Words.{Word, text_word}
+use Rattle.text.specs.Words.{text_word}
 use Rattle.shape.specs.Time.{elapsed_fits}
 use Rattle.supplement.specs.declared.Stage.{Stage}
 use Rattle.supplement.specs.declared.Stage.TheVariants.{Endurance, Persons, Radio, Survival, Lights, Aircraft, Remarks, Pilot, Refused}

@@ -1,3 +1,4 @@
+-- `canonical::put_changed` meets its contract. Assumes nothing.
 use mathlib.Core.Path.{◌≡◌, sym}
 use Rattle.canonical.specs.Canonical.{sorted}
 use Rattle.canonical.specs.Rewriting.{letters, stripped, changed}

@@ -1,9 +1,10 @@
-use Prim.Native.Nat.{ℕ, ◌+◌, ◌-◌, ◌≤◌}
+-- `canonical::put_sorted` meets its contract. Assumes nothing.
+use Prim.Native.Nat.{ℕ, ◌+◌}
 use mathlib.Core.Bool.{true}
 use mathlib.Core.List.{List, [], ◌∷◌}
 use mathlib.Core.Path.{◌≡◌, refl, sym, ap, ◌∙◌}
 use native.Mathlib.Omega.{arith}
-use lib.ListN.{length, get_or, drop, length-set}
+use lib.ListN.{get_or, drop, length-set}
 use Rattle.text.proofs.Lent.{store, Writing, begin, due, room, onward, all_written}
 use Rattle.text.proofs.Index.{drop_end}
 use Rattle.canonical.specs.Canonical.{sorted}

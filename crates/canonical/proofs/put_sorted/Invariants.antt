@@ -1,8 +1,7 @@
-use Prim.Native.Nat.{ℕ, ◌+◌, ◌-◌, ◌≤◌}
-use mathlib.Core.List.{List, [], ◌∷◌}
-use mathlib.Core.Path.{◌≡◌, refl, sym, ap, ◌∙◌}
-use lib.ListN.{length, get_or, drop, length-set}
-use Rattle.text.proofs.Lent.{store, Writing, begin, due, room, onward, all_written}
+use Prim.Native.Nat.{◌-◌, ◌≤◌}
+use mathlib.Core.Path.{◌≡◌}
+use lib.ListN.{length, drop}
+use Rattle.text.proofs.Lent.{Writing}
 use Rattle.canonical.specs.Canonical.{sorted}
 use Rattle.canonical.proofs.put_sorted.Given as goal
 

@@ -1,3 +1,4 @@
+-- `canonical::put_stripped` meets its contract. Assumes nothing.
 use mathlib.Core.Path.{sym, ◌∙◌}
 use Rattle.text.proofs.Index.{rest}
 use Rattle.canonical.proofs.Turns.{put_same, room_same}

@@ -1,12 +1,11 @@
-use Prim.Native.Nat.{ℕ, ◌+◌, ◌-◌, ◌≤◌, ◌<◌}
-use mathlib.Core.Path.{◌≡◌, refl, sym, ap, ◌∙◌}
+use Prim.Native.Nat.{◌-◌, ◌≤◌}
+use mathlib.Core.Path.{◌≡◌}
 use mathlib.Core.Bool.{true}
-use mathlib.Core.List.{List, [], ◌∷◌, ◌++◌, append-nil}
-use lib.ListN.{length, take, drop, length-set, length-drop}
-use Rattle.text.proofs.Lent.{lent, store, Writing, begin, due, room, onward, all_written}
-use Rattle.text.specs.Words.{split, join, after}
-use Rattle.supplement.specs.Walk.{step, walked}
-use Rattle.canonical.specs.Rewriting.{rewrite, rewritten, rewritten_text, settled}
+use lib.ListN.{length, drop}
+use Rattle.text.proofs.Lent.{Writing}
+use Rattle.text.specs.Words.{split, join}
+use Rattle.supplement.specs.Walk.{walked}
+use Rattle.canonical.specs.Rewriting.{rewritten, rewritten_text}
 use Rattle.canonical.proofs.put_words.Given as goal
 
 abbrev pub invariant-loop-w : goal.invariant-loop-w

@@ -1,3 +1,4 @@
+-- `canonical::read_as_lem` meets its contract. Assumes nothing.
 use Prim.Native.Nat.{◌-◌, ◌<◌}
 use mathlib.Core.Bool.{true}
 use mathlib.Core.Path.{◌≡◌, sym, ap, ◌∙◌}
@@ -12,7 +13,6 @@ use Rattle.canonical.proofs.Fitting.{key_first}
 use Rattle.canonical.proofs.read_as.Goals.{Else-not-has_key, Then-not-has_key}
 use Rattle.canonical.proofs.read_as.Goals as goal
 
--- `canonical::read_as_lem` meets its contract. Assumes nothing.
 -- a further word
 plain : (c : Then-not-has_key) → let a = c.args in step a.stage a.w.now ≡ further a.stage a.w.now
 plain c =

@@ -1,3 +1,4 @@
+-- `canonical::spelled_length` meets its contract. Assumes nothing.
 use mathlib.Core.Path.{sym, ap, ◌∙◌}
 use lib.ListN.{length}
 use Rattle.canonical.proofs.Written.{written_other}

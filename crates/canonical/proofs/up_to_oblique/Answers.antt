@@ -1,3 +1,4 @@
+-- `canonical::up_to_oblique` meets its contract. Assumes nothing.
 use native.Mathlib.Omega.{arith}
 use Rattle.canonical.proofs.Steps.{oblique_none, oblique_some}
 use Rattle.canonical.proofs.up_to_oblique.Goals as goal

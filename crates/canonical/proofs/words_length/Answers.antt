@@ -1,9 +1,10 @@
-use Prim.Native.Nat.{◌+◌, ◌-◌, ◌≤◌}
-use mathlib.Core.Path.{◌≡◌, ap}
+-- `canonical::words_length` meets its contract. Assumes nothing.
+use Prim.Native.Nat.{◌-◌}
+use mathlib.Core.Path.{ap}
 use native.Mathlib.Omega.{arith}
 use lib.ListN.{length, drop, length-append, length-drop}
 use lib.Seq.{length-take-le}
-use Rattle.canonical.specs.Rewriting.{rewritten, rewritten_text}
+use Rattle.canonical.specs.Rewriting.{rewritten_text}
 use Rattle.canonical.proofs.Words.{text_last, text_next}
 use Rattle.canonical.proofs.words_length.Goals as goal
 

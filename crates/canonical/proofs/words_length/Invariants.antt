@@ -1,6 +1,6 @@
 use Prim.Native.Nat.{◌+◌, ◌-◌, ◌≤◌}
-use mathlib.Core.Path.{◌≡◌, ap}
-use lib.ListN.{length, drop, length-append, length-drop}
+use mathlib.Core.Path.{◌≡◌}
+use lib.ListN.{length, drop}
 use Rattle.text.specs.Words.{split, join}
 use Rattle.canonical.specs.Rewriting.{rewritten, rewritten_text}
 use Rattle.canonical.proofs.words_length.Given as goal

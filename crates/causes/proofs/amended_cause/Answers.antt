@@ -1,9 +1,10 @@
+-- `causes::amended_cause` meets its contract. Assumes nothing.
 use Prim.Native.Nat.{ℕ, ◌-◌, ◌≤◌}
 use mathlib.Core.Path.{◌≡◌, ap, ◌∙◌}
 use mathlib.Core.List.{List}
 use native.Mathlib.Omega.{arith}
 use lib.ListN.{length, take, drop}
-use Rattle.text.specs.Words.{Word, split}
+use Rattle.text.specs.Words.{split}
 use Rattle.message.specs.Reading.{unexplained_in}
 use Rattle.opening.proofs.Steps.{front_text}
 use Rattle.amending.specs.Amended.{amended, new_strip}

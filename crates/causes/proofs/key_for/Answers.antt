@@ -1,7 +1,8 @@
+-- `causes::key_for` meets its contract. Assumes nothing.
 use mathlib.Core.Path.{◌≡◌, sym, ap₂, ◌∙◌}
-use mathlib.Core.List.{List, []}
+use mathlib.Core.List.{[]}
 use lib.ListN.{get_or}
-use Rattle.text.specs.Words.{Word, split}
+use Rattle.text.specs.Words.{split}
 use Rattle.kinds.specs.Kinds.{plan16, plan18}
 use Rattle.plan.specs.Unexplained.{without_dest}
 use Rattle.causes.proofs.Steps.{of_type, of_departure, of_destination, of_alternate}

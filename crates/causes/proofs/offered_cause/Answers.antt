@@ -1,3 +1,4 @@
+-- `causes::offered_cause` meets its contract. Assumes nothing.
 use mathlib.Core.Path.{◌≡◌, sym, ◌∙◌}
 use Rattle.text.specs.Words.{split}
 use Rattle.strip.specs.declared.Offered.TheVariants.{Says}

@@ -1,5 +1,5 @@
-use Prim.Native.Nat.{◌+◌, ◌-◌, ◌≤◌}
-use mathlib.Core.Path.{◌≡◌, sym, ◌∙◌}
+-- `code_places::codes_place_by` meets its contract. Assumes nothing.
+use mathlib.Core.Path.{sym, ◌∙◌}
 use lib.Seq.{length-take-le}
 use Rattle.text.specs.Words.{cells}
 use Rattle.places.proofs.Index.{passes_stop, passes_next, passes_end}

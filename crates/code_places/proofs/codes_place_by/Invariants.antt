@@ -1,10 +1,10 @@
 use Prim.Native.Nat.{◌+◌, ◌-◌, ◌≤◌}
-use mathlib.Core.Path.{◌≡◌, sym, ◌∙◌}
+use mathlib.Core.Path.{◌≡◌}
 use mathlib.Core.List.{[]}
 use lib.ListN.{length, take, drop}
 use Rattle.text.specs.Words.{cells}
 use Rattle.places.specs.Parts.{passes}
-use Rattle.code_places.specs.Codes.{goes_on, codes_place}
+use Rattle.code_places.specs.Codes.{goes_on}
 use Rattle.code_places.proofs.codes_place_by.Given as goal
 
 abbrev pub invariant-loop-i : goal.invariant-loop-i

@@ -1,9 +1,9 @@
+-- `code_places::goes_on_lem` meets its contract. Assumes nothing.
 use mathlib.Core.Path.{sym, ◌∙◌}
 use Rattle.text.specs.Words.{cells}
 use Rattle.code_places.proofs.Index.{go_none, go_fits, go_digit}
 use Rattle.code_places.proofs.goes_on.Goals as goal
 
--- `code_places::goes_on_lem` meets its contract. Assumes nothing.
 pub returns-then-p-eq0 : goal.returns-then-p-eq0
 returns-then-p-eq0 c =
     let a = c.args in go_none (cells 2 a.list.now) a.most a.p.now c.if-p-eq0.true

@@ -1,7 +1,7 @@
+-- `code_places::some_codes` meets its contract. Assumes nothing.
 use borrow.Author.Tests.{le-leb, lt-leb}
 use Rattle.code_places.proofs.some_codes.Goals as goal
 
--- `code_places::some_codes` meets its contract. Assumes nothing.
 pub returns-then-s-lt1 : goal.returns-then-s-lt1
 returns-then-s-lt1 c =
     rw (lt-leb _ _ c.if-s-lt1.true)

@@ -1,13 +1,12 @@
+-- `code_places::with_byte` meets its contract. Assumes nothing.
 use mathlib.Core.Path.{sym, ap, ◌∙◌}
 use lib.ListN.{length-set}
-use lib.Seq.{length-take-le}
 use Rattle.text.specs.Words.{cells}
 use Rattle.code_places.specs.Codes.{some_codes}
 use Rattle.code_places.proofs.Index.{over, held}
 use native.Mathlib.Omega.{arith}
 use Rattle.code_places.proofs.with_byte.Goals as goal
 
--- `code_places::with_byte` meets its contract. Assumes nothing.
 pub returns-then-most-p : goal.returns-then-most-p
 returns-then-most-p c =
     let a = c.args in

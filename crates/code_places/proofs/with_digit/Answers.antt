@@ -1,7 +1,7 @@
-use Prim.Native.Nat.{◌-◌, ◌≤◌}
-use mathlib.Core.Path.{◌≡◌, refl, sym, ◌∙◌}
+-- `code_places::with_digit` meets its contract. Assumes nothing.
+use mathlib.Core.Path.{sym, ◌∙◌}
 use Rattle.text.specs.Words.{cells}
-use Rattle.code_places.specs.Codes.{some_codes, with_digit}
+use Rattle.code_places.specs.Codes.{some_codes}
 use Rattle.code_places.proofs.Index.{digit_here, digit_next, digit_end}
 use borrow.Author.Rules.{rules}
 use Rattle.code_places.proofs.with_digit.Goals as goal

@@ -1,9 +1,10 @@
-use Prim.Native.Nat.{ℕ, ◌+◌, ◌-◌, ◌*◌, ◌<◌, ◌≤◌}
+-- `codes::cell_behind` meets its contract. Assumes nothing.
+use Prim.Native.Nat.{◌+◌, ◌*◌, ◌<◌}
 use mathlib.Core.Path.{◌≡◌, refl, sym, ap, ◌∙◌}
 use mathlib.Core.Bool.{false}
-use mathlib.Core.List.{List, [], ◌∷◌}
+use mathlib.Core.List.{[], ◌∷◌}
 use lib.ListN.{length, drop, get_or}
-use Rattle.text.specs.Words.{Word, before, same, rank_from, cells}
+use Rattle.text.specs.Words.{before, same, rank_from, cells}
 use Rattle.codes.proofs.Pairs.{pairs, cells_pairs, here, further, nowhere, cell_other, cell_half, cell_same}
 use borrow.Author.Rules.{rules}
 use Rattle.codes.proofs.cell_behind.Goals.{After-shared_slice_known-in-loop-at-1}

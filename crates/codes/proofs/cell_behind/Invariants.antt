@@ -1,9 +1,9 @@
-use Prim.Native.Nat.{ℕ, ◌+◌, ◌-◌, ◌*◌, ◌<◌, ◌≤◌}
-use mathlib.Core.Path.{◌≡◌, refl, sym, ap, ◌∙◌}
-use mathlib.Core.List.{List, [], ◌∷◌}
-use lib.ListN.{length, drop, get_or}
-use Rattle.text.specs.Words.{Word, before, same, rank_from, cells}
-use Rattle.codes.proofs.Pairs.{pairs, cells_pairs, here, further, nowhere, cell_other, cell_half, cell_same}
+use Prim.Native.Nat.{◌+◌, ◌-◌, ◌*◌, ◌≤◌}
+use mathlib.Core.Path.{◌≡◌}
+use mathlib.Core.List.{[], ◌∷◌}
+use lib.ListN.{length, drop}
+use Rattle.text.specs.Words.{before, rank_from, cells}
+use Rattle.codes.proofs.Pairs.{pairs}
 use Rattle.codes.proofs.cell_behind.Given as goal
 
 abbrev pub invariant-loop-at : goal.invariant-loop-at

@@ -1,3 +1,4 @@
+-- `codes::code_at` meets its contract. Assumes nothing.
 use mathlib.Core.Path.{sym, ◌∙◌}
 use Rattle.codes.proofs.Laws.{code_last, code_one, code_two, no_digit, its_digit}
 use borrow.Author.Rules.{rules}

@@ -1,7 +1,7 @@
-use Prim.Native.Nat.{◌-◌, ◌≤◌}
-use mathlib.Core.Path.{◌≡◌, refl, sym, ◌∙◌}
+-- `codes::codes_fit_by` meets its contract. Assumes nothing.
+use mathlib.Core.Path.{refl, sym, ◌∙◌}
 use native.Mathlib.Omega.{arith}
-use lib.ListN.{length, drop, length-set}
+use lib.ListN.{drop, length-set}
 use Rattle.text.proofs.Index.{drop_end}
 use Rattle.codes.proofs.Pairs.{code_alone}
 use Rattle.codes.proofs.Marks.{rest, rest_starts, not_listed, seen_before, marked, comes_again, comes_once}

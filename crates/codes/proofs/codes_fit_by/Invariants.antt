@@ -1,9 +1,9 @@
 use Prim.Native.Nat.{◌-◌, ◌≤◌}
-use mathlib.Core.Path.{◌≡◌, refl, sym, ◌∙◌}
-use lib.ListN.{length, drop, length-set}
+use mathlib.Core.Path.{◌≡◌}
+use lib.ListN.{length, drop}
 use Rattle.text.specs.Words.{cells}
 use Rattle.codes.specs.Codes.{codes, codes_fit}
-use Rattle.codes.proofs.Marks.{rest, rest_starts, not_listed, seen_before, marked, comes_again, comes_once}
+use Rattle.codes.proofs.Marks.{rest}
 use Rattle.codes.proofs.codes_fit_by.Given as goal
 
 abbrev pub invariant-loop-at : goal.invariant-loop-at

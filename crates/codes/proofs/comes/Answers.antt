@@ -1,5 +1,5 @@
-use Prim.Native.Nat.{◌-◌, ◌≤◌}
-use mathlib.Core.Path.{◌≡◌, refl, sym, ◌∙◌}
+-- `codes::comes` meets its contract. Assumes nothing.
+use mathlib.Core.Path.{sym, ◌∙◌}
 use Rattle.text.proofs.Index.{drop_end}
 use borrow.Author.Rules.{rules}
 use Rattle.codes.proofs.comes.Goals as goal

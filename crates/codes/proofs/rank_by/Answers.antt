@@ -1,4 +1,5 @@
-use Prim.Native.Nat.{ℕ, ◌≤◌}
+-- `codes::rank_by` meets its contract. Assumes nothing.
+use Prim.Native.Nat.{◌≤◌}
 use mathlib.Core.Path.{◌≡◌, refl, sym, ◌∙◌}
 use mathlib.Core.Bool.{true}
 use native.Mathlib.Omega.{arith}

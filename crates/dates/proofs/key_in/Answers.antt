@@ -1,3 +1,4 @@
+-- `dates::key_in` meets its contract. Assumes nothing.
 use mathlib.Core.Path.{◌≡◌, sym}
 use mathlib.Core.List.{[]}
 use Prim.Native.Nat.{ℕ, ◌+◌, ◌≤◌}
@@ -8,7 +9,6 @@ use Rattle.text.proofs.Index.{found, found_none, found_before}
 use Rattle.dates.specs.Dates.{key_in}
 use Rattle.dates.proofs.key_in.Goals as goal
 
--- `dates::key_in` meets its contract. Assumes nothing.
 no_key : (w : Word) (o : ℕ) → o ≡ 0 + up_to 47 w → o ≡ length w → [] ≡ key_in w
 no_key w o end e = rw (found_none 47 w o end e)
 

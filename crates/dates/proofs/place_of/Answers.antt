@@ -1,11 +1,12 @@
-use Prim.Native.Nat.{ℕ, ◌-◌}
-use mathlib.Core.Path.{◌≡◌, refl, sym, ap, ◌∙◌}
+-- `dates::place_of` meets its contract. Assumes nothing.
+use Prim.Native.Nat.{◌-◌}
+use mathlib.Core.Path.{◌≡◌, sym, ap, ◌∙◌}
 use mathlib.Core.Bool.{Bool, true, false}
 use native.Mathlib.Omega.{arith}
-use lib.ListN.{length, take, drop}
+use lib.ListN.{take, drop}
 use Rattle.text.specs.Words.{Word, same, elem}
 use Rattle.dates.specs.Dates.{dof, key_in, keys_behind}
-use Rattle.dates.proofs.Walk.{Ahead, ahead_first, place_nothing, place_instead, place_before, place_last, ahead_next}
+use Rattle.dates.proofs.Walk.{ahead_first, place_nothing, place_instead, place_before, place_last, ahead_next}
 use Rattle.dates.proofs.place_of.Goals.{After-is_behind, After-same_bytes-in-loop-key}
 use Rattle.dates.proofs.place_of.Goals as goal
 

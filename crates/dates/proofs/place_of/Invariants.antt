@@ -1,7 +1,6 @@
-use Prim.Native.Nat.{ℕ, ◌-◌}
-use mathlib.Core.Path.{◌≡◌, refl, sym, ap, ◌∙◌}
-use lib.ListN.{length, take, drop}
-use Rattle.dates.proofs.Walk.{Ahead, ahead_first, place_nothing, place_instead, place_before, place_last, ahead_next}
+use Prim.Native.Nat.{◌-◌}
+use lib.ListN.{length}
+use Rattle.dates.proofs.Walk.{Ahead}
 use Rattle.dates.proofs.place_of.Given as goal
 
 abbrev pub invariant-loop-key : goal.invariant-loop-key

@@ -1,3 +1,4 @@
+-- `dates::put_dated` meets its contract. Assumes nothing.
 use mathlib.Core.Path.{◌≡◌, sym, subst}
 use lib.Seq.{length-take-le}
 use Rattle.canonical.proofs.Turns.{put_same, room_same}

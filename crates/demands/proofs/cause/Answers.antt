@@ -1,3 +1,4 @@
+-- `demands::cause` meets its contract. Assumes nothing.
 use Rattle.demands.proofs.Whys.{cause_shows}
 use Rattle.demands.proofs.cause.Goals as goal
 

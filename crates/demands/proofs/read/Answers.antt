@@ -1,3 +1,4 @@
+-- `demands::read` meets its contract. Assumes nothing.
 use Rattle.demands.proofs.Demands.{read_demanded}
 use Rattle.demands.proofs.read.Goals as goal
 

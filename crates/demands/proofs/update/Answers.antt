@@ -1,3 +1,4 @@
+-- `demands::update` meets its contract. Assumes nothing.
 use Rattle.demands.proofs.Turns.{update_demanded}
 use Rattle.demands.proofs.update.Goals as goal
 

@@ -1,5 +1,5 @@
-use Prim.Native.Nat.{◌-◌, ◌≤◌}
-use mathlib.Core.Path.{◌≡◌, refl, sym, ◌∙◌}
+-- `entries::any_of` meets its contract. Assumes nothing.
+use mathlib.Core.Path.{refl, sym, ◌∙◌}
 use Rattle.text.specs.Words.{split}
 use Rattle.entries.specs.Entries.{matched, any_of}
 use Rattle.places.proofs.Larger.{larger_first, largest_last, largest_next}

@@ -1,9 +1,9 @@
 use Prim.Native.Nat.{◌-◌, ◌≤◌}
-use mathlib.Core.Path.{◌≡◌, refl, sym, ◌∙◌}
+use mathlib.Core.Path.{◌≡◌}
 use lib.ListN.{length, drop}
 use Rattle.text.specs.Words.{split}
 use Rattle.places.specs.Parts.{larger}
-use Rattle.entries.specs.Entries.{matched, any_of}
+use Rattle.entries.specs.Entries.{any_of}
 use Rattle.entries.proofs.any_of.Given as goal
 
 abbrev pub invariant-loop-at : goal.invariant-loop-at

@@ -1,5 +1,4 @@
-use Prim.Native.Nat.{◌+◌, ◌-◌, ◌≤◌}
-use mathlib.Core.Path.{◌≡◌}
+-- `entries::matched_of` meets its contract. Assumes nothing.
 use Rattle.entries.proofs.Index.{matched_stop, matched_next, matched_over, matched_short}
 use native.Mathlib.Omega.{arith}
 use Rattle.entries.proofs.matched_of.Goals as goal

@@ -1,3 +1,4 @@
+-- `equipment::equipment_fits` meets its contract. Assumes nothing.
 use Rattle.equipment.specs.Field10.{present}
 use Rattle.equipment.proofs.equipment_fits.Goals as goal
 

@@ -1,3 +1,4 @@
+-- `equipment::side_by` meets its contract. Assumes nothing.
 use mathlib.Core.Path.{sym, ◌∙◌}
 use borrow.Author.Tests.{le-leb, lt-leb}
 use Rattle.equipment.proofs.Laws.{side_bytes}

@@ -1,3 +1,4 @@
+-- `equipment::surveillance_fits` meets its contract. Assumes nothing.
 use Rattle.equipment.specs.Field10.{present}
 use Rattle.equipment.proofs.surveillance_fits.Goals as goal
 

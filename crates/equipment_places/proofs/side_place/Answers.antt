@@ -1,3 +1,4 @@
+-- `equipment_places::side_place` meets its contract. Assumes nothing.
 use Prim.Native.Nat.{ℕ}
 use mathlib.Core.Path.{ap, ◌∙◌}
 use Rattle.places.specs.Parts.{larger}

@@ -1,6 +1,7 @@
-use Prim.Native.Nat.{◌-◌, ◌<◌}
+-- `force::find_entry` meets its contract. Assumes nothing.
+use Prim.Native.Nat.{◌<◌}
 use lib.ListN.{length}
-use Rattle.force.proofs.Walk.{Seeking, seeking_starts, found_here, found_nowhere, found_later}
+use Rattle.force.proofs.Walk.{seeking_starts, found_here, found_nowhere, found_later}
 use native.Mathlib.Omega.{arith}
 use Rattle.force.proofs.find_entry.Goals as goal
 

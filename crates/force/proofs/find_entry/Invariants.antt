@@ -1,6 +1,6 @@
-use Prim.Native.Nat.{◌-◌, ◌<◌}
+use Prim.Native.Nat.{◌-◌}
 use lib.ListN.{length}
-use Rattle.force.proofs.Walk.{Seeking, seeking_starts, found_here, found_nowhere, found_later}
+use Rattle.force.proofs.Walk.{Seeking}
 use Rattle.force.proofs.find_entry.Given as goal
 
 abbrev pub invariant-loop-c : goal.invariant-loop-c

@@ -1,7 +1,7 @@
+-- `force::is_bare` meets its contract. Assumes nothing.
 use borrow.Author.Tests.{eq-eqb, ne_eqb}
 use Rattle.force.proofs.is_bare.Goals as goal
 
--- `force::is_bare` meets its contract. Assumes nothing.
 pub returns-then-k-ne-PLAN_16 : goal.returns-then-k-ne-PLAN_16
 returns-then-k-ne-PLAN_16 c =
     rw (ne_eqb c.args.k 7 c.if-k-ne-PLAN_16.true)

@@ -1,3 +1,4 @@
+-- `form_places::place_entry` meets its contract. Assumes nothing.
 use Rattle.text.proofs.Index.{found_before}
 use Prim.Native.Nat.{ℕ, ◌+◌, ◌-◌}
 use mathlib.Core.Path.{sym, ap, ◌∙◌}

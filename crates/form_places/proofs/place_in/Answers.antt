@@ -1,3 +1,4 @@
+-- `form_places::place_in` meets its contract. Assumes nothing.
 use mathlib.Core.Path.{sym, ap, ◌∙◌}
 use Rattle.kinds.specs.declared.Form.{Form}
 use Rattle.form_places.specs.Places.{place_in}

@@ -1,3 +1,4 @@
+-- `form_places::place_named` meets its contract. Assumes nothing.
 use Rattle.form_places.proofs.Index.{the_last}
 use Prim.Native.Nat.{ℕ}
 use mathlib.Core.Path.{sym, ap, ◌∙◌}

@@ -1,3 +1,4 @@
+-- `forms::fault_of` meets its contract. Assumes nothing.
 use mathlib.Core.Path.{sym, ◌∙◌}
 use Rattle.forms.proofs.Forms.{entry_fault, other_fault}
 use mathlib.Core.Bool.{true, false}

@@ -1,3 +1,4 @@
+-- `forms::fault_of_entry` meets its contract. Assumes nothing.
 use mathlib.Core.Path.{sym, ◌∙◌}
 use Rattle.forms.proofs.Faults.{unnumbered, unlisted, repeated, right, wrong}
 use Rattle.forms.proofs.fault_of_entry.Goals as goal

@@ -1,3 +1,4 @@
+-- `forms::fits_entry` meets its contract. Assumes nothing.
 use mathlib.Core.Path.{◌∙◌}
 use Rattle.text.proofs.Index.{rest}
 use Rattle.forms.proofs.Index.{none_fit, rest_fits}

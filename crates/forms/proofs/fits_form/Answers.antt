@@ -1,3 +1,4 @@
+-- `forms::fits_form` meets its contract. Assumes nothing.
 use mathlib.Core.Path.{sym, ap, ◌∙◌}
 use Rattle.kinds.specs.declared.Form.{Form}
 use Rattle.forms.specs.Forms.{field_of}

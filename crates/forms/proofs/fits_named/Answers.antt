@@ -1,3 +1,4 @@
+-- `forms::fits_named` meets its contract. Assumes nothing.
 use Rattle.forms.proofs.Index.{from_four, from_eight}
 use Prim.Native.Nat.{ℕ}
 use mathlib.Core.Path.{sym, ap, ◌∙◌}

@@ -1,3 +1,4 @@
+-- `forms::is_numbered` meets its contract. Assumes nothing.
 use lib.Seq.{length-take-le}
 use mathlib.Core.Path.{sym, ◌∙◌}
 use Rattle.forms.proofs.Index.{none_numbered, empty_numbered, long_numbered, short_numbered}

@@ -1,3 +1,4 @@
+-- `forms::rank_in` meets its contract. Assumes nothing.
 use mathlib.Core.Path.{◌∙◌}
 use Rattle.forms.proofs.Forms.{entry_rank, other_rank}
 use native.Mathlib.Omega.{arith}

@@ -1,3 +1,4 @@
+-- `forms::rank_of_entry` meets its contract. Assumes nothing.
 use lib.Seq.{length-take-le}
 use mathlib.Core.Path.{sym}
 use Rattle.forms.specs.Field22.{labels}

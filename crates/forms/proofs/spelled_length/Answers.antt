@@ -1,3 +1,4 @@
+-- `forms::spelled_length` meets its contract. Assumes nothing.
 use mathlib.Core.Path.{sym, ap, ◌∙◌}
 use lib.ListN.{length}
 use Rattle.forms.proofs.Forms.{is_rewritten, no_rewritten}

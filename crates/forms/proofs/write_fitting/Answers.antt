@@ -1,3 +1,4 @@
+-- `forms::write_fitting` meets its contract. Assumes nothing.
 use mathlib.Core.Path.{◌≡◌}
 use Rattle.canonical.specs.Canonical.{written19}
 use Rattle.forms.specs.Forms.{written_of}

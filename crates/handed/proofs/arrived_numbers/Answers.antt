@@ -1,3 +1,4 @@
+-- `handed::arrived_numbers` meets its contract. Assumes nothing.
 use Rattle.handed.proofs.arrived_numbers.Goals as goal
 
 pub returns-in-Known : goal.returns-in-Known

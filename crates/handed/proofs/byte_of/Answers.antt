@@ -1,3 +1,4 @@
+-- `handed::byte_of` meets its contract. Assumes nothing.
 use borrow.Author.Tests.{lt-ltb, le-ltb}
 use Rattle.handed.proofs.byte_of.Goals as goal
 

@@ -1,7 +1,7 @@
+-- `handed::departure_of` meets its contract. Assumes nothing.
 use borrow.Author.Tests.{eq-eqb, ne_eqb}
 use Rattle.handed.proofs.departure_of.Goals as goal
 
--- `handed::departure_of` meets its contract. Assumes nothing.
 pub returns-then-known-eq0 : goal.returns-then-known-eq0
 returns-then-known-eq0 c =
     rw (eq-eqb c.args.known 0 c.if-known-eq0.true)

@@ -1,3 +1,4 @@
+-- `handed::hand_in` meets its contract. Assumes nothing.
 use Rattle.handed.proofs.Steps.{none_handed, one_handed}
 use Rattle.handed.proofs.hand_in.Goals as goal
 

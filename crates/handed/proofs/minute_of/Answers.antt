@@ -1,3 +1,4 @@
+-- `handed::minute_of` meets its contract. Assumes nothing.
 use borrow.Author.Tests.{lt-ltb, le-ltb}
 use Rattle.handed.proofs.minute_of.Goals as goal
 

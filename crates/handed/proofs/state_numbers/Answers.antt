@@ -1,3 +1,4 @@
+-- `handed::state_numbers` meets its contract. Assumes nothing.
 use mathlib.Core.Path.{sym, ap, ◌∙◌}
 use Rattle.handed.specs.States.{state_numbers}
 use Rattle.handed.proofs.state_numbers.Goals as goal

@@ -1,3 +1,4 @@
+-- `handed::state_of` meets its contract. Assumes nothing.
 use Rattle.handed.proofs.Steps.{departed_is, arrived_is, cancelled_is, filed_is}
 use Rattle.handed.proofs.state_of.Goals as goal
 

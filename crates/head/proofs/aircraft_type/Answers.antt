@@ -1,3 +1,4 @@
+-- `head::aircraft_type` meets its contract. Assumes nothing.
 use mathlib.Core.Path.{ap, ◌∙◌}
 use Prim.Native.Nat.{ℕ}
 use lib.ListN.{drop}

@@ -1,3 +1,4 @@
+-- `head::fits_field3` meets its contract. Assumes nothing.
 use mathlib.Core.Path.{sym, ◌∙◌}
 use lib.Seq.{length-take-le}
 use Rattle.text.proofs.Index.{rest}
@@ -6,7 +7,6 @@ use Rattle.head.proofs.Laws.{type_not, type_is, no_type_content}
 use native.Mathlib.Omega.{arith}
 use Rattle.head.proofs.fits_field3.Goals as goal
 
--- `head::fits_field3` meets its contract. Assumes nothing.
 pub returns-then-s-lt3 : goal.returns-then-s-lt3
 returns-then-s-lt3 c =
     sym (no_type_content c.args.s.now c.if-s-lt3.true)

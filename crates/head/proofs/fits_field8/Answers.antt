@@ -1,3 +1,4 @@
+-- `head::fits_field8` meets its contract. Assumes nothing.
 use mathlib.Core.Path.{sym, ◌∙◌}
 use Rattle.head.proofs.Laws.{rules_one, rules_two, rules_other}
 use Rattle.head.proofs.fits_field8.Goals as goal

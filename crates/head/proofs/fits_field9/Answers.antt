@@ -1,3 +1,4 @@
+-- `head::fits_field9` meets its contract. Assumes nothing.
 use mathlib.Core.Path.{sym, ◌∙◌}
 use lib.Seq.{length-take-le}
 use Rattle.text.proofs.Index.{rest}

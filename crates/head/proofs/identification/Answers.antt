@@ -1,3 +1,4 @@
+-- `head::identification` meets its contract. Assumes nothing.
 use mathlib.Core.Path.{sym}
 use lib.Seq.{length-take-le}
 use Rattle.text.proofs.Index.{found_before}

@@ -1,3 +1,4 @@
+-- `head::is_aircraft` meets its contract. Assumes nothing.
 use mathlib.Core.Path.{sym, ◌∙◌}
 use lib.Seq.{length-take-le}
 use Rattle.text.proofs.Index.{found, found_none, found_before, found_behind, rest}

@@ -1,8 +1,8 @@
+-- `head::is_count` meets its contract. Assumes nothing.
 use mathlib.Core.Path.{sym}
 use Rattle.head.proofs.Laws.{count_none, count_one, count_two, count_more}
 use Rattle.head.proofs.is_count.Goals as goal
 
--- `head::is_count` meets its contract. Assumes nothing.
 pub returns-then-w-eq0 : goal.returns-then-w-eq0
 returns-then-w-eq0 c =
     sym (count_none c.args.w.now c.if-w-eq0.true)

@@ -1,7 +1,7 @@
+-- `head::is_identification` meets its contract. Assumes nothing.
 use borrow.Author.Tests.{le-leb, lt-leb}
 use Rattle.head.proofs.is_identification.Goals as goal
 
--- `head::is_identification` meets its contract. Assumes nothing.
 pub returns-then-w-lt2 : goal.returns-then-w-lt2
 returns-then-w-lt2 c =
     rw (lt-leb 2 _ c.if-w-lt2.true)

@@ -1,3 +1,4 @@
+-- `head::is_receiver` meets its contract. Assumes nothing.
 use mathlib.Core.Path.{sym, ◌∙◌}
 use lib.Seq.{length-take-le}
 use Rattle.text.proofs.Index.{rest}
@@ -5,7 +6,6 @@ use Rattle.head.proofs.Laws.{receiver_short}
 use native.Mathlib.Omega.{arith}
 use Rattle.head.proofs.is_receiver.Goals as goal
 
--- `head::is_receiver` meets its contract. Assumes nothing.
 pub returns-then-w-lt3 : goal.returns-then-w-lt3
 returns-then-w-lt3 c =
     let a = c.args in sym (receiver_short a.w.now c.if-w-lt3.true)

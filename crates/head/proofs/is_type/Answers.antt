@@ -1,8 +1,8 @@
+-- `head::is_type` meets its contract. Assumes nothing.
 use mathlib.Core.Path.{sym, ◌∙◌}
 use borrow.Author.Tests.{le-leb, lt-leb}
 use Rattle.head.proofs.is_type.Goals as goal
 
--- `head::is_type` meets its contract. Assumes nothing.
 pub returns-then-w-lt2 : goal.returns-then-w-lt2
 returns-then-w-lt2 c =
     rw (lt-leb 2 _ c.if-w-lt2.true)

@@ -1,7 +1,7 @@
+-- `head::is_unit` meets its contract. Assumes nothing.
 use borrow.Author.Tests.{le-leb, lt-leb}
 use Rattle.head.proofs.is_unit.Goals as goal
 
--- `head::is_unit` meets its contract. Assumes nothing.
 pub returns-then-w-lt1 : goal.returns-then-w-lt1
 returns-then-w-lt1 c =
     rw (lt-leb 1 _ c.if-w-lt1.true)

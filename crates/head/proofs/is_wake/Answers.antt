@@ -1,7 +1,7 @@
+-- `head::is_wake` meets its contract. Assumes nothing.
 use borrow.Author.Tests.{eq-eqb, ne_eqb}
 use Rattle.head.proofs.is_wake.Goals as goal
 
--- `head::is_wake` meets its contract. Assumes nothing.
 pub returns-then-w-ne1 : goal.returns-then-w-ne1
 returns-then-w-ne1 c =
     rw (ne_eqb _ 1 c.if-w-ne1.true)

@@ -1,6 +1,6 @@
-use Prim.Native.Nat.{◌+◌, ◌-◌, ◌≤◌}
+-- `head::run` meets its contract. Assumes nothing.
 use mathlib.Core.Bool.{Bool, beq}
-use mathlib.Core.Path.{◌≡◌, sym, ap, ◌∙◌}
+use mathlib.Core.Path.{sym, ap, ◌∙◌}
 use borrow.Author.Tests.{not-true, not-false}
 use Rattle.head.proofs.Laws.{lead_stop, lead_next, lead_end}
 use native.Mathlib.Omega.{arith}

@@ -1,3 +1,4 @@
+-- `head_places::place_field3` meets its contract. Assumes nothing.
 use mathlib.Core.Path.{sym, ◌∙◌}
 use lib.Seq.{length-take-le}
 use Rattle.places.proofs.Index.{behind_within}

@@ -1,10 +1,10 @@
+-- `head_places::place_field8` meets its contract. Assumes nothing.
 use mathlib.Core.Path.{sym, ◌∙◌}
 use Rattle.places.proofs.Index.{pair_none, pair_off, pair_one, pair_second, pair_both}
 use Rattle.head.specs.Field8.{rules_fit, flight_fits}
 use Rattle.head_places.specs.Places.{place8}
 use Rattle.head_places.proofs.place_field8.Goals as goal
 
--- `head_places::place_field8` meets its contract. Assumes nothing.
 pub returns-then-s-eq0 : goal.returns-then-s-eq0
 unfolding place8
 returns-then-s-eq0 c =

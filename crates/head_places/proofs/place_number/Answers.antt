@@ -1,3 +1,4 @@
+-- `head_places::place_number` meets its contract. Assumes nothing.
 use native.Mathlib.Omega.{arith}
 use borrow.Author.Tests.{not-true, not-false}
 use Rattle.alphabet.specs.Alphabet.{digit}

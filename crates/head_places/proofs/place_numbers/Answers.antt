@@ -1,9 +1,10 @@
-use Prim.Native.Nat.{ℕ, ◌+◌, ◌≤◌}
+-- `head_places::place_numbers` meets its contract. Assumes nothing.
+use Prim.Native.Nat.{◌+◌, ◌≤◌}
 use native.Mathlib.Omega.{arith}
 use lib.ListN.{length}
 use borrow.Author.Tests.{not-true, not-false}
 use Rattle.alphabet.specs.Alphabet.{digit}
-use Rattle.text.specs.Words.{Word, leading}
+use Rattle.text.specs.Words.{leading}
 use Rattle.places.specs.Parts.{no_more}
 use Rattle.places.proofs.Leaves.{front_le}
 use Rattle.places.proofs.Index.{behind_within}

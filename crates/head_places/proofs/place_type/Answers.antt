@@ -1,3 +1,4 @@
+-- `head_places::place_type` meets its contract. Assumes nothing.
 use mathlib.Core.Path.{◌≡◌, sym, ap, ◌∙◌}
 use native.Mathlib.Omega.{arith}
 use lib.ListN.{drop}
@@ -9,7 +10,6 @@ use Rattle.head_places.proofs.Places.{run_within}
 use native.Mathlib.Omega.{arith}
 use Rattle.head_places.proofs.place_type.Goals as goal
 
--- `head_places::place_type` meets its contract. Assumes nothing.
 pub returns-then-w-eq0 : goal.returns-then-w-eq0
 returns-then-w-eq0 c =
     sym (first_none letter (λ a. run_place 3 sign) c.args.w.now c.if-w-eq0.true)

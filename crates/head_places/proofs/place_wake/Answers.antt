@@ -1,10 +1,10 @@
+-- `head_places::place_wake` meets its contract. Assumes nothing.
 use mathlib.Core.Path.{sym, ◌∙◌}
 use Rattle.places.proofs.Index.{first_none, first_stop, first_goes}
 use Rattle.places.specs.Parts.{no_more}
 use Rattle.head.specs.Field9.{wake_fits}
 use Rattle.head_places.proofs.place_wake.Goals as goal
 
--- `head_places::place_wake` meets its contract. Assumes nothing.
 pub returns-then-w-eq0 : goal.returns-then-w-eq0
 returns-then-w-eq0 c =
     sym (first_none wake_fits (λ a. no_more) c.args.w.now c.if-w-eq0.true)

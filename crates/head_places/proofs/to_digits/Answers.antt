@@ -1,6 +1,7 @@
+-- `head_places::to_digits` meets its contract. Assumes nothing.
 use native.Mathlib.Omega.{arith}
 use borrow.Author.Tests.{not-true, not-false}
-use Prim.Native.Nat.{ℕ, ◌+◌, ◌≤◌}
+use Prim.Native.Nat.{◌+◌, ◌≤◌}
 use lib.ListN.{length}
 use Rattle.places.proofs.Texts.{word_length}
 use Rattle.head_places.proofs.Reached.{letters_stuck, oblique_none, oblique_off, oblique_on}

@@ -1,3 +1,4 @@
+-- `kinds::arrival_row` meets its contract. Assumes nothing.
 use mathlib.Core.Path.{refl}
 use borrow.Author.Tests.{ne_eqb}
 use Rattle.kinds.specs.Kinds.{forms_of, form_at, arrival_forms, diverted_forms}
@@ -5,7 +6,6 @@ use Rattle.kinds.specs.declared.MessageType.TheVariants.{Arr}
 use Rattle.kinds.proofs.Fields.{row_of}
 use Rattle.kinds.proofs.arrival_row.Goals as goal
 
--- `kinds::arrival_row` meets its contract. Assumes nothing.
 pub returns-then-count-eq4 : goal.returns-then-count-eq4
 unfolding form_at forms_of arrival_forms
 returns-then-count-eq4 c =

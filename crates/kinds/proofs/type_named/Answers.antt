@@ -1,3 +1,4 @@
+-- `kinds::type_named` meets its contract. Assumes nothing.
 use mathlib.Core.Path.{ap, ◌∙◌}
 use Rattle.head.specs.Field3.{types}
 use Rattle.kinds.specs.Kinds.{type_ranked, type_named}

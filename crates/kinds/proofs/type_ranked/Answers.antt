@@ -1,3 +1,4 @@
+-- `kinds::type_ranked` meets its contract. Assumes nothing.
 use Prim.Native.Nat.{suc, ◌-◌}
 use mathlib.Core.Path.{◌≡◌, sym, ap, ◌∙◌}
 use mathlib.Core.List.{◌∷◌, map}
@@ -8,7 +9,6 @@ use Rattle.kinds.specs.declared.Named.TheVariants.{Read, NotRead, NoType}
 use Rattle.kinds.proofs.Names.{ranked_read}
 use Rattle.kinds.proofs.type_ranked.Goals as goal
 
--- `kinds::type_ranked` meets its contract. Assumes nothing.
 pub returns-then-k-eq0 : goal.returns-then-k-eq0
 unfolding type_ranked
 returns-then-k-eq0 c =

@@ -1,3 +1,4 @@
+-- `lines::put_line` meets its contract. Assumes nothing.
 use mathlib.Core.Path.{sym, ◌∙◌}
 use native.Mathlib.Omega.{arith}
 use Rattle.lines.proofs.Steps.{accepted_fits, accepted_told, refused_fits, refused_told}

@@ -1,3 +1,4 @@
+-- `lines::put_refused` meets its contract. Assumes nothing.
 use native.Mathlib.Omega.{arith}
 use Rattle.lines.specs.Lines.{refused_line}
 use Rattle.lines.proofs.Refusals.{number_fits, field_fits, place_fits, all_told}

@@ -1,3 +1,4 @@
+-- `message::content_at` meets its contract. Assumes nothing.
 use Prim.Native.Nat.{◌+◌, ◌-◌, ◌<◌, ◌≤◌}
 use mathlib.Core.Path.{sym}
 use native.Mathlib.Omega.{arith}
@@ -7,7 +8,6 @@ use Rattle.message.proofs.Ends.{content_first, content_later, inside_first, insi
 use Rattle.message.proofs.content_at.Goals.{Else-j-eq0, Start}
 use Rattle.message.proofs.content_at.Goals as goal
 
--- `message::content_at` meets its contract. Assumes nothing.
 inside : (c : Start) → get_or c.args.ends.now c.args.j 0 ≤ length c.args.s.now
 inside c =
     inside_first c.args.s.now c.args.ends.now c.requires.0 c.args.j c.requires.1

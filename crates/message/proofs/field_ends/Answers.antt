@@ -1,4 +1,5 @@
-use Prim.Native.Nat.{◌-◌, ◌<◌}
+-- `message::field_ends` meets its contract. Assumes nothing.
+use Prim.Native.Nat.{◌<◌}
 use mathlib.Core.Path.{refl, sym, ◌∙◌}
 use native.Mathlib.Omega.{arith}
 use Rattle.kinds.specs.Kinds.{most_fields}

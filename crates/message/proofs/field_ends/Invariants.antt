@@ -1,5 +1,4 @@
-use Prim.Native.Nat.{◌-◌, ◌<◌}
-use mathlib.Core.Path.{refl, sym, ◌∙◌}
+use Prim.Native.Nat.{◌-◌}
 use lib.ListN.{length}
 use Rattle.message.specs.Ends.{Noted}
 use Rattle.message.proofs.field_ends.Given as goal

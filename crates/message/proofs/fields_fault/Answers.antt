@@ -1,10 +1,11 @@
-use Prim.Native.Nat.{ℕ, ◌-◌, ◌<◌}
+-- `message::fields_fault` meets its contract. Assumes nothing.
+use Prim.Native.Nat.{◌<◌}
 use mathlib.Core.Path.{◌≡◌, refl}
 use native.Mathlib.Omega.{arith}
-use lib.ListN.{length, get_or}
+use lib.ListN.{get_or}
 use Rattle.kinds.specs.declared.Form.TheVariants.{Field3}
-use Rattle.kinds.specs.Kinds.{forms_of, form_at, most_fields, RowFor}
-use Rattle.message.specs.Ends.{start_in, EndAt}
+use Rattle.kinds.specs.Kinds.{form_at, most_fields}
+use Rattle.message.specs.Ends.{EndAt}
 use Rattle.message.proofs.Walk.{Walked, walk_starts, walk_found, walk_clear, walk_next}
 use Rattle.message.proofs.Ends.{inside_ends, end_known, start_next}
 use Rattle.message.proofs.fields_fault.Goals.{At-loop-row}

@@ -1,11 +1,11 @@
-use Prim.Native.Nat.{ℕ, ◌-◌, ◌<◌}
-use mathlib.Core.Path.{◌≡◌, refl}
-use lib.ListN.{length, get_or}
+use Prim.Native.Nat.{◌-◌}
+use mathlib.Core.Path.{◌≡◌}
+use lib.ListN.{length}
 use Rattle.text.specs.Words.{split}
 use Rattle.kinds.specs.declared.MessageType.{MessageType}
-use Rattle.kinds.specs.Kinds.{forms_of, form_at, most_fields, RowFor}
-use Rattle.message.specs.Ends.{start_in, EndAt}
-use Rattle.message.proofs.Walk.{Walked, walk_starts, walk_found, walk_clear, walk_next}
+use Rattle.kinds.specs.Kinds.{forms_of, RowFor}
+use Rattle.message.specs.Ends.{start_in}
+use Rattle.message.proofs.Walk.{Walked}
 use Rattle.message.proofs.fields_fault.Given as goal
 
 abbrev pub invariant-loop-row : goal.invariant-loop-row

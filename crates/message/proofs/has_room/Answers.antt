@@ -1,3 +1,4 @@
+-- `message::has_room_lem` meets its contract. Assumes nothing.
 use native.Mathlib.Omega.{arith}
 use mathlib.Core.Path.{sym, ap}
 use Prim.Native.Nat.{ℕ}
@@ -10,7 +11,6 @@ use Rattle.message.specs.Reading.{spelled_from}
 use Rattle.message.proofs.Walk.{spelled_short}
 use Rattle.message.proofs.has_room.Goals as goal
 
--- `message::has_room_lem` meets its contract. Assumes nothing.
 pub overflow_add-s : goal.overflow_add-s
 overflow_add-s c =
     omega (arith, c.requires.0)

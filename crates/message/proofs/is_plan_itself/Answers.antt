@@ -1,3 +1,4 @@
+-- `message::is_plan_itself` meets its contract. Assumes nothing.
 use mathlib.Core.Path.{sym, ◌∙◌}
 use Rattle.message.specs.Reading.{answer_of, plan_itself}
 use Rattle.message.proofs.is_plan_itself.Goals as goal

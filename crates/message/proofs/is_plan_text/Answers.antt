@@ -1,3 +1,4 @@
+-- `message::is_plan_text` meets its contract. Assumes nothing.
 use mathlib.Core.Path.{◌≡◌}
 use native.Mathlib.Omega.{arith}
 use lib.ListN.{length}
@@ -6,7 +7,6 @@ use Rattle.message.proofs.Plans.{nine_contents}
 use Rattle.message.proofs.is_plan_text.Goals.{Start}
 use Rattle.message.proofs.is_plan_text.Goals as goal
 
--- `message::is_plan_text` meets its contract. Assumes nothing.
 nine : (c : Start) → length (split 45 c.args.s.now) ≡ 9
 nine c =
     nine_contents c.args.t c.args.count c.args.s.now c.requires.0 c.requires.1

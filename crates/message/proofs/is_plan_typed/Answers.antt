@@ -1,8 +1,8 @@
+-- `message::is_plan_typed` meets its contract. Assumes nothing.
 use native.Mathlib.Omega.{arith}
 use Rattle.message.proofs.Steps.{some_bytes}
 use Rattle.message.proofs.is_plan_typed.Goals as goal
 
--- `message::is_plan_typed` meets its contract. Assumes nothing.
 pub three_of-requires : goal.three_of-requires
 three_of-requires c =
     omega (arith, some_bytes c.args.msg.now c.requires)

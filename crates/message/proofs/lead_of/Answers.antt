@@ -1,7 +1,7 @@
+-- `message::lead_of` meets its contract. Assumes nothing.
 use borrow.Author.Tests.{eq-eqb, ne_eqb}
 use Rattle.message.proofs.lead_of.Goals as goal
 
--- `message::lead_of` meets its contract. Assumes nothing.
 pub returns-then-j-eq0 : goal.returns-then-j-eq0
 returns-then-j-eq0 c =
     rw (eq-eqb _ 0 c.if-j-eq0.true)

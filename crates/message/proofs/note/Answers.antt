@@ -1,3 +1,4 @@
+-- `message::note` meets its contract. Assumes nothing.
 use mathlib.Core.Path.{sym, ◌∙◌}
 use Rattle.message.proofs.Ends.{noted_over}
 use Rattle.message.proofs.note.Goals as goal

@@ -1,5 +1,5 @@
-use Prim.Native.Nat.{◌≤◌}
-use mathlib.Core.Path.{◌≡◌, refl}
+-- `message::onward` meets its contract. Assumes nothing.
+use mathlib.Core.Path.{refl}
 use Rattle.message.proofs.Walk.{hyphen_turn, hyphen_done}
 use Rattle.message.proofs.Nth.{hyphen_end}
 use native.Mathlib.Omega.{arith}

@@ -1,7 +1,7 @@
+-- `message::place_in_plan` meets its contract. Assumes nothing.
 use borrow.Author.Tests.{eq-eqb, ne_eqb}
 use Rattle.message.proofs.place_in_plan.Goals as goal
 
--- `message::place_in_plan` meets its contract. Assumes nothing.
 pub returns-then-field-eq9 : goal.returns-then-field-eq9
 returns-then-field-eq9 c =
     rw (eq-eqb _ 9 c.if-field-eq9.true)

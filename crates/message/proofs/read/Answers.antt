@@ -1,3 +1,4 @@
+-- `message::read` meets its contract. Assumes nothing.
 use mathlib.Core.Path.{refl, sym, ◌∙◌}
 use Rattle.message.specs.Reading.{answer_of, out_after}
 use Rattle.message.proofs.read.Goals as goal

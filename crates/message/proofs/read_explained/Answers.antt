@@ -1,3 +1,4 @@
+-- `message::read_explained` meets its contract. Assumes nothing.
 use mathlib.Core.Path.{refl, sym, ◌∙◌}
 use lib.ListN.{length}
 use Rattle.message.proofs.Steps.{left_unexplained, none_unexplained, no_plan}

@@ -1,6 +1,7 @@
-use Prim.Native.Nat.{ℕ, ◌≤◌}
+-- `message::read_reduced` meets its contract. Assumes nothing.
+use Prim.Native.Nat.{◌≤◌}
 use mathlib.Core.Path.{◌≡◌, refl, sym, ◌∙◌}
-use mathlib.Core.List.{List, []}
+use mathlib.Core.List.{[]}
 use lib.ListN.{length}
 use Rattle.text.proofs.Tests.{same-eq}
 use Rattle.space.specs.Reduced.{reduced}

@@ -1,3 +1,4 @@
+-- `message::read_text` meets its contract. Assumes nothing.
 use mathlib.Core.Path.{refl, sym, ◌∙◌}
 use lib.ListN.{length}
 use Rattle.message.proofs.Faults.{fault_inside}

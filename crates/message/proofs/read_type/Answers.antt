@@ -1,9 +1,9 @@
+-- `message::read_type` meets its contract. Assumes nothing.
 use native.Mathlib.Omega.{arith}
 use mathlib.Core.Path.{refl}
 use Rattle.message.proofs.Steps.{some_bytes}
 use Rattle.message.proofs.read_type.Goals as goal
 
--- `message::read_type` meets its contract. Assumes nothing.
 pub three_of-requires : goal.three_of-requires
 three_of-requires c =
     omega (arith, some_bytes c.args.msg.now c.requires)

@@ -1,8 +1,8 @@
+-- `message::spelled_length` meets its contract. Assumes nothing.
 use native.Mathlib.Nat.{zero-add}
-use Prim.Native.Nat.{◌+◌, ◌-◌, ◌<◌, ◌≤◌}
-use mathlib.Core.Path.{◌≡◌}
-use lib.ListN.{length, drop}
-use Rattle.message.proofs.Walk.{Even, even_next, length_last, length_next, part_short}
+use Prim.Native.Nat.{◌-◌, ◌<◌, ◌≤◌}
+use lib.ListN.{length}
+use Rattle.message.proofs.Walk.{even_next, length_last, length_next, part_short}
 use borrow.Author.Rules.{rules}
 use native.Mathlib.Omega.{arith}
 use Rattle.message.proofs.spelled_length.Goals.{After-spelled_length}

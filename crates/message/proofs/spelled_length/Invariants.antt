@@ -1,10 +1,10 @@
-use Prim.Native.Nat.{◌+◌, ◌-◌, ◌<◌, ◌≤◌}
+use Prim.Native.Nat.{◌+◌, ◌-◌, ◌≤◌}
 use mathlib.Core.Path.{◌≡◌}
 use lib.ListN.{length, drop}
 use Rattle.text.specs.Words.{split}
 use Rattle.kinds.specs.Kinds.{forms_of}
 use Rattle.message.specs.Reading.{spelled_from, lead_of}
-use Rattle.message.proofs.Walk.{Even, even_next, length_last, length_next, part_short}
+use Rattle.message.proofs.Walk.{Even}
 use Rattle.message.proofs.spelled_length.Given as goal
 
 abbrev pub invariant-loop-t : goal.invariant-loop-t

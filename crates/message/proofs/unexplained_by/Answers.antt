@@ -1,3 +1,4 @@
+-- `message::unexplained_by` meets its contract. Assumes nothing.
 use Rattle.message.proofs.unexplained_by.Goals as goal
 
 pub returns : goal.returns

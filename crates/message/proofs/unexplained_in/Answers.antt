@@ -1,3 +1,4 @@
+-- `message::unexplained_in` meets its contract. Assumes nothing.
 use mathlib.Core.Path.{◌≡◌}
 use lib.ListN.{drop}
 use Rattle.space.specs.Hyphens.{behind_hyphen}

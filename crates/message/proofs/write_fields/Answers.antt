@@ -1,11 +1,12 @@
-use Prim.Native.Nat.{ℕ, ◌-◌, ◌<◌, ◌≤◌}
-use mathlib.Core.Path.{◌≡◌, refl, ◌∙◌}
+-- `message::write_fields` meets its contract. Assumes nothing.
+use Prim.Native.Nat.{◌<◌, ◌≤◌}
+use mathlib.Core.Path.{refl, ◌∙◌}
 use lib.ListN.{length, get_or, set, length-set}
 use Rattle.text.specs.Words.{split}
 use Rattle.kinds.specs.declared.MessageType.{MessageType}
 use Rattle.kinds.specs.declared.Form.TheVariants.{Field3}
 use Rattle.kinds.specs.Kinds.{forms_of, most_fields}
-use Rattle.message.specs.Ends.{start_in, EndAt}
+use Rattle.message.specs.Ends.{EndAt}
 use Rattle.message.proofs.Writing.{Given, Writing, some_spelled, front_opened, writing_starts}
 use Rattle.message.proofs.Writing.{Turn, turn_room, turn_content, turn_fits, next_room, turn_next, last_long, last_room, last_written}
 use Rattle.message.proofs.Ends.{inside_ends, end_known, start_next}

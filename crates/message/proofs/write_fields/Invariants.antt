@@ -1,9 +1,9 @@
-use Prim.Native.Nat.{ℕ, ◌-◌, ◌<◌, ◌≤◌}
-use mathlib.Core.Path.{◌≡◌, refl, ◌∙◌}
-use lib.ListN.{length, get_or, set, length-set}
+use Prim.Native.Nat.{◌-◌}
+use mathlib.Core.Path.{◌≡◌}
+use lib.ListN.{length}
 use Rattle.kinds.specs.declared.MessageType.{MessageType}
-use Rattle.message.specs.Ends.{start_in, EndAt}
-use Rattle.message.proofs.Writing.{Given, Writing, some_spelled, front_opened, writing_starts}
+use Rattle.message.specs.Ends.{start_in}
+use Rattle.message.proofs.Writing.{Given, Writing}
 use Rattle.message.proofs.write_fields.Given as goal
 
 abbrev pub invariant-loop-row : goal.invariant-loop-row

@@ -1,8 +1,8 @@
+-- `opening::not_read` meets its contract. Assumes nothing.
 use borrow.Author.Tests.{le-leb, lt-leb}
 use native.Mathlib.Omega.{arith}
 use Rattle.opening.proofs.not_read.Goals as goal
 
--- `opening::not_read` meets its contract. Assumes nothing.
 pub returns-then-number-le9 : goal.returns-then-number-le9
 returns-then-number-le9 c =
     rw (le-leb c.args.number 9 (omega (arith, c.if-number-le9.true)))

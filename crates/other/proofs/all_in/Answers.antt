@@ -1,5 +1,5 @@
-use Prim.Native.Nat.{◌-◌, ◌≤◌}
-use mathlib.Core.Path.{◌≡◌, refl, sym, ◌∙◌}
+-- `other::all_in` meets its contract. Assumes nothing.
+use mathlib.Core.Path.{sym, ◌∙◌}
 use Rattle.alphabet.specs.Alphabet.{one_of}
 use Rattle.text.proofs.Index.{all_stop, all_next, all_end}
 use borrow.Author.Rules.{rules}

@@ -1,9 +1,8 @@
-use Prim.Native.Nat.{◌-◌, ◌<◌}
-use mathlib.Core.Path.{◌≡◌, refl, ◌∙◌}
-use mathlib.Core.Bool.{◌&&◌}
+-- `other::all_plain` meets its contract. Assumes nothing.
+use mathlib.Core.Path.{◌∙◌}
 use native.Mathlib.Omega.{arith}
 use Rattle.text.proofs.Pairs.{pairs_next, pairs_end}
-use Rattle.other.specs.Plain.{plain, all_plain}
+use Rattle.other.specs.Plain.{plain}
 use Rattle.other.proofs.all_plain.Goals as goal
 
 pub loop-i-preserved : goal.loop-i-preserved

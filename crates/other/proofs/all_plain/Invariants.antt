@@ -1,8 +1,8 @@
 use Prim.Native.Nat.{◌-◌, ◌<◌}
-use mathlib.Core.Path.{◌≡◌, refl, ◌∙◌}
+use mathlib.Core.Path.{◌≡◌}
 use mathlib.Core.Bool.{◌&&◌}
 use lib.ListN.{length, drop}
-use Rattle.other.specs.Plain.{plain, all_plain}
+use Rattle.other.specs.Plain.{all_plain}
 use Rattle.other.proofs.all_plain.Given as goal
 
 abbrev pub invariant-loop-i : goal.invariant-loop-i

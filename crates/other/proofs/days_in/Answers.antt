@@ -1,3 +1,4 @@
+-- `other::days_in` meets its contract. Assumes nothing.
 use Rattle.other.specs.Rules.{days_in}
 use lib.ListN.{get_or-eq_default}
 use Prim.Native.Nat.{ℕ}

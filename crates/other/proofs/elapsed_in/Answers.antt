@@ -1,3 +1,4 @@
+-- `other::elapsed_in` meets its contract. Assumes nothing.
 use Rattle.text.proofs.Index.{rest}
 use Rattle.shape.specs.Time.{elapsed_read}
 use Rattle.other.specs.Rules.{timed}
@@ -5,7 +6,6 @@ use mathlib.Core.Path.{sym, ap, ◌∙◌}
 use borrow.Author.Tests.{le-leb, lt-leb}
 use Rattle.other.proofs.elapsed_in.Goals as goal
 
--- `other::elapsed_in` meets its contract. Assumes nothing.
 pub returns-then-w-lt6 : goal.returns-then-w-lt6
 unfolding timed
 returns-then-w-lt6 c =

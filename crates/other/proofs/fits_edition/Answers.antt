@@ -1,10 +1,11 @@
+-- `other::fits_edition` meets its contract. Assumes nothing.
 use mathlib.Core.Path.{◌≡◌, sym, ◌∙◌}
 use mathlib.Core.Bool.{false}
-use Prim.Native.Nat.{ℕ, ◌<◌, ◌≤◌}
+use Prim.Native.Nat.{◌<◌, ◌≤◌}
 use lib.ListN.{length}
 use Rattle.alphabet.specs.Alphabet.{text}
 use Rattle.text.specs.Words.{split, cells}
-use Rattle.other.specs.Rules.{Edition18, edition}
+use Rattle.other.specs.Rules.{edition}
 use Rattle.other.specs.Field18.{fit_from, fits_in}
 use Rattle.other.proofs.Runs.{run_all, not_over_lem, from_word, from_other}
 use Rattle.other.proofs.Ranks.{signs_only}

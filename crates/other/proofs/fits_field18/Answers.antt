@@ -1,3 +1,4 @@
+-- `other::fits_field18` meets its contract. Assumes nothing.
 use mathlib.Core.Path.{refl}
 use Rattle.other.specs.Rules.{base, sound_keys}
 use Rattle.other.proofs.fits_field18.Goals as goal

@@ -1,8 +1,8 @@
+-- `other::is_address` meets its contract. Assumes nothing.
 use Rattle.other.specs.Rules.{hexadecimal}
 use borrow.Author.Tests.{eq-eqb, ne_eqb}
 use Rattle.other.proofs.is_address.Goals as goal
 
--- `other::is_address` meets its contract. Assumes nothing.
 pub returns-then-w-ne6 : goal.returns-then-w-ne6
 returns-then-w-ne6 c =
     rw (ne_eqb _ _ c.if-w-ne6.true)

@@ -1,4 +1,5 @@
-use mathlib.Core.Path.{◌≡◌, refl, sym, ◌∙◌}
+-- `other::is_approved` meets its contract. Assumes nothing.
+use mathlib.Core.Path.{◌≡◌, sym, ◌∙◌}
 use mathlib.Core.Bool.{true}
 use Rattle.codes.specs.Codes.{codes, codes_fit}
 use Rattle.other.specs.Rules.{approvals}

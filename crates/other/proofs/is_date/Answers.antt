@@ -1,3 +1,4 @@
+-- `other::is_date` meets its contract. Assumes nothing.
 use Rattle.shape.specs.Shape.{fits}
 use Rattle.shape.proofs.Index.{fits_lengths}
 use Rattle.other.specs.Rules.{date}

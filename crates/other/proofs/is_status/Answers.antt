@@ -1,3 +1,4 @@
+-- `other::is_status` meets its contract. Assumes nothing.
 use Rattle.other.specs.Rules.{statuses}
 use Rattle.other.proofs.is_status.Goals as goal
 

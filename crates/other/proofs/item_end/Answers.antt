@@ -1,8 +1,9 @@
-use lib.ListN.{length, take, drop}
-use Prim.Native.Nat.{ℕ, ◌+◌, ◌-◌, ◌<◌, ◌≤◌}
-use mathlib.Core.Path.{◌≡◌, sym, ap, ◌∙◌}
-use mathlib.Core.List.{List, ◌∷◌, ◌++◌, append-nil}
-use Rattle.other.proofs.Keys.{further, space_at, end_first, end_last, end_item, end_word}
+-- `other::item_end` meets its contract. Assumes nothing.
+use lib.ListN.{take, drop}
+use Prim.Native.Nat.{ℕ, ◌+◌, ◌-◌}
+use mathlib.Core.Path.{sym, ap, ◌∙◌}
+use mathlib.Core.List.{List, ◌++◌, append-nil}
+use Rattle.other.proofs.Keys.{space_at, end_first, end_last, end_item, end_word}
 use borrow.Author.Rules.{rules}
 use Rattle.other.proofs.item_end.Goals as goal
 

@@ -1,10 +1,10 @@
 use lib.ListN.{length, take, drop}
-use Prim.Native.Nat.{ℕ, ◌+◌, ◌-◌, ◌<◌, ◌≤◌}
-use mathlib.Core.Path.{◌≡◌, sym, ap, ◌∙◌}
-use mathlib.Core.List.{List, ◌∷◌, ◌++◌, append-nil}
+use Prim.Native.Nat.{◌+◌, ◌-◌, ◌<◌, ◌≤◌}
+use mathlib.Core.Path.{◌≡◌}
+use mathlib.Core.List.{◌∷◌, ◌++◌}
 use Rattle.text.specs.Words.{split}
 use Rattle.other.specs.Field18.{words_from}
-use Rattle.other.proofs.Keys.{further, space_at, end_first, end_last, end_item, end_word}
+use Rattle.other.proofs.Keys.{further}
 use Rattle.other.proofs.item_end.Given as goal
 
 abbrev pub invariant-loop-e : goal.invariant-loop-e

@@ -1,3 +1,4 @@
+-- `other::more_fits` meets its contract. Assumes nothing.
 use mathlib.Core.Path.{sym, ◌∙◌}
 use Rattle.other.proofs.more_fits.Goals as goal
 

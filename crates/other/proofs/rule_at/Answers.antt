@@ -1,3 +1,4 @@
+-- `other::rule_at` meets its contract. Assumes nothing.
 use Prim.Native.Nat.{ℕ, ◌-◌, ◌≤◌}
 use lib.ListN.{length, get_or-eq_default, get_or-map}
 use Rattle.other.specs.Rules.{rule_of}
@@ -5,7 +6,6 @@ use mathlib.Core.Path.{sym, ap, ◌∙◌}
 use native.Mathlib.Omega.{arith}
 use Rattle.other.proofs.rule_at.Goals as goal
 
--- `other::rule_at` meets its contract. Assumes nothing.
 pub returns-then-rules-k : goal.returns-then-rules-k
 returns-then-rules-k c =
     let a = c.args in

@@ -1,7 +1,7 @@
+-- `other::rule_of` meets its contract. Assumes nothing.
 use borrow.Author.Tests.{ne_eqb}
 use Rattle.other.proofs.rule_of.Goals as goal
 
--- `other::rule_of` meets its contract. Assumes nothing.
 pub returns-in-83 : goal.returns-in-83
 returns-in-83 c =
     rw c.in-83.is

@@ -1,3 +1,4 @@
+-- `other::text_fits` meets its contract. Assumes nothing.
 use mathlib.Core.Path.{sym, ap, ◌∙◌}
 use Rattle.other.specs.declared.Rule.{Rule}
 use Rattle.other.specs.Rules.{word_fits}

@@ -1,8 +1,8 @@
+-- `other::word_ends` meets its contract. Assumes nothing.
 use borrow.Author.Rules.{rules}
 use Rattle.other.proofs.Runs.{over_ends, ends_space}
 use Rattle.other.proofs.word_ends.Goals as goal
 
--- `other::word_ends` meets its contract. Assumes nothing.
 pub returns-then-e-s : goal.returns-then-e-s
 returns-then-e-s c =
     over_ends c.args.s.now c.args.e (search rules)

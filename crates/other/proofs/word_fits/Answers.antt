@@ -1,3 +1,4 @@
+-- `other::word_fits` meets its contract. Assumes nothing.
 use Rattle.other.specs.declared.Rule.{Rule}
 use Rattle.shape.proofs.Times.{by_elapsed}
 use Rattle.other.specs.Rules.{word_fits}

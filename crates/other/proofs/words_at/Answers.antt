@@ -1,6 +1,6 @@
-use lib.ListN.{length, drop}
-use Prim.Native.Nat.{ℕ, ◌-◌, ◌≤◌}
-use mathlib.Core.Path.{◌≡◌, refl, sym, ap, ◌∙◌}
+-- `other::words_at` meets its contract. Assumes nothing.
+use lib.ListN.{drop}
+use mathlib.Core.Path.{◌≡◌, sym, ap, ◌∙◌}
 use mathlib.Core.List.{List}
 use lib.Seq.{length-take-le}
 use Rattle.text.specs.Words.{Word, split, after}

@@ -1,7 +1,7 @@
 use lib.ListN.{length, drop}
-use Prim.Native.Nat.{ℕ, ◌-◌, ◌≤◌}
-use mathlib.Core.Path.{◌≡◌, refl, sym, ap, ◌∙◌}
-use Rattle.text.specs.Words.{Word, split, after}
+use Prim.Native.Nat.{◌-◌, ◌≤◌}
+use mathlib.Core.Path.{◌≡◌}
+use Rattle.text.specs.Words.{split}
 use Rattle.other.specs.Field18.{group, from_key}
 use Rattle.other.proofs.words_at.Given as goal
 

@@ -1,3 +1,4 @@
+-- `other::words_of` meets its contract. Assumes nothing.
 use mathlib.Core.Path.{◌∙◌}
 use borrow.Author.Tests.{eq-eqb, ne_eqb}
 use Rattle.other.proofs.words_of.Goals as goal

@@ -1,3 +1,4 @@
+-- `other_places::cell_place` meets its contract. Assumes nothing.
 use lib.ListN.{take}
 use mathlib.Core.List.{[]}
 use Rattle.other.specs.Rules.{edition, rule_in}
@@ -9,7 +10,6 @@ use Rattle.entries.specs.Entries.{entry_place}
 use Rattle.other_places.specs.Places.{keyed}
 use Rattle.other_places.proofs.cell_place.Goals as goal
 
--- `other_places::cell_place` meets its contract. Assumes nothing.
 pub returns-then-j-k : goal.returns-then-j-k
 returns-then-j-k c =
     let a = c.args in sym (rw (le-ltb a.k a.j c.if-j-k.true))

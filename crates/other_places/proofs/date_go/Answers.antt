@@ -1,3 +1,4 @@
+-- `other_places::date_go` meets its contract. Assumes nothing.
 use mathlib.Core.Path.{sym, ◌∙◌}
 use mathlib.Core.Bool.{or-false}
 use Rattle.other_places.proofs.date_go.Goals as goal

@@ -1,5 +1,5 @@
-use Prim.Native.Nat.{◌+◌, ◌-◌, ◌≤◌}
-use mathlib.Core.Path.{◌≡◌, sym, ◌∙◌}
+-- `other_places::date_place` meets its contract. Assumes nothing.
+use mathlib.Core.Path.{sym, ◌∙◌}
 use lib.Seq.{length-take-le}
 use Rattle.places.proofs.Index.{passes_stop, passes_next, passes_end}
 use Rattle.other_places.specs.Places.{date_go}

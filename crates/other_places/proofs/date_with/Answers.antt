@@ -1,10 +1,10 @@
+-- `other_places::date_with` meets its contract. Assumes nothing.
 use mathlib.Core.Path.{sym, ap, ◌∙◌}
 use lib.ListN.{length, drop}
 use Rattle.other.specs.Rules.{date}
 use Rattle.other_places.proofs.Index.{date_over, held_two}
 use Rattle.other_places.proofs.date_with.Goals as goal
 
--- `other_places::date_with` meets its contract. Assumes nothing.
 pub returns-then-p-gt6 : goal.returns-then-p-gt6
 returns-then-p-gt6 c =
     let a = c.args in

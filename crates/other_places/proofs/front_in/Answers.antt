@@ -1,5 +1,5 @@
-use Prim.Native.Nat.{◌+◌, ◌-◌, ◌≤◌}
-use mathlib.Core.Path.{◌≡◌, sym, ◌∙◌}
+-- `other_places::front_in` meets its contract. Assumes nothing.
+use mathlib.Core.Path.{sym, ◌∙◌}
 use Rattle.alphabet.specs.Alphabet.{one_of}
 use Rattle.text.proofs.Index.{leading_here, leading_next, leading_end}
 use native.Mathlib.Omega.{arith}

@@ -1,3 +1,4 @@
+-- `other_places::item_place` meets its contract. Assumes nothing.
 use mathlib.Core.Path.{ap, ◌∙◌}
 use Rattle.places.specs.Parts.{larger}
 use Rattle.other_places.proofs.item_place.Goals as goal

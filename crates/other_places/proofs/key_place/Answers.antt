@@ -1,8 +1,9 @@
+-- `other_places::key_place` meets its contract. Assumes nothing.
 use Prim.Native.Nat.{ℕ, ◌+◌, ◌-◌, ◌≤◌}
 use mathlib.Core.Path.{◌≡◌, sym, ◌∙◌}
 use lib.ListN.{length, take, drop}
 use lib.Seq.{length-take-le}
-use Rattle.text.specs.Words.{Word, same}
+use Rattle.text.specs.Words.{same}
 use Rattle.places.proofs.Index.{cut_none, cut_off, cut_on, behind_within}
 use Rattle.entries.specs.Entries.{matched}
 use Rattle.other_places.specs.Places.{rule_place}

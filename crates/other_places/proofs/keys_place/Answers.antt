@@ -1,12 +1,13 @@
-use Prim.Native.Nat.{ℕ, ◌+◌, ◌-◌, ◌≤◌}
-use mathlib.Core.Path.{◌≡◌, sym, ap, ◌∙◌}
-use Rattle.text.specs.Words.{before, cells}
+-- `other_places::keys_place` meets its contract. Assumes nothing.
+use Prim.Native.Nat.{◌+◌}
+use mathlib.Core.Path.{sym, ap, ◌∙◌}
+use Rattle.text.specs.Words.{cells}
 use Rattle.text.proofs.Index.{cells_from, all-cells}
 use Rattle.places.specs.Parts.{larger}
 use Rattle.entries.specs.Entries.{entries_place}
 use Rattle.places.proofs.Larger.{larger_first}
-use Rattle.other.specs.Rules.{Edition18, edition}
-use Rattle.other_places.specs.Places.{later_keys, keys_place}
+use Rattle.other.specs.Rules.{edition}
+use Rattle.other_places.specs.Places.{later_keys}
 use Rattle.other_places.proofs.Index.{keys_next, keys_end}
 use borrow.Author.Rules.{rules}
 use native.Mathlib.Omega.{arith}

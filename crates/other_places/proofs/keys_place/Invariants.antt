@@ -1,11 +1,11 @@
-use Prim.Native.Nat.{ℕ, ◌+◌, ◌-◌, ◌≤◌}
-use mathlib.Core.Path.{◌≡◌, sym, ap, ◌∙◌}
+use Prim.Native.Nat.{◌+◌, ◌-◌, ◌≤◌}
+use mathlib.Core.Path.{◌≡◌}
 use lib.ListN.{length}
-use Rattle.text.specs.Words.{before, cells}
-use Rattle.text.proofs.Index.{cells_from, all-cells}
+use Rattle.text.specs.Words.{cells}
+use Rattle.text.proofs.Index.{cells_from}
 use Rattle.places.specs.Parts.{larger}
 use Rattle.entries.specs.Entries.{entries_place}
-use Rattle.other.specs.Rules.{Edition18, edition}
+use Rattle.other.specs.Rules.{edition}
 use Rattle.other_places.specs.Places.{later_keys, keys_place}
 use Rattle.other_places.proofs.keys_place.Given as goal
 

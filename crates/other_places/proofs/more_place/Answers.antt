@@ -1,3 +1,4 @@
+-- `other_places::more_place` meets its contract. Assumes nothing.
 use mathlib.Core.Path.{sym, ap, ◌∙◌}
 use borrow.Author.Tests.{lt-ltb, le-ltb}
 use Rattle.other.specs.Rules.{single}
@@ -5,7 +6,6 @@ use Rattle.other_places.specs.Places.{rule_place}
 use native.Mathlib.Omega.{arith}
 use Rattle.other_places.proofs.more_place.Goals as goal
 
--- `other_places::more_place` meets its contract. Assumes nothing.
 pub returns-then-k-eq0 : goal.returns-then-k-eq0
 returns-then-k-eq0 c =
     sym (rw (le-ltb 0 c.args.k (omega arith)))

@@ -1,12 +1,13 @@
-use Prim.Native.Nat.{ℕ, suc, ◌+◌, ◌-◌, ◌<◌, ◌≤◌}
+-- `other_places::place_edition` meets its contract. Assumes nothing.
+use Prim.Native.Nat.{suc, ◌+◌, ◌-◌, ◌<◌, ◌≤◌}
 use mathlib.Core.Path.{◌≡◌, sym, ◌∙◌}
 use mathlib.Core.Bool.{true, false}
 use mathlib.Core.Option.{some}
 use lib.ListN.{length, take, drop}
-use Rattle.text.specs.Words.{Word, split, cells}
+use Rattle.text.specs.Words.{split, cells}
 use Rattle.places.specs.Words.{words_place}
 use Rattle.places.proofs.Index.{words_last, words_stuck, words_end, words_next}
-use Rattle.other.specs.Rules.{Edition18, edition}
+use Rattle.other.specs.Rules.{edition}
 use Rattle.other_places.specs.Places.{items, items_word, items_place}
 use Rattle.other_places.proofs.Index.{item_within, after_none, after_some}
 use Rattle.places.proofs.Texts.{word_length}

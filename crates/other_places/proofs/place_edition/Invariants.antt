@@ -1,10 +1,10 @@
-use Prim.Native.Nat.{ℕ, suc, ◌+◌, ◌-◌, ◌<◌, ◌≤◌}
-use mathlib.Core.Path.{◌≡◌, sym, ◌∙◌}
-use lib.ListN.{length, take, drop}
-use Rattle.text.specs.Words.{Word, split, cells}
+use Prim.Native.Nat.{◌+◌, ◌-◌, ◌≤◌}
+use mathlib.Core.Path.{◌≡◌}
+use lib.ListN.{length, drop}
+use Rattle.text.specs.Words.{split, cells}
 use Rattle.places.specs.Words.{words_place}
-use Rattle.other.specs.Rules.{Edition18, edition}
-use Rattle.other_places.specs.Places.{items, items_word, items_place}
+use Rattle.other.specs.Rules.{edition}
+use Rattle.other_places.specs.Places.{items, items_word}
 use Rattle.other_places.proofs.place_edition.Given as goal
 
 abbrev pub invariant-loop-at : goal.invariant-loop-at

@@ -1,3 +1,4 @@
+-- `other_places::place_field18` meets its contract. Assumes nothing.
 use mathlib.Core.Path.{refl, ap, ◌∙◌}
 use Rattle.places.specs.Parts.{larger}
 use Rattle.other.specs.Rules.{base, sound_keys}

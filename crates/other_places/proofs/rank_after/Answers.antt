@@ -1,9 +1,10 @@
+-- `other_places::rank_after` meets its contract. Assumes nothing.
 use mathlib.Core.Path.{◌≡◌, sym, ap, ◌∙◌}
 use lib.Seq.{length-take-le}
 use Prim.Native.Nat.{◌+◌, ◌-◌}
 use lib.ListN.{length, take, drop}
-use Rattle.text.specs.Words.{Word, cells}
-use Rattle.other.specs.Rules.{Edition18, edition, rule_in, more_fits, word_fits}
+use Rattle.text.specs.Words.{cells}
+use Rattle.other.specs.Rules.{edition, rule_in, more_fits, word_fits}
 use Rattle.other_places.proofs.Index.{ranked_first, ranked_more, ranked_off, ranked_early, ranked_not, ranked_key}
 use Rattle.other_places.proofs.rank_after.Goals.{After-more_fits, After-word_fits}
 use Rattle.other_places.proofs.rank_after.Goals as goal

@@ -1,10 +1,10 @@
+-- `other_places::rule_place` meets its contract. Assumes nothing.
 use Rattle.other.specs.declared.Rule.{Rule}
 use Rattle.other_places.specs.Places.{rule_place}
 use mathlib.Core.Path.{◌≡◌, sym, ap, ◌∙◌}
 use Rattle.text.specs.Words.{Word}
 use Rattle.other_places.proofs.rule_place.Goals as goal
 
--- `other_places::rule_place` meets its contract. Assumes nothing.
 by-rule : {r q : Rule} (w : Word) → r ≡ q → rule_place q w ≡ rule_place r w
 by-rule w e = sym (ap (λ (r : Rule). rule_place r w) e)
 

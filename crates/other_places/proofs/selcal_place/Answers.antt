@@ -1,3 +1,4 @@
+-- `other_places::selcal_place` meets its contract. Assumes nothing.
 use mathlib.Core.Path.{refl}
 use Rattle.places.proofs.Index.{fixed_short, fixed_whole}
 use Rattle.alphabet.specs.Alphabet.{letter}

@@ -1,5 +1,5 @@
-use Prim.Native.Nat.{◌-◌, ◌≤◌}
-use mathlib.Core.Path.{◌≡◌, refl, sym, ap, ◌∙◌}
+-- `other_places::timed_place` meets its contract. Assumes nothing.
+use mathlib.Core.Path.{◌≡◌, sym, ap, ◌∙◌}
 use Rattle.places.specs.Parts.{larger}
 use Rattle.other_places.specs.Places.{signs_time}
 use Rattle.other_places.proofs.Index.{timed_next}

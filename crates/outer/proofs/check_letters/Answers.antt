@@ -1,3 +1,4 @@
+-- `outer::check_letters` meets its contract. Assumes nothing.
 use mathlib.Core.Path.{sym, ap, ◌∙◌}
 use native.Mathlib.Nat.{zero-add}
 use Rattle.outer.specs.declared.Outer.TheVariants.{Bad}

@@ -1,3 +1,4 @@
+-- `outer::check_outer` meets its contract. Assumes nothing.
 use mathlib.Core.Path.{sym, ◌∙◌}
 use Rattle.outer.proofs.Laws.{outer_long, outer_parens, outer_letters}
 use Rattle.outer.proofs.Walk.{is_good_lem}

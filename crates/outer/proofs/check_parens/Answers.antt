@@ -1,5 +1,5 @@
-use mathlib.Core.Path.{◌≡◌, sym, ◌∙◌}
-use Prim.Native.Nat.{◌-◌}
+-- `outer::check_parens` meets its contract. Assumes nothing.
+use mathlib.Core.Path.{sym, ◌∙◌}
 use Rattle.outer.proofs.Laws.{parens_next, parens_opening, parens_last, parens_early, parens_end, parens_none, parens_other, parens_first}
 use Rattle.outer.proofs.check_parens.Goals as goal
 

@@ -1,3 +1,4 @@
+-- `outer::passes` meets its contract. Assumes nothing.
 use Prim.Native.Nat.{ℕ, ◌-◌}
 use mathlib.Core.Path.{◌≡◌, ap}
 use native.Mathlib.Omega.{arith}
@@ -6,7 +7,6 @@ use Rattle.space.specs.Fields.{Framed}
 use Rattle.outer.proofs.Walk.{not_passed, walked}
 use Rattle.outer.proofs.passes.Goals as goal
 
--- `outer::passes` meets its contract. Assumes nothing.
 pub returns-then-msg-gt-MOST_BYTES : goal.returns-then-msg-gt-MOST_BYTES
 returns-then-msg-gt-MOST_BYTES c =
     not_passed _ (λ p. omega (arith, p.short, c.if-msg-gt-MOST_BYTES.true))

@@ -1,8 +1,8 @@
+-- `parts::count_of` meets its contract. Assumes nothing.
 use mathlib.Core.Path.{sym, ◌∙◌}
 use Rattle.parts.proofs.Fields.{count_none, count_one, count_two}
 use Rattle.parts.proofs.count_of.Goals as goal
 
--- `parts::count_of` meets its contract. Assumes nothing.
 pub returns-then-w-eq0 : goal.returns-then-w-eq0
 returns-then-w-eq0 c =
     sym (count_none c.args.w.now c.if-w-eq0.true)

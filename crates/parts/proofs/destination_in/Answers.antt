@@ -1,3 +1,4 @@
+-- `parts::destination_in` meets its contract. Assumes nothing.
 use Rattle.parts.proofs.Steps.{no_alternate, one_alternate, two_alternates}
 use Rattle.parts.proofs.destination_in.Goals as goal
 

@@ -1,3 +1,4 @@
+-- `parts::field_at` meets its contract. Assumes nothing.
 use Rattle.opening.proofs.Steps.{inner_slice}
 use Rattle.parts.proofs.Own.{field_found}
 use Rattle.parts.proofs.field_at.Goals as goal

@@ -1,6 +1,7 @@
+-- `parts::field_in` meets its contract. Assumes nothing.
 use Prim.Native.Nat.{ℕ, ◌+◌}
 use mathlib.Core.Path.{◌≡◌, sym, ap, ◌∙◌}
-use mathlib.Core.List.{List, map}
+use mathlib.Core.List.{map}
 use native.Mathlib.Omega.{arith}
 use Rattle.text.specs.Words.{up_to}
 use Rattle.kinds.specs.Kinds.{forms_of, number_of}

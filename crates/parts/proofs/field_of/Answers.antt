@@ -1,3 +1,4 @@
+-- `parts::field_of` meets its contract. Assumes nothing.
 use mathlib.Core.Path.{◌≡◌, sym, ap, ◌∙◌}
 use Rattle.parts.specs.declared.Taken.TheVariants.{As}
 use Rattle.parts.specs.Parts.{taken_of}

@@ -1,3 +1,4 @@
+-- `parts::plan_in` meets its contract. Assumes nothing.
 use mathlib.Core.Path.{◌≡◌, ap, ◌∙◌}
 use Rattle.head.specs.Field9.{fits9}
 use Rattle.aerodromes.specs.Field13.{fits13}

@@ -1,3 +1,4 @@
+-- `parts::plan_parts` meets its contract. Assumes nothing.
 use mathlib.Core.Path.{refl, sym, ◌∙◌}
 use Rattle.parts.proofs.Answers.{plan-whole}
 use Rattle.parts.proofs.plan_parts.Goals as goal

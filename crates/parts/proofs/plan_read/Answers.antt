@@ -1,3 +1,4 @@
+-- `parts::plan_read` meets its contract. Assumes nothing.
 use mathlib.Core.Path.{◌≡◌, sym, ap, subst, ◌∙◌}
 use mathlib.Core.Bool.{true}
 use Rattle.kinds.specs.declared.MessageType.{MessageType}

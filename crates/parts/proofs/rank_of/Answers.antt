@@ -1,5 +1,4 @@
-use Prim.Native.Nat.{◌+◌, ◌-◌, ◌≤◌}
-use mathlib.Core.Path.{◌≡◌}
+-- `parts::rank_of` meets its contract. Assumes nothing.
 use native.Mathlib.Omega.{arith}
 use Rattle.parts.proofs.Steps.{rank_here, rank_next, rank_end}
 use Rattle.parts.proofs.rank_of.Goals as goal

@@ -1,4 +1,5 @@
-use Prim.Native.Nat.{ℕ, ◌≤◌}
+-- `parts::read_own` meets its contract. Assumes nothing.
+use Prim.Native.Nat.{◌≤◌}
 use mathlib.Core.Path.{◌≡◌, sym, ap, ◌∙◌}
 use native.Mathlib.Omega.{arith}
 use lib.ListN.{length, take}

@@ -1,5 +1,5 @@
-use Prim.Native.Nat.{◌+◌, ◌-◌}
-use mathlib.Core.Path.{◌≡◌, sym, ◌∙◌}
+-- `pieces::skip_white` meets its contract. Assumes nothing.
+use mathlib.Core.Path.{sym, ◌∙◌}
 use Rattle.pieces.proofs.White.{white_stop, white_next, white_end}
 use native.Mathlib.Omega.{arith}
 use Rattle.pieces.proofs.skip_white.Goals as goal

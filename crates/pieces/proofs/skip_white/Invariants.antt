@@ -1,6 +1,6 @@
 use lib.ListN.{length, drop}
 use Prim.Native.Nat.{◌+◌, ◌-◌}
-use mathlib.Core.Path.{◌≡◌, sym, ◌∙◌}
+use mathlib.Core.Path.{◌≡◌}
 use Rattle.pieces.specs.Pieces.{white_ahead}
 use Rattle.pieces.proofs.skip_white.Given as goal
 

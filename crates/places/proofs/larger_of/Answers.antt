@@ -1,7 +1,7 @@
+-- `places::larger_of` meets its contract. Assumes nothing.
 use borrow.Author.Tests.{lt-leb, le-leb}
 use Rattle.places.proofs.larger_of.Goals as goal
 
--- `places::larger_of` meets its contract. Assumes nothing.
 pub returns-then-p-q : goal.returns-then-p-q
 returns-then-p-q c =
     simp (le-leb _ _ c.if-p-q.true)

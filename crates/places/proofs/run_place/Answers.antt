@@ -1,3 +1,4 @@
+-- `places::run_place` meets its contract. Assumes nothing.
 use mathlib.Core.Path.{ap, ◌∙◌}
 use Rattle.places.specs.Parts.{smaller}
 use Rattle.places.proofs.run_place.Goals as goal

@@ -1,3 +1,4 @@
+-- `places::time_place` meets its contract. Assumes nothing.
 use mathlib.Core.Path.{◌≡◌, sym, ◌∙◌}
 use mathlib.Core.Bool.{true, false}
 use mathlib.Core.List.{List}
@@ -14,7 +15,6 @@ use native.Mathlib.Omega.{arith}
 use Rattle.places.proofs.time_place.Goals.{After-is_digit-2, After-one, After-one-tens}
 use Rattle.places.proofs.time_place.Goals as goal
 
--- `places::time_place` meets its contract. Assumes nothing.
 minutes-within : (w : List ℕ) → minutes_place w ≤ length w
 minutes-within w = (last_right 0 w).within
 

@@ -1,5 +1,6 @@
+-- `places::two_digits` meets its contract. Assumes nothing.
 use mathlib.Core.Path.{◌≡◌, sym, ◌∙◌}
-use mathlib.Core.Bool.{Bool, true, and-false}
+use mathlib.Core.Bool.{true, and-false}
 use lib.Dec.{leb}
 use lib.ListN.{get_or}
 use borrow.Author.Tests.{lt-leb, le-leb}

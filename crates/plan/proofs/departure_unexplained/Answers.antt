@@ -1,3 +1,4 @@
+-- `plan::departure_unexplained` meets its contract. Assumes nothing.
 use mathlib.Core.Path.{◌≡◌, ap}
 use mathlib.Core.Bool.{Bool, not}
 use Rattle.alphabet.specs.Text.{bytes}

@@ -1,3 +1,4 @@
+-- `plan::destination_unexplained` meets its contract. Assumes nothing.
 use mathlib.Core.Path.{sym, ap, ◌∙◌}
 use mathlib.Core.Bool.{not}
 use Rattle.plan.proofs.destination_unexplained.Goals as goal

@@ -1,3 +1,4 @@
+-- `plan::unexplained_field` meets its contract. Assumes nothing.
 use mathlib.Core.Path.{sym, ◌∙◌}
 use Rattle.plan.specs.Unexplained.{unexplained}
 use Rattle.plan.proofs.unexplained_field.Goals as goal

@@ -1,3 +1,4 @@
+-- `plan::without_dest` meets its contract. Assumes nothing.
 use mathlib.Core.Path.{ap}
 use mathlib.Core.Bool.{not}
 use Rattle.alphabet.specs.Text.{bytes}

@@ -1,5 +1,5 @@
-use Prim.Native.Nat.{◌+◌, ◌-◌, ◌≤◌}
-use mathlib.Core.Path.{◌≡◌, sym, ◌∙◌}
+-- `point_places::along_row` meets its contract. Assumes nothing.
+use mathlib.Core.Path.{sym, ◌∙◌}
 use Rattle.point_places.proofs.Index.{row_stop, row_next, row_over, row_short}
 use native.Mathlib.Omega.{arith}
 use Rattle.point_places.proofs.along_row.Goals as goal

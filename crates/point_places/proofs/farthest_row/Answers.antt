@@ -1,5 +1,5 @@
-use mathlib.Core.Path.{◌≡◌, refl, sym, ◌∙◌}
-use Prim.Native.Nat.{◌-◌, ◌≤◌}
+-- `point_places::farthest_row` meets its contract. Assumes nothing.
+use mathlib.Core.Path.{refl, sym, ◌∙◌}
 use Rattle.text.specs.Words.{split}
 use Rattle.point_places.specs.Rows.{row_place, rows_place}
 use Rattle.places.proofs.Larger.{larger_first, largest_last, largest_next}

@@ -1,9 +1,9 @@
-use mathlib.Core.Path.{◌≡◌, refl, sym, ◌∙◌}
+use mathlib.Core.Path.{◌≡◌}
 use Prim.Native.Nat.{◌-◌, ◌≤◌}
 use lib.ListN.{length, drop}
 use Rattle.text.specs.Words.{split}
 use Rattle.places.specs.Parts.{larger}
-use Rattle.point_places.specs.Rows.{row_place, rows_place}
+use Rattle.point_places.specs.Rows.{rows_place}
 use Rattle.point_places.proofs.farthest_row.Given as goal
 
 abbrev pub invariant-loop-at : goal.invariant-loop-at

@@ -1,3 +1,4 @@
+-- `point_places::meets` meets its contract. Assumes nothing.
 use mathlib.Core.Path.{◌≡◌, sym, ◌∙◌}
 use lib.ListN.{get_or}
 use Rattle.shape.specs.Shape.{in_class}

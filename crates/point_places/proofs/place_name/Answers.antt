@@ -1,3 +1,4 @@
+-- `point_places::place_name` meets its contract. Assumes nothing.
 use mathlib.Core.Path.{sym, ◌∙◌}
 use lib.Seq.{length-take-le}
 use Rattle.point_places.proofs.Index.{short_in_range}

@@ -1,3 +1,4 @@
+-- `point_places::place_plain` meets its contract. Assumes nothing.
 use Rattle.places.proofs.Larger.{larger_up}
 use Rattle.point_places.specs.Points.{plain_place}
 use Rattle.point_places.proofs.place_plain.Goals as goal

@@ -1,3 +1,4 @@
+-- `point_places::place_point` meets its contract. Assumes nothing.
 use Rattle.places.proofs.Larger.{larger_up}
 use Rattle.point_places.specs.Points.{point_place}
 use Rattle.point_places.proofs.place_point.Goals as goal

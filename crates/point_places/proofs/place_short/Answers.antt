@@ -1,3 +1,4 @@
+-- `point_places::place_short` meets its contract. Assumes nothing.
 use mathlib.Core.Path.{◌∙◌}
 use Rattle.point_places.proofs.Index.{short_list}
 use Rattle.point_places.proofs.place_short.Goals as goal

@@ -1,11 +1,12 @@
-use Prim.Native.Nat.{ℕ, ◌+◌, ◌-◌, ◌≤◌}
-use mathlib.Core.Path.{◌≡◌, sym, ap, ◌∙◌}
+-- `racks::held_by` meets its contract. Assumes nothing.
+use Prim.Native.Nat.{ℕ}
+use mathlib.Core.Path.{sym, ap, ◌∙◌}
 use mathlib.Core.List.{[]}
 use native.Mathlib.Omega.{arith}
 use Rattle.rooms.specs.Rooms.{held_in}
 use Rattle.racks.specs.Places.{rack_at}
 use Rattle.racks.proofs.Racks.{base_most}
-use Rattle.racks.proofs.Loops.{ahead, held_first, held_none, held_one, held_done}
+use Rattle.racks.proofs.Loops.{held_first, held_none, held_one, held_done}
 use Rattle.racks.proofs.held_by.Goals as goal
 
 pub loop-k-init : goal.loop-k-init

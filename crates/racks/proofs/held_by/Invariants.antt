@@ -1,9 +1,9 @@
-use Prim.Native.Nat.{ℕ, ◌+◌, ◌-◌, ◌≤◌}
-use mathlib.Core.Path.{◌≡◌, sym, ap, ◌∙◌}
+use Prim.Native.Nat.{◌+◌, ◌-◌, ◌≤◌}
+use mathlib.Core.Path.{◌≡◌}
 use mathlib.Core.List.{[]}
 use Rattle.rooms.specs.Rooms.{held_in}
 use Rattle.racks.specs.Places.{rack_at}
-use Rattle.racks.proofs.Loops.{ahead, held_first, held_none, held_one, held_done}
+use Rattle.racks.proofs.Loops.{ahead}
 use Rattle.racks.proofs.held_by.Given as goal
 
 abbrev pub invariant-loop-k : goal.invariant-loop-k

@@ -1,10 +1,10 @@
+-- `racks::held_in` meets its contract. Assumes nothing.
 use mathlib.Core.Path.{◌∙◌}
 use native.Mathlib.Omega.{arith}
 use Rattle.racks.proofs.Racks.{base_most}
 use Rattle.racks.proofs.Slots.{held_past, held_here}
 use Rattle.racks.proofs.held_in.Goals as goal
 
--- `racks::held_in` meets its contract. Assumes nothing.
 pub returns-then-slot-ge-SLOTS : goal.returns-then-slot-ge-SLOTS
 returns-then-slot-ge-SLOTS c =
     held_past c.args.f c.args.slot c.args.board.places c.if-slot-ge-SLOTS.true

@@ -1,7 +1,7 @@
+-- `racks::in_place_lem` meets its contract. Assumes nothing.
 use borrow.Author.Tests.{le-leb, lt-leb}
 use Rattle.racks.proofs.in_place.Goals as goal
 
--- `racks::in_place_lem` meets its contract. Assumes nothing.
 pub returns-then-n-le-MOST_BYTES : goal.returns-then-n-le-MOST_BYTES
 returns-then-n-le-MOST_BYTES c =
     rw (le-leb _ _ c.if-n-le-MOST_BYTES.true)

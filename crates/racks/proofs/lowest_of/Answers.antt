@@ -1,11 +1,12 @@
-use Prim.Native.Nat.{ℕ, ◌+◌, ◌-◌, ◌≤◌}
-use mathlib.Core.Path.{◌≡◌, sym, ap, ◌∙◌}
+-- `racks::lowest_of` meets its contract. Assumes nothing.
+use Prim.Native.Nat.{ℕ}
+use mathlib.Core.Path.{sym, ap, ◌∙◌}
 use mathlib.Core.List.{[]}
 use native.Mathlib.Omega.{arith}
 use Rattle.rooms.specs.Rooms.{lowest}
 use Rattle.racks.specs.Places.{rack_at}
 use Rattle.racks.proofs.Racks.{base_most}
-use Rattle.racks.proofs.Loops.{ahead, lowest_first, lowest_here, lowest_on, lowest_done}
+use Rattle.racks.proofs.Loops.{lowest_first, lowest_here, lowest_on, lowest_done}
 use Rattle.racks.proofs.lowest_of.Goals as goal
 
 pub loop-k-init : goal.loop-k-init

@@ -1,9 +1,9 @@
-use Prim.Native.Nat.{ℕ, ◌+◌, ◌-◌, ◌≤◌}
-use mathlib.Core.Path.{◌≡◌, sym, ap, ◌∙◌}
+use Prim.Native.Nat.{◌+◌, ◌-◌, ◌≤◌}
+use mathlib.Core.Path.{◌≡◌}
 use mathlib.Core.List.{[]}
 use Rattle.rooms.specs.Rooms.{lowest}
 use Rattle.racks.specs.Places.{rack_at}
-use Rattle.racks.proofs.Loops.{ahead, lowest_first, lowest_here, lowest_on, lowest_done}
+use Rattle.racks.proofs.Loops.{ahead}
 use Rattle.racks.proofs.lowest_of.Given as goal
 
 abbrev pub invariant-loop-k : goal.invariant-loop-k

@@ -1,3 +1,4 @@
+-- `racks::part_of` meets its contract. Assumes nothing.
 use native.Mathlib.Omega.{arith}
 use Rattle.racks.proofs.Racks.{in_place_most}
 use Rattle.racks.proofs.Slots.{part_is}

@@ -1,3 +1,4 @@
+-- `racks::write_at` meets its contract. Assumes nothing.
 use Prim.Native.Nat.{◌*◌}
 use Rattle.text.proofs.Lent.{lent}
 use Rattle.racks.specs.Places.{written}

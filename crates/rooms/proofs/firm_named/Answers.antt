@@ -1,7 +1,7 @@
+-- `rooms::firm_named` meets its contract. Assumes nothing.
 use Rattle.rooms.proofs.Firms.{named_first, named_second, named_nobody}
 use Rattle.rooms.proofs.firm_named.Goals as goal
 
--- `rooms::firm_named` meets its contract. Assumes nothing.
 pub returns-then-n-eq1 : goal.returns-then-n-eq1
 returns-then-n-eq1 c =
     named_first _ c.if-n-eq1.true

@@ -1,7 +1,7 @@
+-- `rooms::has_room_lem` meets its contract. Assumes nothing.
 use Rattle.rooms.proofs.Racks.{below_six, none_shared, some_shared}
 use Rattle.rooms.proofs.has_room.Goals as goal
 
--- `rooms::has_room_lem` meets its contract. Assumes nothing.
 pub returns-then-held-lt-SURE : goal.returns-then-held-lt-SURE
 returns-then-held-lt-SURE c =
     below_six _ _ c.if-held-lt-SURE.true

@@ -1,3 +1,4 @@
+-- `route::changed` meets its contract. Assumes nothing.
 use mathlib.Core.Path.{sym, ◌∙◌}
 use Rattle.text.proofs.Index.{rest}
 use Rattle.route.proofs.Fronts.{no_change, change_behind}

@@ -1,9 +1,8 @@
-use mathlib.Core.Path.{◌≡◌, refl, sym, ◌∙◌}
-use Prim.Native.Nat.{ℕ, ◌+◌, ◌-◌, ◌≤◌, ◌<◌}
-use mathlib.Core.Bool.{Bool, true, false, ◌&&◌}
-use lib.ListN.{length, take, drop}
-use Rattle.text.specs.Words.{split, up_to, all, leading}
-use Rattle.route.specs.Field15.{word_fits, element_fits, route_fits}
+use mathlib.Core.Path.{◌≡◌}
+use Prim.Native.Nat.{◌-◌, ◌≤◌}
+use lib.ListN.{length, drop}
+use Rattle.text.specs.Words.{split}
+use Rattle.route.specs.Field15.{route_fits}
 use Rattle.route.proofs.elements.Given as goal
 
 abbrev pub invariant-loop-w : goal.invariant-loop-w

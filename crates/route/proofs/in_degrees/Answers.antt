@@ -1,3 +1,4 @@
+-- `route::in_degrees` meets its contract. Assumes nothing.
 use borrow.Author.Tests.{le-leb, lt-leb}
 use mathlib.Core.Path.{sym}
 use Rattle.route.proofs.in_degrees.Goals as goal

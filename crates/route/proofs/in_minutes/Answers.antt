@@ -1,3 +1,4 @@
+-- `route::in_minutes` meets its contract. Assumes nothing.
 use mathlib.Core.Path.{sym, ◌∙◌}
 use Rattle.route.proofs.in_minutes.Goals as goal
 

@@ -1,3 +1,4 @@
+-- `route::is_indicator` meets its contract. Assumes nothing.
 use mathlib.Core.Path.{◌≡◌, refl, sym, ◌∙◌}
 use mathlib.Core.Bool.{Bool, true, false, cond}
 use Rattle.alphabet.specs.Text.{bytes}
@@ -7,7 +8,6 @@ use Rattle.route.proofs.Points.{no_indicator}
 use Rattle.route.proofs.is_indicator.Goals.{After-same_bytes-2}
 use Rattle.route.proofs.is_indicator.Goals as goal
 
--- `route::is_indicator` meets its contract. Assumes nothing.
 alone : (b : Bool) → cond b true false ≡ b
 alone true = refl
 alone false = refl

@@ -1,3 +1,4 @@
+-- `route::level` meets its contract. Assumes nothing.
 use mathlib.Core.Path.{sym}
 use Rattle.route.proofs.Fronts.{no_level, level_whole}
 use Rattle.route.proofs.level.Goals as goal

@@ -1,10 +1,10 @@
+-- `route::name` meets its contract. Assumes nothing.
 use mathlib.Core.Path.{ap}
 use mathlib.Core.Bool.{not}
 use borrow.Author.Tests.{le-leb, lt-leb}
 use Rattle.route.specs.Points.{name_fits}
 use Rattle.route.proofs.name.Goals as goal
 
--- `route::name` meets its contract. Assumes nothing.
 pub returns-then-w-lt2 : goal.returns-then-w-lt2
 unfolding name_fits
 returns-then-w-lt2 c =

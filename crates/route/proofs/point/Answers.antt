@@ -1,3 +1,4 @@
+-- `route::point` meets its contract. Assumes nothing.
 use mathlib.Core.Path.{sym, ◌∙◌}
 use Rattle.route.proofs.Signs.{no_point}
 use Rattle.route.proofs.point.Goals as goal

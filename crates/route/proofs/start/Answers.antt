@@ -1,5 +1,6 @@
+-- `route::start` meets its contract. Assumes nothing.
 use mathlib.Core.Path.{◌≡◌, sym, ◌∙◌}
-use Prim.Native.Nat.{ℕ, ◌-◌}
+use Prim.Native.Nat.{◌-◌}
 use mathlib.Core.Bool.{true, cond}
 use lib.ListN.{length, take, drop}
 use Rattle.alphabet.specs.Text.{bytes}

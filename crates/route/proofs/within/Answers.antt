@@ -1,8 +1,8 @@
+-- `route::within` meets its contract. Assumes nothing.
 use borrow.Author.Tests.{le-leb, lt-leb, eq-eqb, ne_eqb}
 use Rattle.route.specs.Points.{within}
 use Rattle.route.proofs.within.Goals as goal
 
--- `route::within` meets its contract. Assumes nothing.
 pub returns-then-most-degrees : goal.returns-then-most-degrees
 unfolding within
 returns-then-most-degrees c =

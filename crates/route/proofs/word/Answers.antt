@@ -1,3 +1,4 @@
+-- `route::word` meets its contract. Assumes nothing.
 use mathlib.Core.Path.{sym, ◌∙◌}
 use Rattle.route.proofs.word.Goals as goal
 

@@ -1,7 +1,7 @@
-use mathlib.Core.Path.{◌≡◌, refl, sym, ◌∙◌}
-use Prim.Native.Nat.{◌-◌, ◌≤◌}
+-- `route_places::farthest_of` meets its contract. Assumes nothing.
+use mathlib.Core.Path.{refl, sym, ◌∙◌}
 use Rattle.text.specs.Words.{split}
-use Rattle.places.specs.Parts.{larger, along, farthest}
+use Rattle.places.specs.Parts.{along, farthest}
 use Rattle.places.proofs.Larger.{larger_first, largest_last, largest_next}
 use borrow.Author.Rules.{rules}
 use native.Mathlib.Omega.{arith}

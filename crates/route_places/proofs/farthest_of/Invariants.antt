@@ -1,8 +1,8 @@
-use mathlib.Core.Path.{◌≡◌, refl, sym, ◌∙◌}
+use mathlib.Core.Path.{◌≡◌}
 use Prim.Native.Nat.{◌-◌, ◌≤◌}
 use lib.ListN.{length, drop}
 use Rattle.text.specs.Words.{split}
-use Rattle.places.specs.Parts.{larger, along, farthest}
+use Rattle.places.specs.Parts.{larger, farthest}
 use Rattle.route_places.proofs.farthest_of.Given as goal
 
 abbrev pub invariant-loop-at : goal.invariant-loop-at

@@ -1,3 +1,4 @@
+-- `route_places::place_change` meets its contract. Assumes nothing.
 use mathlib.Core.Path.{◌∙◌}
 use Rattle.route_places.proofs.Index.{changes_far}
 use Rattle.route_places.proofs.place_change.Goals as goal

@@ -1,3 +1,4 @@
+-- `route_places::place_climbing` meets its contract. Assumes nothing.
 use mathlib.Core.Path.{◌∙◌}
 use Rattle.route_places.proofs.Index.{climbs_far}
 use Rattle.route_places.proofs.place_climbing.Goals as goal

@@ -1,3 +1,4 @@
+-- `route_places::place_element` meets its contract. Assumes nothing.
 use Rattle.places.proofs.Larger.{larger_up}
 use Rattle.route_places.specs.Places.{element_place}
 use Rattle.route_places.proofs.place_element.Goals as goal

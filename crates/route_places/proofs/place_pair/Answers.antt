@@ -1,3 +1,4 @@
+-- `route_places::place_pair` meets its contract. Assumes nothing.
 use mathlib.Core.Path.{sym, ◌∙◌}
 use Rattle.places.proofs.Index.{cut_none, cut_off, cut_on, behind_within}
 use lib.Seq.{length-take-le}

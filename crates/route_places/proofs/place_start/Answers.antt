@@ -1,3 +1,4 @@
+-- `route_places::place_start` meets its contract. Assumes nothing.
 use mathlib.Core.Path.{◌∙◌}
 use Rattle.route_places.proofs.Index.{starts_far}
 use Rattle.route_places.proofs.place_start.Goals as goal

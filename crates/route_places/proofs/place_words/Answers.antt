@@ -1,7 +1,8 @@
-use mathlib.Core.Path.{◌≡◌, refl, sym, ◌∙◌}
-use Prim.Native.Nat.{◌+◌, ◌-◌, ◌≤◌}
+-- `route_places::place_words` meets its contract. Assumes nothing.
+use mathlib.Core.Path.{refl, sym, ◌∙◌}
+use Prim.Native.Nat.{◌-◌}
 use mathlib.Core.Bool.{true, false}
-use lib.ListN.{length, take, drop}
+use lib.ListN.{take, drop}
 use Rattle.places.proofs.Index.{words_last, words_stuck, words_end, words_next}
 use Rattle.route_places.specs.Places.{route, word_place, route_place}
 use Rattle.places.proofs.Texts.{word_length}

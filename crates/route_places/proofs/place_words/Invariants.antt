@@ -1,10 +1,10 @@
-use mathlib.Core.Path.{◌≡◌, refl, sym, ◌∙◌}
+use mathlib.Core.Path.{◌≡◌}
 use Prim.Native.Nat.{◌+◌, ◌-◌, ◌≤◌}
-use mathlib.Core.Bool.{true, false}
-use lib.ListN.{length, take, drop}
+use mathlib.Core.Bool.{false}
+use lib.ListN.{length, drop}
 use Rattle.text.specs.Words.{split}
 use Rattle.places.specs.Words.{words_place}
-use Rattle.route_places.specs.Places.{route, word_place, route_place}
+use Rattle.route_places.specs.Places.{route, word_place}
 use Rattle.route_places.proofs.place_words.Given as goal
 
 abbrev pub invariant-loop-at : goal.invariant-loop-at

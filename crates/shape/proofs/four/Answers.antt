@@ -1,3 +1,4 @@
+-- `shape::four` meets its contract. Assumes nothing.
 use Rattle.shape.proofs.Numbers.{four_at}
 use native.Mathlib.Omega.{arith}
 use borrow.Author.Rules.{rules}

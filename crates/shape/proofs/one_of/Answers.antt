@@ -1,5 +1,5 @@
-use Prim.Native.Nat.{◌-◌, ◌≤◌}
-use mathlib.Core.Path.{◌≡◌, refl, sym, ◌∙◌}
+-- `shape::one_of` meets its contract. Assumes nothing.
+use mathlib.Core.Path.{sym, ◌∙◌}
 use Rattle.shape.proofs.Index.{one_found, one_next, one_end}
 use borrow.Author.Rules.{rules}
 use Rattle.shape.proofs.one_of.Goals as goal

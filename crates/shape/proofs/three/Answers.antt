@@ -1,3 +1,4 @@
+-- `shape::three` meets its contract. Assumes nothing.
 use native.Mathlib.Omega.{arith}
 use Rattle.shape.proofs.Numbers.{three_at}
 use borrow.Author.Rules.{rules}

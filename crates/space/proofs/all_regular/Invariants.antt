@@ -1,8 +1,8 @@
 use Prim.Native.Nat.{◌-◌, ◌<◌}
-use mathlib.Core.Path.{◌≡◌, refl, ◌∙◌}
+use mathlib.Core.Path.{◌≡◌}
 use mathlib.Core.Bool.{◌&&◌}
 use lib.ListN.{length, drop}
-use Rattle.space.specs.Stays.{regular, all_regular}
+use Rattle.space.specs.Stays.{all_regular}
 use Rattle.space.proofs.all_regular.Given as goal
 
 abbrev pub invariant-loop-i : goal.invariant-loop-i

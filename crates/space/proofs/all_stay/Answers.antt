@@ -1,5 +1,5 @@
-use Prim.Native.Nat.{ℕ, ◌-◌, ◌≤◌}
-use mathlib.Core.Path.{◌≡◌, refl, sym, ◌∙◌}
+-- `space::all_stay_lem` meets its contract. Assumes nothing.
+use mathlib.Core.Path.{sym, ◌∙◌}
 use Rattle.space.proofs.Stays.{stay_stop, stay_next, stay_end}
 use native.Mathlib.Omega.{arith}
 use Rattle.space.proofs.all_stay.Goals as goal

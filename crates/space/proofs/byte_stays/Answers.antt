@@ -1,3 +1,4 @@
+-- `space::byte_stays` meets its contract. Assumes nothing.
 use Rattle.space.proofs.Stays.{space_stays, other_stays}
 use Rattle.space.proofs.byte_stays.Goals as goal
 

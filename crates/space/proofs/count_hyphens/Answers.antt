@@ -1,6 +1,6 @@
-use Prim.Native.Nat.{ℕ, ◌+◌, ◌-◌, ◌≤◌}
+use Prim.Native.Nat.{◌+◌}
 use mathlib.Core.Path.{◌≡◌}
-use lib.ListN.{length, drop}
+use lib.ListN.{drop}
 use Rattle.space.specs.Hyphens.{hyphens}
 use Rattle.space.proofs.Index.{part_counted, rest_counted, hyphens_le}
 use native.Mathlib.Omega.{arith}

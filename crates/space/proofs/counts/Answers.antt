@@ -1,3 +1,4 @@
+-- `space::counts` meets its contract. Assumes nothing.
 use mathlib.Core.Path.{refl, sym, ap, ◌∙◌}
 use mathlib.Core.Bool.{false, not}
 use lib.Dec.{ltb}
@@ -6,7 +7,6 @@ use Rattle.text.proofs.Tests.{and_false}
 use native.Mathlib.Omega.{arith}
 use Rattle.space.proofs.counts.Goals as goal
 
--- `space::counts` meets its contract. Assumes nothing.
 pub returns-then-i-at : goal.returns-then-i-at
 returns-then-i-at c =
     rw (le-ltb c.args.at c.args.i (omega arith))

@@ -1,5 +1,4 @@
-use mathlib.Core.Path.{◌≡◌}
-use Prim.Native.Nat.{◌+◌, ◌-◌, ◌≤◌}
+-- `space::few_hyphens` meets its contract. Assumes nothing.
 use Rattle.space.proofs.Index.{hyphens_here, hyphens_next, hyphens_end}
 use native.Mathlib.Omega.{arith}
 use Rattle.space.proofs.few_hyphens.Goals as goal

@@ -1,8 +1,8 @@
+-- `space::is_opening` meets its contract. Assumes nothing.
 use Rattle.space.proofs.Index.{first_of_two, second_of_two}
 use Rattle.space.specs.Reduced.{opens}
 use Rattle.space.proofs.is_opening.Goals as goal
 
--- `space::is_opening` meets its contract. Assumes nothing.
 pub returns-then-b-eq40 : goal.returns-then-b-eq40
 unfolding opens
 returns-then-b-eq40 c =

@@ -1,5 +1,5 @@
-use Prim.Native.Nat.{ℕ, ◌-◌, ◌≤◌}
-use mathlib.Core.Path.{◌≡◌, refl, sym, ◌∙◌}
+-- `space::is_reduced` meets its contract. Assumes nothing.
+use mathlib.Core.Path.{sym, ◌∙◌}
 use Rattle.space.proofs.Stays.{stay_block, stay_rest}
 use native.Mathlib.Omega.{arith}
 use Rattle.space.proofs.is_reduced.Goals as goal

@@ -1,7 +1,7 @@
+-- `space::is_regular` meets its contract. Assumes nothing.
 use Rattle.space.proofs.Stays.{regular_is}
 use Rattle.space.proofs.is_regular.Goals as goal
 
--- `space::is_regular` meets its contract. Assumes nothing.
 pub returns : goal.returns
 returns c =
     regular_is c.args.b c.args.c

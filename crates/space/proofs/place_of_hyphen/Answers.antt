@@ -1,5 +1,5 @@
-use mathlib.Core.Path.{◌≡◌, sym}
-use Prim.Native.Nat.{◌+◌, ◌-◌, ◌≤◌}
+-- `space::place_of_hyphen` meets its contract. Assumes nothing.
+use mathlib.Core.Path.{sym}
 use Rattle.space.proofs.Index.{place_here, place_past, place_next, place_end, place_zero, place_some}
 use native.Mathlib.Omega.{arith}
 use Rattle.space.proofs.place_of_hyphen.Goals as goal

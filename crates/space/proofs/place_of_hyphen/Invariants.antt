@@ -1,5 +1,5 @@
 use lib.ListN.{length, drop}
-use mathlib.Core.Path.{◌≡◌, sym}
+use mathlib.Core.Path.{◌≡◌}
 use Prim.Native.Nat.{◌+◌, ◌-◌, ◌≤◌}
 use Rattle.space.specs.Hyphens.{up_to_hyphen}
 use Rattle.space.proofs.place_of_hyphen.Given as goal

@@ -1,3 +1,4 @@
+-- `space::place_sent` meets its contract. Assumes nothing.
 use Prim.Native.Nat.{ℕ, ◌+◌}
 use mathlib.Core.Path.{ap, ◌∙◌}
 use lib.ListN.{drop}

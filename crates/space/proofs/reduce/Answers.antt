@@ -1,6 +1,7 @@
-use Prim.Native.Nat.{◌+◌, ◌-◌}
+-- `space::reduce` meets its contract. Assumes nothing.
+use Prim.Native.Nat.{◌+◌}
 use mathlib.Core.Path.{sym, ◌∙◌}
-use Rattle.space.proofs.Part.{Partwise, parts_start, part_reduced, part_copied, parts_end}
+use Rattle.space.proofs.Part.{parts_start, part_reduced, part_copied, parts_end}
 use native.Mathlib.Omega.{arith}
 use Rattle.space.proofs.reduce.Goals as goal
 

@@ -1,7 +1,6 @@
-use Prim.Native.Nat.{◌+◌, ◌-◌}
-use mathlib.Core.Path.{sym, ◌∙◌}
+use Prim.Native.Nat.{◌-◌}
 use lib.ListN.{length}
-use Rattle.space.proofs.Part.{Partwise, parts_start, part_reduced, part_copied, parts_end}
+use Rattle.space.proofs.Part.{Partwise}
 use Rattle.space.proofs.reduce.Given as goal
 
 abbrev pub invariant-loop-i : goal.invariant-loop-i

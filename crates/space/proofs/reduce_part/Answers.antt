@@ -1,10 +1,11 @@
-use Prim.Native.Nat.{ℕ, ◌+◌, ◌-◌}
+-- `space::reduce_part` meets its contract. Assumes nothing.
+use Prim.Native.Nat.{◌+◌}
 use mathlib.Core.Path.{◌≡◌, sym, ◌∙◌}
 use lib.ListN.{drop}
 use lib.Seq.{length-take-le}
 use Rattle.space.specs.Reduced.{opens, stands_for_run}
 use Rattle.space.proofs.Index.{stands_behind}
-use Rattle.space.proofs.Part.{Bytewise, bytes_start, byte_stored, space_stored, white_out, bytes_end}
+use Rattle.space.proofs.Part.{bytes_start, byte_stored, space_stored, white_out, bytes_end}
 use native.Mathlib.Omega.{arith}
 use Rattle.space.proofs.reduce_part.Goals.{After-stands_for_run}
 use Rattle.space.proofs.reduce_part.Goals as goal

@@ -1,6 +1,5 @@
-use Prim.Native.Nat.{ℕ, ◌+◌, ◌-◌}
-use mathlib.Core.Path.{◌≡◌, sym, ◌∙◌}
-use Rattle.space.proofs.Part.{Bytewise, bytes_start, byte_stored, space_stored, white_out, bytes_end}
+use Prim.Native.Nat.{◌-◌}
+use Rattle.space.proofs.Part.{Bytewise}
 use Rattle.space.proofs.reduce_part.Given as goal
 
 abbrev pub invariant-loop-i : goal.invariant-loop-i

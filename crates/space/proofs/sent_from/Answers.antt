@@ -1,7 +1,8 @@
-use mathlib.Core.Path.{◌≡◌, sym, ap, ◌∙◌}
-use Prim.Native.Nat.{ℕ, ◌+◌, ◌-◌, ◌≤◌}
+-- `space::sent_from` meets its contract. Assumes nothing.
+use mathlib.Core.Path.{sym, ap, ◌∙◌}
+use Prim.Native.Nat.{ℕ, ◌+◌, ◌-◌}
 use mathlib.Core.Bool.{Bool, false}
-use lib.ListN.{length, drop}
+use lib.ListN.{drop}
 use Rattle.space.specs.Places.{sent_from, in_run}
 use Rattle.space.proofs.Places.{count_stop, count_next, count_skip, count_end, count_start}
 use borrow.Author.Rules.{rules}

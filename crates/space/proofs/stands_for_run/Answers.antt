@@ -1,8 +1,8 @@
+-- `space::stands_for_run` meets its contract. Assumes nothing.
 use native.Mathlib.Omega.{arith}
 use Rattle.space.proofs.Index.{stands_white, stands_closed, stands_open, stands_end}
 use Rattle.space.proofs.stands_for_run.Goals as goal
 
--- `space::stands_for_run` meets its contract. Assumes nothing.
 pub returns-then-behind-eq0 : goal.returns-then-behind-eq0
 returns-then-behind-eq0 c =
     stands_end _ _ c.if-behind-eq0.true

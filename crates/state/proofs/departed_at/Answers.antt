@@ -1,3 +1,4 @@
+-- `state::departed_at` meets its contract. Assumes nothing.
 use mathlib.Core.Path.{sym, ap}
 use Rattle.state.specs.State.{departure_of}
 use Rattle.state.proofs.departed_at.Goals as goal

@@ -1,3 +1,4 @@
+-- `state::is_sound_arrival` meets its contract. Assumes nothing.
 use Rattle.state.proofs.Laws.{first_fails, second_left}
 use Rattle.state.proofs.is_sound_arrival.Goals as goal
 

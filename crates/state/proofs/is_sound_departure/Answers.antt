@@ -1,3 +1,4 @@
+-- `state::is_sound_departure` meets its contract. Assumes nothing.
 use mathlib.Core.Path.{sym, ap, ◌∙◌}
 use Rattle.state.specs.State.{sound_departure}
 use Rattle.state.proofs.is_sound_departure.Goals as goal

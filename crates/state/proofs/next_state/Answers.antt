@@ -1,3 +1,4 @@
+-- `state::next_state` meets its contract. Assumes nothing.
 use mathlib.Core.Path.{sym, ap}
 use Rattle.state.specs.State.{next_state}
 use Rattle.state.proofs.next_state.Goals as goal

@@ -1,3 +1,4 @@
+-- `strip::date_differs` meets its contract. Assumes nothing.
 use mathlib.Core.Path.{◌≡◌, refl, sym, ap, ap₂, ◌∙◌}
 use mathlib.Core.Bool.{Bool, true, false, ◌&&◌, not}
 use lib.ListN.{length}
@@ -8,7 +9,6 @@ use Rattle.strip.specs.Updating.{compares_date, other_day}
 use Rattle.strip.proofs.date_differs.Goals.{After-date_word-ours, After-date_word-theirs}
 use Rattle.strip.proofs.date_differs.Goals as goal
 
--- `strip::date_differs` meets its contract. Assumes nothing.
 -- two dates, as the tests say
 ours-none : (b : Bool) (v w : Word) → null v ≡ true → false ≡ (b && other_day v w)
 ours-none true v w e = rw e

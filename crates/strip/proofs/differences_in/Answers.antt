@@ -1,6 +1,7 @@
+-- `strip::differences_in` meets its contract. Assumes nothing.
 use mathlib.Core.Path.{◌≡◌, ap₂, ◌∙◌}
 use mathlib.Core.Bool.{◌&&◌}
-use mathlib.Core.List.{List, []}
+use mathlib.Core.List.{[]}
 use lib.ListN.{take, get_or}
 use Rattle.text.specs.Words.{Word, split, before, same}
 use Rattle.dates.specs.Dates.{date_in}

@@ -1,3 +1,4 @@
+-- `strip::event_of` meets its contract. Assumes nothing.
 use Rattle.strip.proofs.event_of.Goals as goal
 
 pub returns-in-Changes : goal.returns-in-Changes

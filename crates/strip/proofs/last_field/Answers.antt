@@ -1,6 +1,6 @@
-use Prim.Native.Nat.{◌≤◌, ◌<◌, ◌-◌}
-use mathlib.Core.Path.{◌≡◌, refl}
-use lib.ListN.{length, drop}
+-- `strip::last_field` meets its contract. Assumes nothing.
+use Prim.Native.Nat.{◌<◌}
+use lib.ListN.{length}
 use Rattle.strip.proofs.Last.{last_here, last_next}
 use borrow.Author.Rules.{rules}
 use native.Mathlib.Omega.{arith}

@@ -1,3 +1,4 @@
+-- `strip::offer` meets its contract. Assumes nothing.
 use mathlib.Core.Path.{◌≡◌, sym, ap, ◌∙◌}
 use Rattle.text.specs.Words.{split}
 use Rattle.strip.specs.declared.Offered.TheVariants.{Says}

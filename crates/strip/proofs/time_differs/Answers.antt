@@ -1,3 +1,4 @@
+-- `strip::time_differs` meets its contract. Assumes nothing.
 use mathlib.Core.Path.{sym, ◌∙◌}
 use Rattle.strip.proofs.time_differs.Goals as goal
 

@@ -1,3 +1,4 @@
+-- `strip::time_in` meets its contract. Assumes nothing.
 use mathlib.Core.Path.{sym, ap, ◌∙◌}
 use Rattle.strip.specs.Updating.{time_of}
 use Rattle.strip.proofs.time_in.Goals as goal

@@ -1,3 +1,4 @@
+-- `supplement::first` meets its contract. Assumes nothing.
 use Rattle.supplement.specs.declared.Stage.TheVariants.{Endurance, Persons, Radio, Survival, Lights, Aircraft, Remarks, Pilot}
 use Rattle.shape.specs.Time.{elapsed_fits}
 use Rattle.shape.proofs.Times.{by_elapsed}

@@ -1,3 +1,4 @@
+-- `supplement::first_of_dinghies` meets its contract. Assumes nothing.
 use mathlib.Core.Path.{sym, ◌∙◌}
 use Rattle.supplement.proofs.first_of_dinghies.Goals as goal
 

@@ -1,9 +1,9 @@
-use Prim.Native.Nat.{◌+◌, ◌-◌, ◌≤◌}
-use mathlib.Core.Path.{◌≡◌, refl, sym, ap, ◌∙◌}
+use Prim.Native.Nat.{◌-◌, ◌≤◌}
+use mathlib.Core.Path.{◌≡◌}
 use lib.ListN.{length, drop}
 use Rattle.text.specs.Words.{split}
 use Rattle.supplement.specs.declared.Stage.TheVariants.{Start}
-use Rattle.supplement.specs.Walk.{walked, complete as complete_at}
+use Rattle.supplement.specs.Walk.{walked}
 use Rattle.supplement.proofs.fits_field19.Given as goal
 
 abbrev pub invariant-loop-stage : goal.invariant-loop-stage

@@ -1,9 +1,9 @@
+-- `supplement::is_colour` meets its contract. Assumes nothing.
 use mathlib.Core.Path.{sym, ◌∙◌}
 use lib.ListN.{length}
 use borrow.Author.Tests.{lt-leb, le-leb}
 use Rattle.supplement.proofs.is_colour.Goals as goal
 
--- `supplement::is_colour` meets its contract. Assumes nothing.
 pub returns-then-w-lt2 : goal.returns-then-w-lt2
 returns-then-w-lt2 c =
     let w = c.args.w.now in sym (rw (lt-leb 2 (length w) c.if-w-lt2.true))

@@ -1,9 +1,9 @@
+-- `supplement::is_count` meets its contract. Assumes nothing.
 use mathlib.Core.Path.{sym, ◌∙◌}
 use lib.ListN.{length}
 use borrow.Author.Tests.{lt-leb, le-leb}
 use Rattle.supplement.proofs.is_count.Goals as goal
 
--- `supplement::is_count` meets its contract. Assumes nothing.
 pub returns-then-w-lt1 : goal.returns-then-w-lt1
 returns-then-w-lt1 c =
     let w = c.args.w.now in sym (rw (lt-leb 1 (length w) c.if-w-lt1.true))

@@ -1,3 +1,4 @@
+-- `supplement::past` meets its contract. Assumes nothing.
 use mathlib.Core.Path.{refl, sym, ap}
 use mathlib.Core.List.{[], ◌∷◌}
 use Rattle.supplement.specs.declared.Stage.TheVariants.{Lights, JacketRadio, Number, Capacity, Colours, Pilot, Refused}

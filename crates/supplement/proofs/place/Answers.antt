@@ -1,9 +1,9 @@
+-- `supplement::place` meets its contract. Assumes nothing.
 use mathlib.Core.Path.{sym, ap}
 use Rattle.supplement.specs.Field19.{keyed, place as place_of}
 use Rattle.supplement.proofs.Steps.{no_letter}
 use Rattle.supplement.proofs.place.Goals as goal
 
--- `supplement::place` meets its contract. Assumes nothing.
 pub returns-in-69 : goal.returns-in-69
 unfolding keyed
 returns-in-69 c =

@@ -1,3 +1,4 @@
+-- `supplement::shade` meets its contract. Assumes nothing.
 use mathlib.Core.Path.{sym, ◌∙◌}
 use Rattle.supplement.proofs.shade.Goals as goal
 

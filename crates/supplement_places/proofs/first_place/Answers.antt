@@ -1,3 +1,4 @@
+-- `supplement_places::first_place` meets its contract. Assumes nothing.
 use mathlib.Core.Path.{sym, ap, ap₂, ◌∙◌}
 use mathlib.Core.Logic.{inl, inr}
 use Rattle.places.specs.Parts.{larger}

@@ -1,3 +1,4 @@
+-- `supplement_places::further_place` meets its contract. Assumes nothing.
 use mathlib.Core.Path.{refl, sym, ap, ◌∙◌}
 use mathlib.Core.List.{[], ◌∷◌}
 use Rattle.text.specs.Words.{leading}

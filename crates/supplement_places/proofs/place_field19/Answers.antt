@@ -1,8 +1,9 @@
-use Prim.Native.Nat.{◌+◌, ◌-◌, ◌≤◌}
-use mathlib.Core.Path.{◌≡◌, sym, ap, ◌∙◌}
+-- `supplement_places::place_field19` meets its contract. Assumes nothing.
+use Prim.Native.Nat.{◌+◌}
+use mathlib.Core.Path.{sym, ap, ◌∙◌}
 use native.Mathlib.Omega.{arith}
-use lib.ListN.{length, drop}
-use borrow.Author.Tests.{not-true, not-false}
+use lib.ListN.{drop}
+use borrow.Author.Tests.{not-false}
 use Rattle.text.specs.Words.{split}
 use Rattle.places.specs.Words.{words_place}
 use Rattle.places.proofs.Index.{words_last}

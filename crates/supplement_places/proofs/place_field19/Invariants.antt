@@ -1,9 +1,9 @@
 use Prim.Native.Nat.{◌+◌, ◌-◌, ◌≤◌}
-use mathlib.Core.Path.{◌≡◌, sym, ap, ◌∙◌}
+use mathlib.Core.Path.{◌≡◌}
 use lib.ListN.{length, drop}
 use Rattle.text.specs.Words.{split}
 use Rattle.places.specs.Words.{words_place}
-use Rattle.supplement_places.specs.Places.{word_place, stands as stands_at, walk, place19}
+use Rattle.supplement_places.specs.Places.{word_place, walk, place19}
 use Rattle.supplement_places.proofs.place_field19.Given as goal
 
 abbrev pub invariant-loop-w : goal.invariant-loop-w

@@ -1,3 +1,4 @@
+-- `supplement_places::word_place` meets its contract. Assumes nothing.
 use mathlib.Core.Path.{ap₂, ◌∙◌}
 use native.Mathlib.Omega.{arith}
 use Rattle.places.specs.Parts.{larger}

@@ -1,5 +1,5 @@
-use Prim.Native.Nat.{◌-◌, ◌≤◌}
-use mathlib.Core.Path.{◌≡◌, refl, sym, ◌∙◌}
+-- `text::all_of` meets its contract. Assumes nothing.
+use mathlib.Core.Path.{sym, ◌∙◌}
 use Rattle.text.specs.Kinds.{of_kind}
 use Rattle.text.proofs.Index.{all_stop, all_next, all_end}
 use borrow.Author.Rules.{rules}

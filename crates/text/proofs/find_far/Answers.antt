@@ -1,5 +1,5 @@
-use Prim.Native.Nat.{◌+◌, ◌-◌, ◌≤◌}
-use mathlib.Core.Path.{◌≡◌, sym, ◌∙◌}
+use Prim.Native.Nat.{◌+◌}
+use mathlib.Core.Path.{sym, ◌∙◌}
 use Rattle.text.proofs.Index.{find_part}
 use native.Mathlib.Omega.{arith}
 use Rattle.text.proofs.find_far.Goals as goal

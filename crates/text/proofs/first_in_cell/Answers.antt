@@ -1,3 +1,4 @@
+-- `text::first_in_cell` meets its contract. Assumes nothing.
 use mathlib.Core.Path.{sym}
 use Rattle.text.proofs.Index.{first_none, first_some}
 use Rattle.text.proofs.first_in_cell.Goals as goal

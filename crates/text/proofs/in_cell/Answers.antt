@@ -1,3 +1,4 @@
+-- `text::in_cell` meets its contract. Assumes nothing.
 use lib.Seq.{length-take-le}
 use mathlib.Core.Path.{sym, ap, ◌∙◌}
 use Rattle.text.specs.Words.{same}

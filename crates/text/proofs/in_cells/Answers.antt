@@ -1,3 +1,4 @@
+-- `text::in_cells` meets its contract. Assumes nothing.
 use Rattle.text.specs.Words.{cells}
 use mathlib.Core.Path.{ap, ◌∙◌}
 use Prim.Native.Nat.{ℕ}

@@ -1,3 +1,4 @@
+-- `text::in_list` meets its contract. Assumes nothing.
 use Rattle.text.specs.Words.{split}
 use mathlib.Core.Path.{ap, ◌∙◌}
 use Prim.Native.Nat.{ℕ}

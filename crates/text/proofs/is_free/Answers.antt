@@ -1,6 +1,5 @@
-use Prim.Native.Nat.{◌-◌}
-use mathlib.Core.Path.{◌≡◌, refl, ◌∙◌}
-use mathlib.Core.Bool.{◌&&◌, not}
+use mathlib.Core.Path.{◌∙◌}
+use mathlib.Core.Bool.{not}
 use lib.Dec.{eqb}
 use Rattle.text.proofs.Index.{gather_next, gather_end}
 use Rattle.text.proofs.is_free.Goals as goal

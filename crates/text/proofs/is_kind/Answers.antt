@@ -1,3 +1,4 @@
+-- `text::is_kind` meets its contract. Assumes nothing.
 use mathlib.Core.Path.{sym, ap, ◌∙◌}
 use Rattle.text.specs.Kinds.{of_kind}
 use Rattle.text.specs.declared.Kind.{Kind}

@@ -1,3 +1,4 @@
+-- `text::is_text_word` meets its contract. Assumes nothing.
 use Prim.Native.Nat.{◌<◌}
 use mathlib.Core.Path.{◌≡◌, refl, sym}
 use mathlib.Core.Bool.{false}
@@ -8,7 +9,6 @@ use Rattle.text.specs.Words.{Word, text_word}
 use Rattle.text.proofs.Tests.{some_length}
 use Rattle.text.proofs.is_text_word.Goals as goal
 
--- `text::is_text_word` meets its contract. Assumes nothing.
 none : (w : Word) → length w < 1 → text_word w ≡ false
 none [] h = refl
 none (x ∷ w) h = absurd (omega arith)

@@ -1,7 +1,8 @@
+-- `text::rank_behind` meets its contract. Assumes nothing.
 use Prim.Native.Nat.{ℕ, ◌+◌, ◌-◌, ◌*◌, ◌<◌, ◌≤◌}
-use mathlib.Core.Path.{◌≡◌, sym, ap, ◌∙◌}
-use lib.ListN.{length, drop}
-use Rattle.text.specs.Words.{rank_from, cells}
+use mathlib.Core.Path.{sym, ap, ◌∙◌}
+use lib.ListN.{length}
+use Rattle.text.specs.Words.{rank_from}
 use Rattle.text.proofs.Index.{cells_from, drop_cells, next_place, cell_inside, cells_over, cell_found, cell_next, no_cell}
 use borrow.Author.Rules.{rules}
 use native.Mathlib.Omega.{arith}

@@ -1,8 +1,8 @@
-use Prim.Native.Nat.{ℕ, ◌+◌, ◌-◌, ◌*◌, ◌<◌, ◌≤◌}
-use mathlib.Core.Path.{◌≡◌, sym, ap, ◌∙◌}
-use lib.ListN.{length, drop}
+use Prim.Native.Nat.{◌+◌, ◌-◌, ◌*◌}
+use mathlib.Core.Path.{◌≡◌}
+use lib.ListN.{drop}
 use Rattle.text.specs.Words.{rank_from, cells}
-use Rattle.text.proofs.Index.{cells_from, drop_cells, next_place, cell_inside, cells_over, cell_found, cell_next, no_cell}
+use Rattle.text.proofs.Index.{cells_from}
 use Rattle.text.proofs.rank_behind.Given as goal
 
 abbrev pub invariant-loop-k : goal.invariant-loop-k

@@ -1,5 +1,5 @@
-use Prim.Native.Nat.{◌+◌, ◌-◌, ◌≤◌}
-use mathlib.Core.Path.{◌≡◌, refl, sym, ◌∙◌}
+-- `text::rank_of` meets its contract. Assumes nothing.
+use mathlib.Core.Path.{sym, ◌∙◌}
 use Rattle.text.proofs.Index.{rank_found, rank_last, rank_next}
 use borrow.Author.Rules.{rules}
 use native.Mathlib.Omega.{arith}

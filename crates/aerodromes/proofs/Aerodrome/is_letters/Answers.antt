@@ -1,3 +1,4 @@
+-- `aerodromes::Aerodrome::is_letters` meets its contract. Assumes nothing.
 use Rattle.aerodromes.proofs.Index.{last_test}
 use mathlib.Core.Path.{sym, ◌∙◌}
 use Rattle.aerodromes.proofs.Aerodrome.is_letters.Goals as goal

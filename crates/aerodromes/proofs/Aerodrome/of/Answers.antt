@@ -1,3 +1,4 @@
+-- `aerodromes::Aerodrome::of` meets its contract. Assumes nothing.
 use Rattle.aerodromes.proofs.Aerodrome.of.Goals as goal
 
 pub returns : goal.returns

@@ -1,3 +1,4 @@
+-- `kinds::MessageType::form_at` meets its contract. Assumes nothing.
 use Rattle.kinds.proofs.MessageType.form_at.Goals as goal
 
 pub returns-then-j-lt-MOST_FIELDS : goal.returns-then-j-lt-MOST_FIELDS

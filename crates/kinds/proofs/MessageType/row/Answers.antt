@@ -1,3 +1,4 @@
+-- `kinds::MessageType::row` meets its contract. Assumes nothing.
 use mathlib.Core.Path.{refl}
 use Rattle.kinds.specs.Kinds.{forms_of, form_at, plan_forms, brief_forms, request_forms, supplement_forms}
 use Rattle.kinds.specs.declared.MessageType.TheVariants.{Fpl, Chg, Cnl, Dla, Dep, Rqp, Rqs, Spl}

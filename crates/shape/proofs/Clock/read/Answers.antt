@@ -1,3 +1,4 @@
+-- `shape::Clock::read` meets its contract. Assumes nothing.
 use mathlib.Core.Path.{sym, ◌∙◌}
 use Rattle.shape.specs.Time.{clock_hours}
 use Rattle.shape.proofs.Times.{counted}

@@ -1,3 +1,4 @@
+-- `shape::Elapsed::read` meets its contract. Assumes nothing.
 use mathlib.Core.Path.{sym, ◌∙◌}
 use Rattle.shape.specs.Time.{elapsed_hours}
 use Rattle.shape.proofs.Times.{counted}

@@ -1,3 +1,4 @@
+-- `state::Strip::is_sound` meets its contract. Assumes nothing.
 use mathlib.Core.Path.{sym, ap, ◌∙◌}
 use Rattle.state.specs.State.{sound_state}
 use Rattle.state.proofs.Strip.is_sound.Goals as goal

@@ -1,3 +1,4 @@
+-- `state::Strip::next` meets its contract. Assumes nothing.
 use mathlib.Core.Path.{ap}
 use Rattle.state.specs.declared.State.{State}
 use Rattle.state.specs.declared.Strip.{Strip}

@@ -1,3 +1,4 @@
+-- `text::Cursor::next` meets its contract. Assumes nothing.
 use Rattle.text.proofs.Index.{stepped, stepped_end}
 use borrow.Author.Rules.{rules}
 use Rattle.text.proofs.Cursor.next.Goals as goal

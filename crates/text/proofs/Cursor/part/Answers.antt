@@ -1,3 +1,4 @@
+-- `text::Cursor::part` meets its contract. Assumes nothing.
 use Rattle.text.proofs.Index.{piece}
 use Rattle.text.proofs.Cursor.part.Goals as goal
 
