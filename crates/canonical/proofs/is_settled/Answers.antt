@@ -11,4 +11,3 @@ use Rattle.canonical.proofs.is_settled.Goals as goal
 pub returns-in-Colours : goal.returns-in-Colours
 returns-in-Colours c =
     sym (among settled (λ s. true) (Colours ∷ (Aircraft ∷ (Remarks ∷ (Pilot ∷ [])))) c.args.stage c.in-Colours.in-Colours-own.keys1 refl)
-

@@ -11,4 +11,3 @@ use Rattle.supplement.proofs.complete.Goals as goal
 pub returns-in-Start : goal.returns-in-Start
 returns-in-Start c =
     sym (among complete_at (λ s. false) (Start ∷ (Number ∷ (Refused ∷ []))) c.args.stage c.in-Start.in-Start-own.keys1 refl)
-
