@@ -3,7 +3,6 @@
 //! `bench check` compares their answers. `bench times` measures the first beside each of the others, turn by turn in one run: how long each takes, and how
 //! many times as long.
 //! `bench sets` writes the inputs whose instructions are counted, for count.rs.
-#![cfg_attr(emulated, no_main)]
 
 #[path = "../examples/beechdoublet.rs"]
 mod beechdoublet;
@@ -204,18 +203,10 @@ fn run() -> bool {
     }
 }
 
-#[cfg(not(emulated))]
 fn main() -> std::process::ExitCode {
     if run() {
         std::process::ExitCode::SUCCESS
     } else {
         std::process::ExitCode::FAILURE
     }
-}
-
-/// The kit's emulator does not take the start of a Rust program, so there this one starts as a C program does.
-#[cfg(emulated)]
-#[no_mangle]
-extern "C" fn main() -> i32 {
-    i32::from(!run())
 }

@@ -2,7 +2,6 @@
 //!
 //! `count` lists the rows: table, name, how many inputs, their bytes, and the readers. `count ROW READER TIMES` answers the row's inputs so many times;
 //! before that one input, the same for all rows, so that what is done once only is done at 0 times too.
-#![cfg_attr(emulated, no_main)]
 
 #[path = "../examples/beechdoublet.rs"]
 mod beechdoublet;
@@ -36,16 +35,8 @@ fn run(words: &[String]) -> Option<()> {
     Some(())
 }
 
-#[cfg(not(emulated))]
 fn main() -> std::process::ExitCode {
     std::process::ExitCode::from(started())
-}
-
-/// The kit's emulator does not take the start of a Rust program, so there this one starts as a C program does.
-#[cfg(emulated)]
-#[no_mangle]
-extern "C" fn main() -> i32 {
-    i32::from(started())
 }
 
 fn started() -> u8 {

@@ -1,7 +1,6 @@
 //! Beechdoublet from Rust: reads messages, files a strip, keeps it up to date, says why it is not, asks for a field in force, shows fields and the
 //! parts of plans, and keeps a board for two firms.
 //! Every line that it writes stands in examples/expected.txt.
-#![cfg_attr(emulated, no_main)]
 
 mod beechdoublet;
 
@@ -315,7 +314,7 @@ fn filed(plan: &[u8]) -> Option<Strip> {
     Some(Strip { spelling: spelling.to_vec(), state: State::Filed.numbers() })
 }
 
-fn run() {
+fn main() {
     let Some(mut held) = filed(PLAN) else { return };
     show_readings();
     show_parts(&held);
@@ -325,17 +324,4 @@ fn run() {
     show_flight(&mut held);
     show_another_day();
     show_board();
-}
-
-#[cfg(not(emulated))]
-fn main() {
-    run();
-}
-
-/// The kit's emulator does not take the start of a Rust program, so there this one starts as a C program does.
-#[cfg(emulated)]
-#[no_mangle]
-extern "C" fn main() -> i32 {
-    run();
-    0
 }

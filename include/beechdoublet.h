@@ -2,7 +2,7 @@
  * Beechdoublet: reads air traffic messages, keeps a strip up to date and says why it is not, says where a field in force stands, tells the parts of a
  * message, and keeps one board of strips for two handlers.
  *
- * Link with target/staticlib/libbeechdoublet.a (x86-64 Linux; gcc or clang, C99 or C++11 and later). Each function of the library is proved to
+ * Link with crates/beechdoublet/out/libbeechdoublet.a (x86-64 Linux; gcc or clang, C99 or C++11 and later). Each function of the library is proved to
  * give the answer that its contract names; docs/GUIDE.md says what is proved and what the caller has to see to. In short:
  *
  * - A pointer that comes before a length points to that many bytes, and every other pointer to a whole structure of the type named. No pointer is
