@@ -1,6 +1,6 @@
 -- THE KEEPERS OF specs/Slips.antt DO NOT MEET WHAT IS ASKED, each shown by a run of toy strips. Assumes nothing.
 use Prim.Native.Nat.{ℕ, zero, ◌≤◌}
-use mathlib.Core.Path.{refl, ap}
+use mathlib.Core.Path.{◌≡◌, refl, ap}
 use mathlib.Core.List.{List, [], ◌∷◌, ◌++◌}
 use native.Mathlib.Omega.{arith}
 use lib.ListN.{replicate}
