@@ -19,7 +19,7 @@ use Rattle.message.specs.Ends.{start_in, EndAt, Ends, Noted}
 use Rattle.message.proofs.Walk.{Even}
 
 -- A TEXT has one field at least
-some_field : (s : List ℕ) → 0 < length (split 45 s)
+pub some_field : (s : List ℕ) → 0 < length (split 45 s)
 some_field s = omega (arith, ap length (split_cut 45 s))
 
 -- THE ENDS KNOWN
@@ -92,7 +92,7 @@ start_next ends j = rw (add-one j)
 
 -- THE ENDS GATHERED, up to a place i before which n are noted
 
-start_set : (ends : List ℕ) (j e i : ℕ) → i ≤ j → start_in (set ends j e) i ≡ start_in ends i
+pub start_set : (ends : List ℕ) (j e i : ℕ) → i ≤ j → start_in (set ends j e) i ≡ start_in ends i
 start_set ends j e zero h = refl
 start_set ends j e (suc i) h = ap (λ (x : ℕ). x + 1) (get_or-set_other ends j i e 0 (λ z. omega arith))
 

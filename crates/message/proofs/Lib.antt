@@ -4,6 +4,7 @@ pub mod Written
 pub mod Reached
 pub mod Walk
 pub mod Ends
+pub mod Gathered
 pub mod Writing
 pub mod Nth
 pub mod Steps
