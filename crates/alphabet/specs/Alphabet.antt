@@ -74,6 +74,7 @@ class_of b =
 
 -- EXAMPLES, computed
 
-inner_bytes_lem : (inner_bytes (bytes "CNL-ABC12 \r\n)") ≡ 12) × (inner_bytes (bytes "AB(C") ≡ 2) × (inner_bytes (bytes "A*)") ≡ 1) × (inner_bytes (bytes "/=") ≡ 2)
+inner_bytes_lem : (inner_bytes (bytes "CNL-ABC12 \r\n)") ≡ 12) × (inner_bytes (bytes "AB(C") ≡ 2) × (inner_bytes (bytes "A*)") ≡ 1)
+    × (inner_bytes (bytes "/=") ≡ 2)
 unfolding inner_byte in_alphabet white
 inner_bytes_lem = (refl, refl, refl, refl)

@@ -65,7 +65,8 @@ redirected : new_strip (role_of Chg) filed (bytes "CHG-ABC12-EHAM0930-EDDF-0-16/
 unfolding new_strip named_by labels four_letters
 redirected = refl
 
-delayed : new_strip (role_of Dla) filed (bytes "DLA-ABC12-EHAM1015-EDDF-0") ≡ bytes "(FPL-ABC12-IS-B738/M-SDFG/S-EHAM1015-N0440F310 DCT PAM DCT-EDDF0100 EDDK-0)"
+delayed : new_strip (role_of Dla) filed (bytes "DLA-ABC12-EHAM1015-EDDF-0")
+    ≡ bytes "(FPL-ABC12-IS-B738/M-SDFG/S-EHAM1015-N0440F310 DCT PAM DCT-EDDF0100 EDDK-0)"
 unfolding new_strip words_under
 delayed = refl
 
@@ -88,6 +89,7 @@ undated : new_strip (role_of Dla) filed18 (bytes "DLA-ABC12-EHAM1015-EDDF-RMK/LA
 unfolding new_strip words_under
 undated = refl
 
-departed : new_strip (role_of Dep) filed (bytes "DEP-ABC12-EHAM0941-EDDF-0") ≡ bytes "(FPL-ABC12-IS-B738/M-SDFG/S-EHAM0930-N0440F310 DCT PAM DCT-EDDF0100 EDDK-0)"
+departed : new_strip (role_of Dep) filed (bytes "DEP-ABC12-EHAM0941-EDDF-0")
+    ≡ bytes "(FPL-ABC12-IS-B738/M-SDFG/S-EHAM0930-N0440F310 DCT PAM DCT-EDDF0100 EDDK-0)"
 unfolding new_strip
 departed = refl

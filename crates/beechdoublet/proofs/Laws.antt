@@ -46,7 +46,8 @@ use Rattle.parts.specs.declared.Planned.TheVariants.{Parts, Refused as NoPlan}
 use Rattle.parts.specs.Parts.{taken_as, taken_of, span_at, numbers_in, rank_in, field_in, field_as as numbered_as, field_of, plan_of, planned_as, planned_of}
 use Rattle.handed.specs.declared.Handed.{Handed}
 use Rattle.handed.specs.declared.Handed.TheVariants.{Held, NoState}
-use Rattle.beechdoublet.specs.Numbers.{type_number, read_number, read_numbers, update_number, update_numbers, asked_number, asked_numbers, field_told, asked_whole}
+use Rattle.beechdoublet.specs.Numbers.{type_number, read_number, read_numbers, update_number, update_numbers, asked_number, asked_numbers, field_told}
+use Rattle.beechdoublet.specs.Numbers.{asked_whole}
 use Rattle.beechdoublet.specs.Numbers.{part_number, part_numbers, part_whole, date_numbers, parts_numbers, plan_number, plan_numbers}
 use Rattle.handed.specs.States.{byte_of, handed_as}
 use Rattle.handed.proofs.Laws.{state_one, handed_back}

@@ -19,7 +19,8 @@ use Rattle.history.specs.Demand3.Cause.{not_proper, not_read, not_fit, no_type, 
 use Rattle.history.proofs.Late.{late_plan}
 use Rattle.history.proofs.Demand3.{never_fifteen}
 use Rattle.rooms.specs.declared.Firm.{Firm}
-use Rattle.rooms.specs.Rooms.{firm_of, other, Call, Board, empty, stands, held_in, lowest, beyond, has_room, filed_as as filed_reply, updated_as, offered_at, said_to}
+use Rattle.rooms.specs.Rooms.{firm_of, other, Call, Board, empty, stands, held_in, lowest, beyond, has_room, filed_as as filed_reply, updated_as, offered_at}
+use Rattle.rooms.specs.Rooms.{said_to}
 use Rattle.rooms.specs.Rooms.Outcome.{takes, refuses}
 use Rattle.rooms.specs.Rooms.Act.{file, update}
 use Rattle.rooms.specs.Rooms.Reply.{no_room}

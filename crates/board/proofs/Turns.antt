@@ -22,7 +22,8 @@ use Rattle.strip.specs.Updating.{update_of, out_after as new_after}
 use Rattle.history.specs.Demand3.{Standing, filed_as as filed_strip}
 use Rattle.history.proofs.Causes.{accepted_fits}
 use Rattle.rooms.specs.declared.Firm.{Firm}
-use Rattle.rooms.specs.Rooms.{Outcome, firm_of, other, Act, Call, held_in, lowest, beyond, has_room, Said, filed_as, updated_as, offered_at, cleared_at, said_to}
+use Rattle.rooms.specs.Rooms.{Outcome, firm_of, other, Act, Call, held_in, lowest, beyond, has_room, Said, filed_as, updated_as, offered_at, cleared_at}
+use Rattle.rooms.specs.Rooms.{said_to}
 use Rattle.rooms.specs.Rooms.Outcome.{takes, refuses}
 use Rattle.rooms.specs.Rooms.Act.{file, update, clear}
 use Rattle.rooms.specs.Rooms.Reply.{filed, updated, cleared, refused, no_slot, no_room, not_over}

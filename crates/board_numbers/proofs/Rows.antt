@@ -149,7 +149,8 @@ all_read ps i ns l h e =
 -- A PLACE, by its ten numbers
 
 state_behind : (ns : List ℕ)
-    → state_of (get_or ns 1 0 ∷ get_or ns 2 0 ∷ get_or ns 3 0 ∷ get_or ns 4 0 ∷ get_or ns 5 0 ∷ get_or ns 6 0 ∷ get_or ns 7 0 ∷ get_or ns 8 0 ∷ []) ≡ state_of (drop 1 ns)
+    → state_of (get_or ns 1 0 ∷ get_or ns 2 0 ∷ get_or ns 3 0 ∷ get_or ns 4 0 ∷ get_or ns 5 0 ∷ get_or ns 6 0 ∷ get_or ns 7 0 ∷ get_or ns 8 0 ∷ [])
+    ≡ state_of (drop 1 ns)
 state_behind [] = refl
 state_behind (n ∷ ns) = refl
 

@@ -21,7 +21,8 @@ use Rattle.history.proofs.Causes.{Took, Verdict, verdict, accepted_fits}
 use Rattle.history.proofs.Demand3.{took_proper}
 use Rattle.handed.proofs.Laws.{state_meant}
 use Rattle.rooms.specs.declared.Firm.{Firm}
-use Rattle.rooms.specs.Rooms.{firm_of, other, Act, Call, held_in, lowest, beyond, has_room, Rack, Said, filed_as, updated_as, offered_at, cleared_at, reply, said_to}
+use Rattle.rooms.specs.Rooms.{firm_of, other, Act, Call, held_in, lowest, beyond, has_room, Rack, Said, filed_as, updated_as, offered_at, cleared_at, reply}
+use Rattle.rooms.specs.Rooms.{said_to}
 use Rattle.rooms.specs.Rooms.Outcome.{takes, refuses}
 use Rattle.rooms.specs.Rooms.Act.{file, update, clear}
 use Rattle.rooms.specs.Rooms.Reply.{filed, updated, cleared, refused, no_firm, no_slot, no_room, not_over}

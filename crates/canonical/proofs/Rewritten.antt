@@ -180,7 +180,8 @@ first_kept A w l e =
     chosen (text_word w) Aircraft (Writes w l (w ∷ l)) (both (text_word w) (all text_word l) e).0 (as_sent_lem Aircraft (λ v. refl) (λ v k. refl) w l)
 first_kept N w l e =
     chosen (text_word w) Remarks (Writes w l (w ∷ l)) (both (text_word w) (all text_word l) e).0 (as_sent_lem Remarks (λ v. refl) (λ v k. refl) w l)
-first_kept C w l e = chosen (text_word w) Pilot (Writes w l (w ∷ l)) (both (text_word w) (all text_word l) e).0 (as_sent_lem Pilot (λ v. refl) (λ v k. refl) w l)
+first_kept C w l e = chosen (text_word w) Pilot (Writes w l (w ∷ l)) (both (text_word w) (all text_word l) e).0
+    (as_sent_lem Pilot (λ v. refl) (λ v k. refl) w l)
 first_kept Other w l e = absurd (false≢true e)
 
 -- A WORD
@@ -203,7 +204,8 @@ module _ (stage : Stage) (w : Word) (g : Groups) where
   -- the item that w begins, as it is written
   abbrev item : List Word
   item =
-      opened (spell_key (key_of (canonical_part (part_of (keyed (before 47 w)) (behind 47 w ∷ g.0))))) (canonical_words (keyed (before 47 w)) (behind 47 w ∷ g.0))
+      opened (spell_key (key_of (canonical_part (part_of (keyed (before 47 w)) (behind 47 w ∷ g.0)))))
+      (canonical_words (keyed (before 47 w)) (behind 47 w ∷ g.0))
 
   -- the same, at a stage that w is read as
   abbrev Begins : Stage → Type 0

@@ -56,16 +56,19 @@ unfolding fits16plan joined four_letters time_fits fits_in base timed_word lette
 elapsed_hold = (refl, (refl, (refl, (refl, (refl, (refl, tt))))))
 
 messages_hold : AllHold of_messages
-unfolding answer_of place_of7 sent_place sent_from behind_hyphen time_place count_as fault_in spelling_of outer parens parens_from letters_from in_alphabet white
+unfolding answer_of place_of7 sent_place sent_from behind_hyphen time_place count_as fault_in spelling_of outer parens parens_from letters_from in_alphabet
+    white
     reduced reduced_from stands_for_run opens closes hyphens
-    up_to_hyphen place_of_hyphen type_named type_ranked types_read types forms_of brief_forms form_at fits3 numbers_fit fits7 four_letters joined time_fits fits_in
+    up_to_hyphen place_of_hyphen type_named type_ranked types_read types forms_of brief_forms form_at fits3 numbers_fit fits7 four_letters joined time_fits
+    fits_in
 messages_hold = ((refl, refl), (refl, (refl, (refl, (refl, tt)))))
 
 strips_hold : AllHold of_strips
 unfolding answer_of count_as fault_in spelling_of outer parens parens_from letters_from in_alphabet white text reduced reduced_from stands_for_run opens closes
     hyphens type_named type_ranked types_read types forms_of plan_forms brief_forms fits3 numbers_fit fits7 fits8 fits9 count_fits aircraft_fits fits10
     valid10 present fits16plan fits15 starts speeds levels speed_digits level_digits element_fits letters within radial_fits indicators name_fits
-    point_fits four_letters joined time_fits fits_in unexplained has_key labels fits22 fault22 canonical_plan opening_of offered_as new_strip update_of out_after front
+    point_fits four_letters joined time_fits fits_in unexplained has_key labels fits22 fault22 canonical_plan opening_of offered_as new_strip update_of
+    out_after front
     named_by named_at behind_hyphen type_as asked_of words_under
 strips_hold = ((refl, refl), (refl, (refl, tt)))
 
@@ -73,7 +76,8 @@ destinations_hold : AllHold of_destinations
 unfolding answer_of count_as fault_in spelling_of outer parens parens_from letters_from in_alphabet white text reduced reduced_from stands_for_run opens closes
     hyphens type_named type_ranked types_read types forms_of plan_forms brief_forms fits3 numbers_fit fits7 fits8 fits9 count_fits aircraft_fits fits10
     valid10 present fits16plan fits15 starts speeds levels speed_digits level_digits element_fits letters within radial_fits indicators name_fits
-    point_fits four_letters joined time_fits fits_in unexplained has_key labels fits22 fault22 canonical_plan opening_of offered_as new_strip update_of out_after front
+    point_fits four_letters joined time_fits fits_in unexplained has_key labels fits22 fault22 canonical_plan opening_of offered_as new_strip update_of
+    out_after front
     named_by named_at behind_hyphen type_as asked_of words_under form_at place_of_hyphen up_to_hyphen
 destinations_hold = (refl, (refl, (refl, ((refl, refl), (refl, ((refl, refl), (refl, (refl, (refl, tt)))))))))
 
@@ -81,7 +85,8 @@ dates_hold : AllHold OfDates
 unfolding answer_of count_as fault_in spelling_of outer parens parens_from letters_from in_alphabet white text reduced reduced_from stands_for_run opens closes
     hyphens type_named type_ranked types_read types forms_of plan_forms brief_forms fits3 numbers_fit fits7 fits8 fits9 count_fits aircraft_fits fits10
     valid10 present fits16plan fits15 starts speeds levels speed_digits level_digits element_fits letters within radial_fits indicators name_fits
-    point_fits four_letters joined time_fits fits_in unexplained has_key labels fits22 fault22 canonical_plan opening_of offered_as new_strip update_of out_after front
+    point_fits four_letters joined time_fits fits_in unexplained has_key labels fits22 fault22 canonical_plan opening_of offered_as new_strip update_of
+    out_after front
     named_by named_at behind_hyphen type_as asked_of words_under with_date keys_behind base date days_in
 dates_hold = ((refl, refl), ((refl, refl), ((refl, refl), (refl, ((refl, refl), (refl, tt))))))
 

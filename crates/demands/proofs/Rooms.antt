@@ -142,5 +142,6 @@ update_tight : update_of filed just_filed (bytes "(CHG-ABC12-EHAM0930-EDDF-0-9/2
 unfolding answer_of count_as fault_in spelling_of outer parens parens_from letters_from in_alphabet white text reduced reduced_from stands_for_run opens closes
     hyphens type_named type_ranked types_read types forms_of plan_forms brief_forms fits3 numbers_fit fits7 fits8 fits9 count_fits aircraft_fits fits10
     valid10 present fits16plan fits15 starts speeds levels speed_digits level_digits element_fits letters within radial_fits indicators name_fits
-    point_fits four_letters joined time_fits fits_in unexplained has_key words_under labels fits22 fault22 canonical_plan opening_of offered_as new_strip update_of named_by
+    point_fits four_letters joined time_fits fits_in unexplained has_key words_under labels fits22 fault22 canonical_plan opening_of offered_as new_strip
+    update_of named_by
 update_tight = refl

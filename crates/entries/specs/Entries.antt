@@ -42,6 +42,7 @@ few =
     record { label = bytes "8"; fits = null; place = no_more }
     ∷ (record { label = bytes "16"; fits = null; place = no_more } ∷ (record { label = bytes "18"; fits = null; place = no_more } ∷ []))
 
-tried : (entries_place few (bytes "8/X") ≡ 2) × (entries_place few (bytes "8X") ≡ 1) × (entries_place few (bytes "18/X") ≡ 3) × (entries_place few (bytes "1/") ≡ 1)
+tried : (entries_place few (bytes "8/X") ≡ 2) × (entries_place few (bytes "8X") ≡ 1) × (entries_place few (bytes "18/X") ≡ 3)
+    × (entries_place few (bytes "1/") ≡ 1)
     × (entries_place few (bytes "17/") ≡ 1) × (entries_place few (bytes "9/") ≡ 0) × (entries_place few (bytes "8") ≡ 1) × (entries_place few (bytes "") ≡ 0)
 tried = (refl, refl, refl, refl, refl, refl, refl, refl)

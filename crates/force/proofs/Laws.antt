@@ -75,7 +75,8 @@ length_replaced cs [] = refl
 length_replaced cs (e ∷ es) = length_replaced (replaced cs e) es ∙ length-set cs (which_of e) (put_in (which_of e) (behind 47 e) (get_or cs (which_of e) []))
 
 -- a field after one entry: what the entry makes of it where it names it, otherwise as it was
-replaced_here : (cs : List Word) (e : Word) → length cs ≡ 9 → get_or (replaced cs e) (which_of e) [] ≡ put_in (which_of e) (behind 47 e) (get_or cs (which_of e) [])
+replaced_here : (cs : List Word) (e : Word) → length cs ≡ 9 → get_or (replaced cs e) (which_of e) [] ≡ put_in (which_of e) (behind 47 e)
+    (get_or cs (which_of e) [])
 replaced_here cs e l =
     get_or-set_same cs (which_of e) (put_in (which_of e) (behind 47 e) (get_or cs (which_of e) [])) [] (omega (arith, rank_most (before 47 e)))
 

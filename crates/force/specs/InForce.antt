@@ -1,7 +1,8 @@
 -- The fields in force (document 01, "The strip"): what a CHG has in place of a plan's fields, where it stands, and what its entries make of the plan.
 -- A plan and a CHG are given by their texts, which stand between the parentheses. The fields that an entry can name have ranks 1 to 8, and the plan's
 -- field of rank k is its k-th, counted from 0: the field of rank 0 is field 3, which no entry names. Assumes nothing.
-use Rattle.std.specs.Prelude.{ℕ, zero, suc, ◌+◌, ◌-◌, ◌≤◌, ◌≡◌, refl, Bool, true, false, ◌&&◌, cond, List, [], ◌∷◌, ◌++◌, map, ltb, eqb, length, take, drop, get_or, set}
+use Rattle.std.specs.Prelude.{ℕ, zero, suc, ◌+◌, ◌-◌, ◌≤◌, ◌≡◌, refl, Bool, true, false, ◌&&◌, cond, List, [], ◌∷◌, ◌++◌, map, ltb, eqb, length, take, drop}
+use Rattle.std.specs.Prelude.{get_or, set}
 use Rattle.std.proofs.Math.Option
 use Rattle.std.proofs.Math.Option.{Option, none, some}
 use Rattle.alphabet.specs.Text.{bytes}
@@ -137,11 +138,13 @@ unfolding named_by labels four_letters
 new_destination = refl
 
 -- one entry after the other gives the same
-one_by_one : (replaced_by (split 45 plan) (entries_of chg) ≡ amended_by plan chg) × (replaced_by (split 45 plan) (entries_of rerouted) ≡ amended_by plan rerouted)
+one_by_one : (replaced_by (split 45 plan) (entries_of chg) ≡ amended_by plan chg)
+    × (replaced_by (split 45 plan) (entries_of rerouted) ≡ amended_by plan rerouted)
 unfolding named_by labels four_letters
 one_by_one = (refl, refl)
 
-in_force_lem : (in_force plan chg 3 ≡ bytes "B39M/M") × (in_force plan chg 4 ≡ bytes "SDFG/S") × (in_force plan chg 0 ≡ bytes "FPL") × (in_force plan chg 9 ≡ [])
+in_force_lem : (in_force plan chg 3 ≡ bytes "B39M/M") × (in_force plan chg 4 ≡ bytes "SDFG/S") × (in_force plan chg 0 ≡ bytes "FPL")
+    × (in_force plan chg 9 ≡ [])
 unfolding named_by labels
 in_force_lem = (refl, refl, refl, refl)
 

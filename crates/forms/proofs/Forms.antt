@@ -113,7 +113,8 @@ fault_number again f s = go (is_entry f) ((field_of f).fits s)
 
 -- WHAT IS WRITTEN of a content that fits is the spelling of its canonical record
 
-pub written_canonical : (f : Form) (s : List ℕ) → (field_of f).fits s ≡ true → written_of f s ≡ (field_of f).spell ((field_of f).canonical ((field_of f).record_of s))
+pub written_canonical : (f : Form) (s : List ℕ) → (field_of f).fits s ≡ true → written_of f s
+    ≡ (field_of f).spell ((field_of f).canonical ((field_of f).record_of s))
 written_canonical Field3 s e = sym (fits_spelling field3 field3_laws s e).1
 written_canonical Field7 s e = sym (fits_spelling field7 field7_laws s e).1
 written_canonical Field8 s e = sym (fits_spelling field8 field8_laws s e).1

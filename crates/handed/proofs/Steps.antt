@@ -47,7 +47,8 @@ module _ (ns xs : List ℕ) (s : State) (b : Bool) (es : s ≡ state_of ns) (ex 
 -- A STATE, by the row of its numbers
 
 pub state_laid : (s : State) (ns : List ℕ) → ns ≡ state_numbers s
-    → get_or ns 0 0 ∷ (get_or ns 1 0 ∷ (get_or ns 2 0 ∷ (get_or ns 3 0 ∷ (get_or ns 4 0 ∷ (get_or ns 5 0 ∷ (get_or ns 6 0 ∷ (get_or ns 7 0 ∷ []))))))) ≡ state_numbers s
+    → get_or ns 0 0 ∷ (get_or ns 1 0 ∷ (get_or ns 2 0 ∷ (get_or ns 3 0 ∷ (get_or ns 4 0 ∷ (get_or ns 5 0 ∷ (get_or ns 6 0 ∷ (get_or ns 7 0 ∷ [])))))))
+    ≡ state_numbers s
 state_laid Filed ns e = rw e
 state_laid (Departed t) ns e = rw e
 state_laid (Arrived (Off d) a t) ns e = rw e

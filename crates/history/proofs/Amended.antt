@@ -331,11 +331,13 @@ module _ (cs ds : List Word) (f : Fitting Fpl 9 cs) where
   changed_fit : all fits22 (drop first_entry ds) ≡ true → (i : ℕ) → i < 9 → (get_or plan_fields i field18).fits (after Changes cs ds i) ≡ true
   changed_fit a zero l = plan_fit cs f 0 l
   changed_fit a (suc i) l =
-      ap (λ (b : Bool). (get_or plan_fields (suc i) field18).fits (changed_by (suc i) (cond b none (lookup (suc i) (drop first_entry ds))) (get_or cs (suc i) [])))
+      ap (λ (b : Bool). (get_or plan_fields (suc i) field18).fits (changed_by (suc i) (cond b none (lookup (suc i) (drop first_entry ds)))
+      (get_or cs (suc i) [])))
       (ne_eqb (suc i) 0 (λ z. omega arith))
       ∙ go (lookup (suc i) (drop first_entry ds)) refl
     where
-      go : (o : Option Word) → lookup (suc i) (drop first_entry ds) ≡ o → (get_or plan_fields (suc i) field18).fits (changed_by (suc i) o (get_or cs (suc i) [])) ≡ true
+      go : (o : Option Word) → lookup (suc i) (drop first_entry ds) ≡ o → (get_or plan_fields (suc i) field18).fits
+          (changed_by (suc i) o (get_or cs (suc i) [])) ≡ true
       go none q = plan_fit cs f (suc i) l
       go (some w) q =
           let z : suc i - 1 ≡ i = omega arith in
@@ -353,7 +355,8 @@ module _ (cs ds : List Word) (f : Fitting Fpl 9 cs) where
       date_in_lem : ℕ → Word
       date_in_lem k = dated_by (date_in (get_or ds brief18 [])) (get_or cs k [])
 
-      go : (b : Bool) → eqb i 5 ≡ b → (d : Bool) → eqb i 8 ≡ d → (get_or plan_fields i field18).fits (cond b (time i) (cond d (date_in_lem i) (get_or cs i []))) ≡ true
+      go : (b : Bool) → eqb i 5 ≡ b → (d : Bool) → eqb i 8 ≡ d → (get_or plan_fields i field18).fits
+          (cond b (time i) (cond d (date_in_lem i) (get_or cs i []))) ≡ true
       go true q d r =
           subst (λ (k : ℕ). (get_or plan_fields k field18).fits (time k) ≡ true) (sym (eqb-true i 5 q))
           (retimed_fits (get_or cs plan13 []) (get_or ds brief13 []) thirteen a)

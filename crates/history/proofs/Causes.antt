@@ -280,7 +280,8 @@ too_date Files v w e = refl
 too_date Neither v w e = refl
 
 -- as the two accounts look them up
-day_told : (role : Role) (c d : Word) → (compares_date role && other_day (date_told c) (date_told d)) ≡ (compares_date role && other_day (date_in c) (date_in d))
+day_told : (role : Role) (c d : Word) → (compares_date role && other_day (date_told c) (date_told d))
+    ≡ (compares_date role && other_day (date_in c) (date_in d))
 day_told role c d = ap₂ (λ (v w : Word). compares_date role && other_day v w) (date_told_lem c) (date_told_lem d)
 
 same_told : (t : MessageType) (cs ds : List Word) → differs (differences (role_of t) cs ds) ≡ false → Same (plan_in cs) (record { type = t; fields = ds })

@@ -91,7 +91,8 @@ change_taken : accepts (update_of (filed_as filing).strip just_filed change 75) 
 unfolding answer_of count_as fault_in spelling_of outer parens parens_from letters_from in_alphabet white text reduced reduced_from stands_for_run opens closes
     hyphens type_named type_ranked types_read types forms_of plan_forms brief_forms fits3 numbers_fit fits7 fits8 fits9 count_fits aircraft_fits fits10
     valid10 present fits16plan fits15 starts speeds levels speed_digits level_digits element_fits letters within radial_fits indicators name_fits
-    point_fits four_letters joined time_fits fits_in unexplained has_key labels fits22 fault22 canonical_plan opening_of offered_as update_of named_by new_strip out_after
+    point_fits four_letters joined time_fits fits_in unexplained has_key labels fits22 fault22 canonical_plan opening_of offered_as update_of named_by
+    new_strip out_after
     front words_under date_told other_items eighteen
 change_taken = refl
 
@@ -106,7 +107,8 @@ nothing_left : get_or (offered_all does_nothing (filed_as filing) (changing ∷ 
 unfolding answer_of count_as fault_in spelling_of outer parens parens_from letters_from in_alphabet white text reduced reduced_from stands_for_run opens closes
     hyphens type_named type_ranked types_read types forms_of plan_forms brief_forms fits3 numbers_fit fits7 fits8 fits9 count_fits aircraft_fits fits10
     valid10 present fits16plan fits15 starts speeds levels speed_digits level_digits element_fits letters within radial_fits indicators name_fits
-    point_fits four_letters joined time_fits fits_in unexplained has_key labels fits22 fault22 canonical_plan opening_of offered_as update_of named_by new_strip out_after
+    point_fits four_letters joined time_fits fits_in unexplained has_key labels fits22 fault22 canonical_plan opening_of offered_as update_of named_by
+    new_strip out_after
     front words_under date_told other_items eighteen
 nothing_left = refl
 
@@ -122,7 +124,8 @@ copied_byte : (get_or (offered_all copies (filed_as filing) (changing ∷ [])).s
 unfolding answer_of count_as fault_in spelling_of outer parens parens_from letters_from in_alphabet white text reduced reduced_from stands_for_run opens closes
     hyphens type_named type_ranked types_read types forms_of plan_forms brief_forms fits3 numbers_fit fits7 fits8 fits9 count_fits aircraft_fits fits10
     valid10 present fits16plan fits15 starts speeds levels speed_digits level_digits element_fits letters within radial_fits indicators name_fits
-    point_fits four_letters joined time_fits fits_in unexplained has_key labels fits22 fault22 canonical_plan opening_of offered_as update_of named_by new_strip out_after
+    point_fits four_letters joined time_fits fits_in unexplained has_key labels fits22 fault22 canonical_plan opening_of offered_as update_of named_by
+    new_strip out_after
     front words_under date_told other_items eighteen
 copied_byte = (refl, refl)
 
@@ -139,7 +142,8 @@ entry_byte : (get_or (offered_all first_entry (filed_as filing) (changing ∷ []
 unfolding answer_of count_as fault_in spelling_of outer parens parens_from letters_from in_alphabet white text reduced reduced_from stands_for_run opens closes
     hyphens type_named type_ranked types_read types forms_of plan_forms brief_forms fits3 numbers_fit fits7 fits8 fits9 count_fits aircraft_fits fits10
     valid10 present fits16plan fits15 starts speeds levels speed_digits level_digits element_fits letters within radial_fits indicators name_fits
-    point_fits four_letters joined time_fits fits_in unexplained has_key labels fits22 fault22 canonical_plan opening_of offered_as update_of named_by new_strip out_after
+    point_fits four_letters joined time_fits fits_in unexplained has_key labels fits22 fault22 canonical_plan opening_of offered_as update_of named_by
+    new_strip out_after
     front words_under date_told other_items eighteen
 entry_byte = (refl, refl)
 
@@ -156,7 +160,8 @@ message_byte : (get_or (offered_all (first_message filing) (filed_as filing) (ch
 unfolding answer_of count_as fault_in spelling_of outer parens parens_from letters_from in_alphabet white text reduced reduced_from stands_for_run opens closes
     hyphens type_named type_ranked types_read types forms_of plan_forms brief_forms fits3 numbers_fit fits7 fits8 fits9 count_fits aircraft_fits fits10
     valid10 present fits16plan fits15 starts speeds levels speed_digits level_digits element_fits letters within radial_fits indicators name_fits
-    point_fits four_letters joined time_fits fits_in unexplained has_key labels fits22 fault22 canonical_plan opening_of offered_as update_of named_by new_strip out_after
+    point_fits four_letters joined time_fits fits_in unexplained has_key labels fits22 fault22 canonical_plan opening_of offered_as update_of named_by
+    new_strip out_after
     front words_under date_told other_items eighteen
 message_byte = (refl, refl)
 
@@ -176,7 +181,8 @@ retiming_taken : (accepts (update_of (filed_as filing).strip just_filed retiming
 unfolding answer_of count_as fault_in spelling_of outer parens parens_from letters_from in_alphabet white text reduced reduced_from stands_for_run opens closes
     hyphens type_named type_ranked types_read types forms_of plan_forms brief_forms fits3 numbers_fit fits7 fits8 fits9 count_fits aircraft_fits fits10
     valid10 present fits16plan fits15 starts speeds levels speed_digits level_digits element_fits letters within radial_fits indicators name_fits
-    point_fits four_letters joined time_fits fits_in unexplained has_key labels fits22 fault22 canonical_plan opening_of offered_as update_of named_by new_strip out_after
+    point_fits four_letters joined time_fits fits_in unexplained has_key labels fits22 fault22 canonical_plan opening_of offered_as update_of named_by
+    new_strip out_after
     front words_under date_told other_items eighteen
 retiming_taken = (refl, refl)
 
@@ -195,7 +201,8 @@ time_byte : (get_or (offered_all dep_overwrites (filed_as filing) (departing ∷
 unfolding answer_of count_as fault_in spelling_of outer parens parens_from letters_from in_alphabet white text reduced reduced_from stands_for_run opens closes
     hyphens type_named type_ranked types_read types forms_of plan_forms brief_forms fits3 numbers_fit fits7 fits8 fits9 count_fits aircraft_fits fits10
     valid10 present fits16plan fits15 starts speeds levels speed_digits level_digits element_fits letters within radial_fits indicators name_fits
-    point_fits four_letters joined time_fits fits_in unexplained has_key labels fits22 fault22 canonical_plan opening_of offered_as update_of named_by new_strip out_after
+    point_fits four_letters joined time_fits fits_in unexplained has_key labels fits22 fault22 canonical_plan opening_of offered_as update_of named_by
+    new_strip out_after
     front words_under date_told other_items eighteen
 time_byte = (refl, refl)
 
@@ -215,7 +222,8 @@ found_byte : (get_or (offered_all searches (filed_as filing) (rerouting ∷ []))
 unfolding answer_of count_as fault_in spelling_of outer parens parens_from letters_from in_alphabet white text reduced reduced_from stands_for_run opens closes
     hyphens type_named type_ranked types_read types forms_of plan_forms brief_forms fits3 numbers_fit fits7 fits8 fits9 count_fits aircraft_fits fits10
     valid10 present fits16plan fits15 starts speeds levels speed_digits level_digits element_fits letters within radial_fits indicators name_fits
-    point_fits four_letters joined time_fits fits_in unexplained has_key labels fits22 fault22 canonical_plan opening_of offered_as update_of named_by new_strip out_after
+    point_fits four_letters joined time_fits fits_in unexplained has_key labels fits22 fault22 canonical_plan opening_of offered_as update_of named_by
+    new_strip out_after
     front words_under date_told other_items eighteen
     pair_fits changes
 found_byte = (refl, refl)
@@ -238,7 +246,8 @@ dropped_byte : (get_or (offered_all drops_alternates (filed_as filing) (divertin
 unfolding answer_of count_as fault_in spelling_of outer parens parens_from letters_from in_alphabet white text reduced reduced_from stands_for_run opens closes
     hyphens type_named type_ranked types_read types forms_of plan_forms brief_forms fits3 numbers_fit fits7 fits8 fits9 count_fits aircraft_fits fits10
     valid10 present fits16plan fits15 starts speeds levels speed_digits level_digits element_fits letters within radial_fits indicators name_fits
-    point_fits four_letters joined time_fits fits_in unexplained has_key labels fits22 fault22 canonical_plan opening_of offered_as update_of named_by new_strip out_after
+    point_fits four_letters joined time_fits fits_in unexplained has_key labels fits22 fault22 canonical_plan opening_of offered_as update_of named_by
+    new_strip out_after
     front words_under date_told other_items eighteen
 dropped_byte = (refl, refl)
 
@@ -255,7 +264,8 @@ ignored_byte : (get_or (offered_all ignores_bare (filed_as filing) (diverting �
 unfolding answer_of count_as fault_in spelling_of outer parens parens_from letters_from in_alphabet white text reduced reduced_from stands_for_run opens closes
     hyphens type_named type_ranked types_read types forms_of plan_forms brief_forms fits3 numbers_fit fits7 fits8 fits9 count_fits aircraft_fits fits10
     valid10 present fits16plan fits15 starts speeds levels speed_digits level_digits element_fits letters within radial_fits indicators name_fits
-    point_fits four_letters joined time_fits fits_in unexplained has_key labels fits22 fault22 canonical_plan opening_of offered_as update_of named_by new_strip out_after
+    point_fits four_letters joined time_fits fits_in unexplained has_key labels fits22 fault22 canonical_plan opening_of offered_as update_of named_by
+    new_strip out_after
     front words_under date_told other_items eighteen
 ignored_byte = (refl, refl)
 
@@ -277,7 +287,8 @@ late_taken : (accepts (update_of (filed_as dated_filing).strip just_filed late.b
 unfolding answer_of count_as fault_in spelling_of outer parens parens_from letters_from in_alphabet white text reduced reduced_from stands_for_run opens closes
     hyphens type_named type_ranked types_read types forms_of plan_forms brief_forms fits3 numbers_fit fits7 fits8 fits9 count_fits aircraft_fits fits10
     valid10 present fits16plan fits15 starts speeds levels speed_digits level_digits element_fits letters within radial_fits indicators name_fits
-    point_fits four_letters joined time_fits fits_in unexplained has_key labels fits22 fault22 canonical_plan opening_of offered_as update_of named_by new_strip out_after
+    point_fits four_letters joined time_fits fits_in unexplained has_key labels fits22 fault22 canonical_plan opening_of offered_as update_of named_by
+    new_strip out_after
     front words_under date_told other_items eighteen with_date keys_behind base date days_in
 late_taken = (refl, refl)
 
@@ -293,7 +304,8 @@ last_byte : (get_or (offered_all dates_last (filed_as dated_filing) (late ∷ []
 unfolding answer_of count_as fault_in spelling_of outer parens parens_from letters_from in_alphabet white text reduced reduced_from stands_for_run opens closes
     hyphens type_named type_ranked types_read types forms_of plan_forms brief_forms fits3 numbers_fit fits7 fits8 fits9 count_fits aircraft_fits fits10
     valid10 present fits16plan fits15 starts speeds levels speed_digits level_digits element_fits letters within radial_fits indicators name_fits
-    point_fits four_letters joined time_fits fits_in unexplained has_key labels fits22 fault22 canonical_plan opening_of offered_as update_of named_by new_strip out_after
+    point_fits four_letters joined time_fits fits_in unexplained has_key labels fits22 fault22 canonical_plan opening_of offered_as update_of named_by
+    new_strip out_after
     front words_under date_told other_items eighteen with_date keys_behind base date days_in
 last_byte = (refl, refl)
 
@@ -313,7 +325,8 @@ renaming_taken : (accepts (update_of (filed_as dated_filing).strip just_filed re
 unfolding answer_of count_as fault_in spelling_of outer parens parens_from letters_from in_alphabet white text reduced reduced_from stands_for_run opens closes
     hyphens type_named type_ranked types_read types forms_of plan_forms brief_forms fits3 numbers_fit fits7 fits8 fits9 count_fits aircraft_fits fits10
     valid10 present fits16plan fits15 starts speeds levels speed_digits level_digits element_fits letters within radial_fits indicators name_fits
-    point_fits four_letters joined time_fits fits_in unexplained has_key labels fits22 fault22 canonical_plan opening_of offered_as update_of named_by new_strip out_after
+    point_fits four_letters joined time_fits fits_in unexplained has_key labels fits22 fault22 canonical_plan opening_of offered_as update_of named_by
+    new_strip out_after
     front words_under date_told other_items eighteen with_date keys_behind base date days_in
 renaming_taken = (refl, refl)
 

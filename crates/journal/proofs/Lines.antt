@@ -260,5 +260,6 @@ cut_next t ws s k e =
 pub cut_lines : (t : List ℕ) (ws : List Waits) (s : List ℕ) → Cut t ws → (line_from fresh s).ended ≡ false → lines_from fresh (t ++ s) ≡ ws
 cut_lines t ws s k e = k.lines_are s ∙ ap (λ (l : List Waits). ws ++ l) (lines_none s fresh e) ∙ append-nil ws
 
-pub cut_waits : (t : List ℕ) (ws : List Waits) (s : List ℕ) → Cut t ws → (line_from fresh s).ended ≡ false → waits_then fresh (t ++ s) ≡ (line_from fresh s).waits
+pub cut_waits : (t : List ℕ) (ws : List Waits) (s : List ℕ) → Cut t ws → (line_from fresh s).ended ≡ false → waits_then fresh (t ++ s)
+    ≡ (line_from fresh s).waits
 cut_waits t ws s k e = k.waits_are s ∙ waits_none s fresh e

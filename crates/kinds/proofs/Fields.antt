@@ -79,7 +79,8 @@ test_from P a (suc k) n h l g =
 abbrev pub all_counts : (MessageType → ℕ → Bool) → MessageType → Bool
 all_counts P t = all (P t) (from (least_of t) (suc (greatest_of t - least_of t)))
 
-pub each_count : (P : MessageType → ℕ → Bool) → all (all_counts P) types_read ≡ true → (t : MessageType) (n : ℕ) → least_of t ≤ n → n ≤ greatest_of t → P t n ≡ true
+pub each_count : (P : MessageType → ℕ → Bool) → all (all_counts P) types_read ≡ true → (t : MessageType) (n : ℕ) → least_of t ≤ n → n ≤ greatest_of t → P t n
+    ≡ true
 each_count P h t n l g = test_from (P t) (least_of t) (suc (greatest_of t - least_of t)) n (each (all_counts P) h t) l (omega arith)
 
 -- there are as many forms as fields

@@ -96,7 +96,8 @@ pub refused_fields :
     × (answer_of (bytes "(CHG-ABC12-EHAM0930-EDDF-0-8/IN-8/IS)") 100 ≡ Refused 9 22 31)
     × (answer_of (bytes "(FPL-ABC12-IS-ZZZZ/M-SDFG/S-EHAM0930-N0440F310 DCT PAM DCT-EDDF0100 EDDK-0)") 100 ≡ Refused 10 9 13)
     × (answer_of (bytes "(CNL-ABC12-EHAM0930-EDDF-0)") 26 ≡ Refused 11 0 0)
-unfolding answer_of place_of7 sent_place sent_from behind_hyphen place9 aircraft_place place22 count_as fault_in spelling_of outer parens parens_from letters_from
+unfolding answer_of place_of7 sent_place sent_from behind_hyphen place9 aircraft_place place22 count_as fault_in spelling_of outer parens parens_from
+    letters_from
     in_alphabet white reduced reduced_from stands_for_run opens closes
     hyphens up_to_hyphen place_of_hyphen type_named type_ranked types_read types forms_of plan_forms brief_forms form_at fits3 numbers_fit fits7 fits8 fits9
     count_fits aircraft_fits fits10 valid10 present fits16plan fits15 starts speeds levels speed_digits level_digits element_fits letters within
@@ -121,7 +122,8 @@ pub pointed :
     × (answer_of (bytes "(CNL-ABC12-EHAM09 \r\n-EDDF-0)") 100 ≡ Refused 7 13 17)
     × (answer_of (bytes "(CNL-ABC12/A7780 -EHAM0930-EDDF-0)") 100 ≡ Refused 7 7 14)
     × (answer_of (bytes "(CNL-ABC12-EHAM0930- EDDF-0)") 100 ≡ Refused 7 16 20)
-unfolding answer_of place_of7 sent_place sent_from behind_hyphen time_place place7 letters count_as fault_in outer parens parens_from letters_from in_alphabet white
+unfolding answer_of place_of7 sent_place sent_from behind_hyphen time_place place7 letters count_as fault_in outer parens parens_from letters_from in_alphabet
+    white
     reduced reduced_from stands_for_run opens closes hyphens up_to_hyphen place_of_hyphen type_named type_ranked types_read types forms_of brief_forms form_at
     fits3 numbers_fit fits7 four_letters joined time_fits
 pointed = (refl, refl, refl, refl)
@@ -131,7 +133,8 @@ pub itself :
     (plan_itself (bytes "(FPL-ABC12-IS-B738/M-SDFG/S-EHAM0930-N0440F310 DCT PAM DCT-EDDF0100 EDDK-0)") ≡ true)
     × (plan_itself (bytes "(FPL-ABC12 -IS-B738/M-SDFG/S-EHAM0930-N0440F310 DCT PAM DCT-EDDF0100 EDDK-0)") ≡ false)
     × (plan_itself (bytes "(DLA-ABC12-EHAM0930-EDDF-0)") ≡ false)
-unfolding plan_itself answer_of count_as fault_in spelling_of outer parens parens_from letters_from in_alphabet white reduced reduced_from stands_for_run opens closes
+unfolding plan_itself answer_of count_as fault_in spelling_of outer parens parens_from letters_from in_alphabet white reduced reduced_from stands_for_run
+    opens closes
     hyphens type_named type_ranked types_read types forms_of plan_forms brief_forms fits3 numbers_fit fits7 fits8 fits9 count_fits aircraft_fits fits10 valid10
     present fits16plan fits15 starts speeds levels speed_digits level_digits element_fits letters within radial_fits indicators name_fits point_fits
     four_letters joined time_fits fits_in unexplained has_key

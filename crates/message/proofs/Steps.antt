@@ -30,7 +30,8 @@ use Rattle.form_places.specs.Places.{place_in}
 use Rattle.message.specs.declared.Fault.{Fault}
 use Rattle.message.specs.declared.Fault.TheVariants.{Clear, At}
 use Rattle.message.specs.declared.Answer.TheVariants.{Accepted, Refused}
-use Rattle.message.specs.Reading.{text_of, count_of, spelled_from, spelling_of, fault_in, is_plan, unexplained_in, place_in_plan, place_of7, place_of_fault, Counted}
+use Rattle.message.specs.Reading.{text_of, count_of, spelled_from, spelling_of, fault_in, is_plan, unexplained_in, place_in_plan, place_of7, place_of_fault}
+use Rattle.message.specs.Reading.{Counted}
 use Rattle.message.specs.Reading.{room_as, fault_as, fields_as, count_as}
 use Rattle.message.proofs.Nth.{field_at_lem}
 
@@ -110,7 +111,8 @@ module _ (m buf : List ℕ) (n : ℕ) (g : outer m ≡ Good) (long : n ≡ lengt
       rw (drop-append-le 1 (reduced m) (drop (length (reduced m)) buf) h, take-append-le (n - 1 - 1) (drop 1 (reduced m)) (drop (length (reduced m)) buf) l, z)
 
   -- so the fields can be read there
-  pub counted : (t : MessageType) (count : ℕ) → count ≡ count_of m → least_of t ≤ count → count ≤ greatest_of t → (s : List ℕ) → s ≡ text_of m → Counted t m count s
+  pub counted : (t : MessageType) (count : ℕ) → count ≡ count_of m → least_of t ≤ count → count ≤ greatest_of t → (s : List ℕ) → s ≡ text_of m
+      → Counted t m count s
   counted t count c l u s e =
       let r = reduced m in
       let w : length s ≤ length r = omega (arith, ap length e, length-take (length r - 2) (drop 1 r), length-drop 1 r) in

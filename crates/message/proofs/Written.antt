@@ -70,7 +70,8 @@ ranks_stay (f ∷ fs) [] = refl
 ranks_stay (f ∷ fs) (c ∷ cs) = go (ranks_stay fs cs) (is_entry f) refl
   where
     go : ranks_in fs (written_all fs cs) ≡ ranks_in fs cs → (b : Bool) → is_entry f ≡ b
-        → cond b (which_of (written_of f c) ∷ ranks_in fs (written_all fs cs)) (ranks_in fs (written_all fs cs)) ≡ cond b (which_of c ∷ ranks_in fs cs) (ranks_in fs cs)
+        → cond b (which_of (written_of f c) ∷ ranks_in fs (written_all fs cs)) (ranks_in fs (written_all fs cs)) ≡ cond b (which_of c ∷ ranks_in fs cs)
+        (ranks_in fs cs)
     go ih true p = ap₂ (λ (r : ℕ) (rs : List ℕ). r ∷ rs) (ap which_of (plain_form f c (entry_stays f p))) ih
     go ih false p = ih
 

@@ -65,7 +65,8 @@ rank_at j [] k d h = absurd (not-suc-le-zero h)
 rank_at j (v ∷ vs) zero d h = rw (same_self v) (omega arith)
 rank_at j (v ∷ vs) (suc k) d h = go (same (get_or vs k []) v) refl (rank_at (suc j) vs k (both (not (elem v vs)) (distinct vs) d).1 (omega arith))
   where
-    go : (x : Bool) → same (get_or vs k []) v ≡ x → rank_from (suc j) (get_or vs k []) vs ≡ suc j + k → cond x j (rank_from (suc j) (get_or vs k []) vs) ≡ j + suc k
+    go : (x : Bool) → same (get_or vs k []) v ≡ x → rank_from (suc j) (get_or vs k []) vs ≡ suc j + k → cond x j (rank_from (suc j) (get_or vs k []) vs)
+        ≡ j + suc k
     go true e ih =
         let z : elem v vs ≡ true = ap (λ (u : Word). elem u vs) (sym (same-eq (get_or vs k []) v e)) ∙ elem_at vs k (omega arith) in
         absurd (true≢false (sym z ∙ not-true (elem v vs) (both (not (elem v vs)) (distinct vs) d).0))

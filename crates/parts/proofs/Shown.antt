@@ -29,7 +29,8 @@ use Rattle.parts.specs.declared.Part.TheVariants.{At, Refused as NoField}
 use Rattle.parts.specs.declared.Planned.TheVariants.{Parts, Refused as NoPlan}
 use Rattle.parts.specs.declared.Taken.{Taken}
 use Rattle.parts.specs.declared.Taken.TheVariants.{As, Refused as NotTaken}
-use Rattle.parts.specs.Parts.{taken_of, Own, content_in, field_from, span_of, span_at, numbers_in, rank_in, field_in, field_as, field_of, asked_by, content_asked}
+use Rattle.parts.specs.Parts.{taken_of, Own, content_in, field_from, span_of, span_at, numbers_in, rank_in, field_in, field_as, field_of, asked_by}
+use Rattle.parts.specs.Parts.{content_asked}
 use Rattle.parts.specs.Parts.{plan_of, planned_as, planned_of}
 use Rattle.parts.specs.Shown.{Holds, Shows, four, ShowsPlan, FieldTold}
 use Rattle.parts.proofs.Own.{taken_own, field_holds}

@@ -35,7 +35,8 @@ white_no_piece : (s : List ℕ) → pieces_of (drop (white_ahead s) s) ≡ piece
 white_no_piece [] = refl
 white_no_piece (b ∷ s) = go (white_no_piece s) (white b) refl
   where
-    go : pieces_of (drop (white_ahead s) s) ≡ pieces_of s → (x : Bool) → white b ≡ x → pieces_of (drop (cond x (suc (white_ahead s)) 0) (b ∷ s)) ≡ pieces_of (b ∷ s)
+    go : pieces_of (drop (white_ahead s) s) ≡ pieces_of s → (x : Bool) → white b ≡ x → pieces_of (drop (cond x (suc (white_ahead s)) 0) (b ∷ s))
+        ≡ pieces_of (b ∷ s)
     go ih true p = ih ∙ sym (white_byte b s p)
     go ih false p = refl
 

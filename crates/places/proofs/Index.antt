@@ -172,7 +172,8 @@ module _ (p : ℕ → Bool) (n : ℕ) (pg : List ℕ → ℕ) (s : List ℕ) (m 
 -- A TIME
 
 module _ (most : ℕ) (w : List ℕ) where
-  on_tens : (length w ≡ 0 → ⊥) → tens most (get_or w 0 0) ≡ true → time_place most w ≡ suc (first_place (units most (get_or w 0 0)) (λ b. minutes_place) (drop 1 w))
+  on_tens : (length w ≡ 0 → ⊥) → tens most (get_or w 0 0) ≡ true → time_place most w
+      ≡ suc (first_place (units most (get_or w 0 0)) (λ b. minutes_place) (drop 1 w))
   unfolding time_place
   on_tens n e = first_goes (tens most) (λ a. first_place (units most a) (λ b. minutes_place)) w n e
 

@@ -20,7 +20,8 @@ use Rattle.places.specs.Parts.{larger, run_fits, run_place}
 use Rattle.places.proofs.Given.{iff}
 use Rattle.places.proofs.Place.{place_of_language, either_place, sandwich, absorbed}
 use Rattle.places.proofs.Leaves.{run_place_lem, run_below, run_above, front_le, front_all, all_front}
-use Rattle.route.specs.Points.{short, long, polar, degrees_in_range, degrees_of, within, minutes_in_range, minutes_of, signs_of, polar_of, radial_fits, indicators}
+use Rattle.route.specs.Points.{short, long, polar, degrees_in_range, degrees_of, within, minutes_in_range, minutes_of, signs_of, polar_of, radial_fits}
+use Rattle.route.specs.Points.{indicators}
 use Rattle.route.specs.Points.{name_fits, point_fits}
 use Rattle.route.specs.Levels.{number_at}
 use Rattle.route.specs.Points.{out_of_range}
@@ -216,7 +217,8 @@ name_right s =
 shorter_is : (w : Word) → (name_fits 5 w || any_row short_rows w) ≡ shorter 5 w
 shorter_is w = rw (short_is w) (go (fits (wide short) w) refl)
   where
-    go : (x : Bool) → fits (wide short) w ≡ x → (name_fits 5 w || (x && degrees_in_range (degrees_of w))) ≡ cond x (degrees_in_range (degrees_of w)) (name_fits 5 w)
+    go : (x : Bool) → fits (wide short) w ≡ x → (name_fits 5 w || (x && degrees_in_range (degrees_of w))) ≡ cond x (degrees_in_range (degrees_of w))
+        (name_fits 5 w)
     go true e = let l : length w ≡ 7 = fits_lengths (wide short) w e in rw (long_name 5 w (omega arith))
     go false e = or-false (name_fits 5 w)
 
@@ -225,7 +227,8 @@ unfolding point_place
 point_right s =
     place_of_language (λ w. name_fits 5 w || (any_row short_rows w || any_row beyond_rows w)) (point_fits 5) same_language s
     (larger (run_place 5 sign s) (larger (rows_place short_rows s) (rows_place beyond_rows s)))
-    (either_place (name_fits 5) (λ w. any_row short_rows w || any_row beyond_rows w) s (run_place 5 sign s) (larger (rows_place short_rows s) (rows_place beyond_rows s))
+    (either_place (name_fits 5) (λ w. any_row short_rows w || any_row beyond_rows w) s (run_place 5 sign s)
+    (larger (rows_place short_rows s) (rows_place beyond_rows s))
     (name_right s)
     (either_place (any_row short_rows) (any_row beyond_rows) s (rows_place short_rows s) (rows_place beyond_rows s) (short_right s) (beyond_right s)))
   where
@@ -330,7 +333,8 @@ signs_is w = first (elem w indicators) refl
         rw (le-leb 2 (length w) (omega arith), le-leb (length w) 7 (omega arith), short_signs w e) (sym (not-not (degrees_in_range (degrees_of w))))
     second i false e = rw i (third (leb 2 (length w)) (leb (length w) 7) (all sign w))
 
-    first : (x : Bool) → elem w indicators ≡ x → (x || shorter 7 w) ≡ (run_fits 2 7 sign w && not (fits (wide short) w && not (degrees_in_range (degrees_of w))))
+    first : (x : Bool) → elem w indicators ≡ x → (x || shorter 7 w)
+        ≡ (run_fits 2 7 sign w && not (fits (wide short) w && not (degrees_in_range (degrees_of w))))
     first true i =
         let l : length w ≡ 3 = three_letters w i in
         sym (rw (le-leb 2 (length w) (omega arith), le-leb (length w) 7 (omega arith), indicators_signs w i, fits_other (wide short) w (λ q. omega arith)))

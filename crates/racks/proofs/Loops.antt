@@ -29,7 +29,8 @@ module _ (ps : List Place) (from : ℕ) where
       none_left : 10 - k ≡ 0
       none_left = omega arith
 
-  pub ahead_next : (k : ℕ) → k < 10 → (h : Held) → held_at ps (from + k) ≡ h → ahead ps from k ≡ strip_in h (drop (1800 * (from + k)) []) ∷ ahead ps from (k + 1)
+  pub ahead_next : (k : ℕ) → k < 10 → (h : Held) → held_at ps (from + k) ≡ h → ahead ps from k ≡ strip_in h (drop (1800 * (from + k)) [])
+      ∷ ahead ps from (k + 1)
   unfolding ahead
   ahead_next k less h e =
       ap (λ (n : ℕ). rack_from ps [] (from + k) n) one_more_lem

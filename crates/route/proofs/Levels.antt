@@ -292,4 +292,5 @@ climb =
     (λ w. (level_of w, upper_of (past_level w)))
     (λ x. spell_level x.0 ++ spell_upper x.1)
     (λ x. valid_level x.0 && valid_upper x.1)
-    (then Level levels level_of past_level spell_level valid_level level UpperLevel (levels ++ (bytes "PLUS" ∷ [])) upper_of spell_upper valid_upper upper_level)
+    (then Level levels level_of past_level spell_level valid_level level UpperLevel (levels ++ (bytes "PLUS" ∷ [])) upper_of spell_upper valid_upper
+    upper_level)

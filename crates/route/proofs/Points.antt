@@ -220,7 +220,8 @@ radial_back r e =
       size = omega arith;
       other = no_long w u v.0;
       taken =
-          all_true (leb (length (w ++ u)) 11) (all sign (signs_of (w ++ u))) (fits (wide polar) (polar_of (w ++ u))) (leb (number_at 0 3 (polar_of (w ++ u))) 360)
+          all_true (leb (length (w ++ u)) 11) (all sign (signs_of (w ++ u))) (fits (wide polar) (polar_of (w ++ u)))
+          (leb (number_at 0 3 (polar_of (w ++ u))) 360)
           (le-leb (length (w ++ u)) 11 (omega arith)) (ap (all sign) p ∙ h.0) (ap (fits (wide polar)) t ∙ v.0)
           (ap (λ (ns : List ℕ). leb (get_or ns 0 0) 360) q ∙ i.0);
       back = ap₂ (λ (point : Word) (ns : List ℕ). record { point = point; bearing = get_or ns 0 0; distance = get_or ns 1 0 }) p q;
@@ -253,7 +254,8 @@ module _ (most : ℕ) (w : Word) where
   unfolding point_fits
   at_short p = (rw p, rw p)
 
-  at_long : fits (wide short) w ≡ false → fits (wide long) w ≡ true → (point_fits most w ≡ minutes_in_range (minutes_of w)) × (point_of w ≡ in_minutes (minutes_of w))
+  at_long : fits (wide short) w ≡ false → fits (wide long) w ≡ true → (point_fits most w ≡ minutes_in_range (minutes_of w))
+      × (point_of w ≡ in_minutes (minutes_of w))
   unfolding point_fits
   at_long o p = (rw (o, p), rw (o, p))
 

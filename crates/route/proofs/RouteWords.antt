@@ -99,7 +99,8 @@ module _ (A : Type 0) (ts : List Word) (of : Word → A) (spell : A → Word) (v
         back = λ x e. let h = both (valid_point 5 x.0) (valid x.1) e in pair_back x.0 x.1 h.0 h.1;
       }
 
-changed : Part (Point × (Speed × Level)) (pair_fits (wides changes)) (λ w. (point_of (before 47 w), (speed_of (behind 47 w), level_of (past_speed (behind 47 w)))))
+changed : Part (Point × (Speed × Level)) (pair_fits (wides changes))
+    (λ w. (point_of (before 47 w), (speed_of (behind 47 w), level_of (past_speed (behind 47 w)))))
     (λ x. spell_point x.0 ++ (47 ∷ (spell_speed x.1.0 ++ spell_level x.1.1)))
     (λ x. valid_point 5 x.0 && (valid_speed x.1.0 && valid_level x.1.1))
 changed = pair (Speed × Level) changes _ _ _ part.change

@@ -59,13 +59,15 @@ placed_words : (at (bytes "ABCDEFGH") 7 × at (bytes "ABCDEF/") 6 × at (bytes "
     × (at (bytes "9001N07805W") 10 × at (bytes "9000N18001W") 10 × at (bytes "8960N") 5 × at (bytes "1234N12345") 10)
     × (at (bytes "FOJ361040") 9 × at (bytes "FOJ1800401") 10 × at (bytes "ABCDE361") 7 × at (bytes "1234567890") 8)
     × (at (bytes "PAM/N0440VFR") 9 × at (bytes "C/PAM/N0440F310PLUX") 18 × at (bytes "C/46N078W/K") 11 × at (bytes "C/DCT/K") 5)
-unfolding at element_place climb_place plain_place name_place point_place short_rows beyond_rows long_rows bearing_rows out_of_range letters changes climbs speeds
+unfolding at element_place climb_place plain_place name_place point_place short_rows beyond_rows long_rows bearing_rows out_of_range letters changes climbs
+    speeds
     levels point_fits name_fits indicators
 placed_words =
     ((refl, refl, refl, refl, refl), (refl, refl, refl, refl), (refl, refl, refl, refl), (refl, refl, refl, refl), (refl, refl, refl, refl))
 
 placed_15 : (place15 [] ≡ 0) × (place15 (bytes "N0440F310") ≡ 9) × (place15 (bytes "N0440F310 ") ≡ 10) × (place15 (bytes "N0440F310 T DCT") ≡ 11)
     × (place15 (bytes "N0440VFR A") ≡ 10) × (place15 (bytes "N0440F310 A  B") ≡ 11) × (place15 (bytes "N0440F310 DCT 46N181W") ≡ 20)
-unfolding place15 route_place element_place climb_place plain_place name_place point_place short_rows beyond_rows long_rows bearing_rows out_of_range letters starts
+unfolding place15 route_place element_place climb_place plain_place name_place point_place short_rows beyond_rows long_rows bearing_rows out_of_range letters
+    starts
     changes climbs speeds levels element_fits pair_fits point_fits radial_fits name_fits indicators within
 placed_15 = (refl, refl, refl, refl, refl, refl, refl)

@@ -52,7 +52,8 @@ told_same p a [] t = refl
 told_same p a (b ∷ s) t = go (white b) (t (omega arith))
   where
     go : (w : Bool) → (w ≡ true → opens p ≡ a)
-        → kept w (stands_for_run a s) b (reduced_from (cond w a (opens b)) s) ≡ kept w (stands_for_run (opens p) s) b (reduced_from (cond w (opens p) (opens b)) s)
+        → kept w (stands_for_run a s) b (reduced_from (cond w a (opens b)) s) ≡ kept w (stands_for_run (opens p) s) b
+        (reduced_from (cond w (opens p) (opens b)) s)
     go true e = ap (λ (c : Bool). kept true (stands_for_run c s) b (reduced_from c s)) (sym (e refl))
     go false e = refl
 

@@ -36,7 +36,8 @@ unfolding sent_place sent_from place_of_hyphen up_to_hyphen white
 listed = refl
 
 -- in a run, behind it, and behind a content before white space that drops out
-runs : (sent_place 1 1 (bytes "(A-B \r\n C \r\n-D)") ≡ 4) × (sent_place 1 2 (bytes "(A-B \r\n C \r\n-D)") ≡ 8) × (sent_place 1 3 (bytes "(A-B \r\n C \r\n-D)") ≡ 9)
+runs : (sent_place 1 1 (bytes "(A-B \r\n C \r\n-D)") ≡ 4) × (sent_place 1 2 (bytes "(A-B \r\n C \r\n-D)") ≡ 8)
+    × (sent_place 1 3 (bytes "(A-B \r\n C \r\n-D)") ≡ 9)
     × (sent_place 2 1 (bytes "(A-B \r\n C \r\n-D)") ≡ 14) × (sent_place 1 0 (bytes "(A- \r\n-D)") ≡ 3) × (sent_place 1 1 (bytes "(A- \r\n-D)") ≡ 6)
 unfolding sent_place sent_from place_of_hyphen up_to_hyphen white
 runs = (refl, refl, refl, refl, refl, refl)

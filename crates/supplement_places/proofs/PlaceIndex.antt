@@ -78,7 +78,8 @@ module _ (stage : Stage) (w : Word) where
     pub item_first : (r : ℕ) → (length w ≡ 1 → ⊥) → get_or w 1 0 ≡ 47 → r ≡ first_word 47 (take (length w - 2) (drop 2 w)) → 2 + r ≡ item_place stage w
     item_first r m e h =
         let x : r ≡ first_word 47 (drop 1 (drop 1 w)) = h ∙ ap (first_word 47) (rest w 2 ∙ sym (drop-drop 1 1 w)) in
-        let y = behind_letter ∙ ap suc (first_goes oblique first_word (drop 1 w) (some_left w some m) (ap oblique (second_byte w) ∙ eq-eqb (get_or w 1 0) 47 e)) in
+        let y =
+        behind_letter ∙ ap suc (first_goes oblique first_word (drop 1 w) (some_left w some m) (ap oblique (second_byte w) ∙ eq-eqb (get_or w 1 0) 47 e)) in
         omega arith
 
 -- WORD BY WORD, where the next word ends at e

@@ -165,7 +165,8 @@ begins stage w = first_fits (comes stage) (λ b. first_fits oblique (λ o v. sta
 
 pub begins_right : (stage : Stage) (s : List ℕ) → IsPlace (begins stage) s (item_place stage s)
 begins_right stage =
-    first_place_lem (comes stage) (λ b. first_fits oblique (λ o v. stands (first (by_letter b) v))) (λ b. first_place oblique (λ o. first_word_place (by_letter b)))
+    first_place_lem (comes stage) (λ b. first_fits oblique (λ o v. stands (first (by_letter b) v)))
+    (λ b. first_place oblique (λ o. first_word_place (by_letter b)))
     (λ b h. first_place_lem oblique (λ o v. stands (first (by_letter b) v)) (λ o. first_word_place (by_letter b)) (λ o q. key_right (by_letter b))
     (λ o q. key_one (past stage) (by_letter b) h))
     (λ b h. let t = key_one (past stage) (by_letter b) h in (47 ∷ t.0, t.1))

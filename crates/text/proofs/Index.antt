@@ -140,7 +140,8 @@ module _ (p : ℕ → Bool) where
     leading-before (b ∷ s) e = go (leading-before s) (eqb b c) refl e
       where
         go : (all p (before c s) ≡ true → leading p s ≡ up_to c s)
-            → (u : Bool) → eqb b c ≡ u → all p (take (cond u 0 (suc (up_to c s))) (b ∷ s)) ≡ true → cond (p b) (suc (leading p s)) 0 ≡ cond u 0 (suc (up_to c s))
+            → (u : Bool) → eqb b c ≡ u → all p (take (cond u 0 (suc (up_to c s))) (b ∷ s)) ≡ true → cond (p b) (suc (leading p s)) 0
+            ≡ cond u 0 (suc (up_to c s))
         go ih true f e = rw (ap p (eqb-true b c f) ∙ other)
         go ih false f e = let h = both (p b) (all p (before c s)) e in rw h.0 (ap suc (ih h.1))
 

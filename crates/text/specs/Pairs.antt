@@ -11,6 +11,7 @@ all_pairs f (b ∷ (c ∷ s)) = f b c && all_pairs f (c ∷ s)
 -- EXAMPLES, computed
 
 -- no byte above the next one
-in_order_lem : (all_pairs leb (bytes "ABBC") ≡ true) × (all_pairs leb (bytes "ACB") ≡ false) × (all_pairs leb (bytes "A") ≡ true) × (all_pairs leb (bytes "") ≡ true)
+in_order_lem : (all_pairs leb (bytes "ABBC") ≡ true) × (all_pairs leb (bytes "ACB") ≡ false) × (all_pairs leb (bytes "A") ≡ true)
+    × (all_pairs leb (bytes "") ≡ true)
 unfolding all_pairs
 in_order_lem = (refl, refl, refl, refl)

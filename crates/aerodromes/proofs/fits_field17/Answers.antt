@@ -22,7 +22,8 @@ tried c =
 
 first : (c : After-same_bytes) → joined clock_hours (take c.find-e.result c.args.s.now) ≡ true
 first c =
-    let tried : c.is_time_of_day.result ≡ joined clock_hours (take c.find-e.result c.args.s.now) = by_clock _ c.at_clock.ensures c.is_time_of_day.ensures in sym tried ∙ c.if-not-is_time_of_day.false
+    let tried : c.is_time_of_day.result ≡ joined clock_hours (take c.find-e.result c.args.s.now) = by_clock _ c.at_clock.ensures c.is_time_of_day.ensures in
+    sym tried ∙ c.if-not-is_time_of_day.false
 
 compared : (c : After-same_bytes) → same (take 4 (take c.find-e.result c.args.s.now)) unlisted ≡ c.same_bytes.result
 unfolding unlisted
@@ -35,7 +36,8 @@ slice_bounds-at_clock-end c =
 
 pub returns-then-not-is_time_of_day : goal.returns-then-not-is_time_of_day
 returns-then-not-is_time_of_day c =
-    sym (landed_stop c.args.s.now c.find-e.result c.find-e.ensures.value (sym (tried (goal.at.returns-then-not-is_time_of_day c).After-is_time_of_day) ∙ c.if-not-is_time_of_day.true))
+    sym (landed_stop c.args.s.now c.find-e.result c.find-e.ensures.value (sym (tried (goal.at.returns-then-not-is_time_of_day c).After-is_time_of_day)
+    ∙ c.if-not-is_time_of_day.true))
 
 pub slice_bounds-aerodrome_of-end : goal.slice_bounds-aerodrome_of-end
 slice_bounds-aerodrome_of-end c =
@@ -44,14 +46,17 @@ slice_bounds-aerodrome_of-end c =
 pub returns-then-not-same_bytes : goal.returns-then-not-same_bytes
 returns-then-not-same_bytes c =
     let f = c.find-e in
-    sym (landed_other c.args.s.now c.find-e.result f.ensures.value f.ensures.lower_bound.1 (first (goal.at.returns-then-not-same_bytes c).After-same_bytes) (compared (goal.at.returns-then-not-same_bytes c).After-same_bytes ∙ c.if-not-same_bytes.true))
+    sym (landed_other c.args.s.now c.find-e.result f.ensures.value f.ensures.lower_bound.1 (first (goal.at.returns-then-not-same_bytes c).After-same_bytes)
+    (compared (goal.at.returns-then-not-same_bytes c).After-same_bytes ∙ c.if-not-same_bytes.true))
 
 pub returns-then-e-s : goal.returns-then-e-s
 returns-then-e-s c =
-    sym (landed_bare c.args.s.now c.find-e.result c.find-e.ensures.value (first (goal.at.returns-then-e-s c).After-same_bytes) (compared (goal.at.returns-then-e-s c).After-same_bytes ∙ c.if-not-same_bytes.false) (omega arith))
+    sym (landed_bare c.args.s.now c.find-e.result c.find-e.ensures.value (first (goal.at.returns-then-e-s c).After-same_bytes)
+    (compared (goal.at.returns-then-e-s c).After-same_bytes ∙ c.if-not-same_bytes.false) (omega arith))
 
 pub returns : goal.returns
 returns c =
     c.text_words.ensures
     ∙ ap (λ (t : List ℕ). all text_word (split 32 t)) (rest c.args.s.now (c.find-e.result + 1))
-    ∙ sym (landed_place_lem c.args.s.now c.find-e.result c.find-e.ensures.value (first (goal.at.returns c).After-same_bytes) (compared (goal.at.returns c).After-same_bytes ∙ c.if-not-same_bytes.false) (omega arith))
+    ∙ sym (landed_place_lem c.args.s.now c.find-e.result c.find-e.ensures.value (first (goal.at.returns c).After-same_bytes)
+    (compared (goal.at.returns c).After-same_bytes ∙ c.if-not-same_bytes.false) (omega arith))

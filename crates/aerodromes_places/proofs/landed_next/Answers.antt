@@ -31,12 +31,14 @@ returns-then-not-is_time_of_day c =
 pub returns-then-same_bytes : goal.returns-then-same_bytes
 returns-then-same_bytes c =
     let a = c.args in
-    first_unlisted a.n a.w.now c.if-n-eq0.true (fits (goal.at.returns-then-same_bytes c).After-same_bytes) (compared (goal.at.returns-then-same_bytes c).After-same_bytes ∙ c.if-same_bytes.true)
+    first_unlisted a.n a.w.now c.if-n-eq0.true (fits (goal.at.returns-then-same_bytes c).After-same_bytes)
+    (compared (goal.at.returns-then-same_bytes c).After-same_bytes ∙ c.if-same_bytes.true)
 
 pub returns-then-n-eq0 : goal.returns-then-n-eq0
 returns-then-n-eq0 c =
     let a = c.args in
-    first_listed a.n a.w.now c.if-n-eq0.true (fits (goal.at.returns-then-n-eq0 c).After-same_bytes) (compared (goal.at.returns-then-n-eq0 c).After-same_bytes ∙ c.if-same_bytes.false)
+    first_listed a.n a.w.now c.if-n-eq0.true (fits (goal.at.returns-then-n-eq0 c).After-same_bytes) (compared (goal.at.returns-then-n-eq0 c).After-same_bytes
+    ∙ c.if-same_bytes.false)
 
 pub returns-then-n-eq1 : goal.returns-then-n-eq1
 returns-then-n-eq1 c =

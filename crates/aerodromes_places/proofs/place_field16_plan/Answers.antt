@@ -17,17 +17,25 @@ long : (c : After-find-e) → length ((take (c.find-e.result - c.loop-at.at) (dr
 long c =
     word_length c.args.s.now c.loop-at.at c.find-e.result (omega arith) (omega arith)
 
-stuck : (c : After-plan_fits) → not c.plan_fits.result ≡ true → plan.after c.loop-at.n (take (c.find-e.result - c.loop-at.at) (drop c.loop-at.at c.args.s.now)) ≡ none
+stuck : (c : After-plan_fits) → not c.plan_fits.result ≡ true
+    → plan.after c.loop-at.n (take (c.find-e.result - c.loop-at.at) (drop c.loop-at.at c.args.s.now)) ≡ none
 stuck c h =
     plan_stuck c.loop-at.n (take (c.find-e.result - c.loop-at.at) (drop c.loop-at.at c.args.s.now)) (sym c.plan_fits.ensures ∙ not-true _ h)
 
-fits : (c : After-plan_fits) → not c.plan_fits.result ≡ false → plan.after c.loop-at.n (take (c.find-e.result - c.loop-at.at) (drop c.loop-at.at c.args.s.now)) ≡ some (c.loop-at.n + 1)
+fits : (c : After-plan_fits) → not c.plan_fits.result ≡ false
+    → plan.after c.loop-at.n (take (c.find-e.result - c.loop-at.at) (drop c.loop-at.at c.args.s.now)) ≡ some (c.loop-at.n + 1)
 fits c h =
     plan_next c.loop-at.n (take (c.find-e.result - c.loop-at.at) (drop c.loop-at.at c.args.s.now)) (sym c.plan_fits.ensures ∙ not-false _ h)
 
 pub overflow_add-result : goal.overflow_add-result
 overflow_add-result c =
-    omega (arith, plan_within c.loop-at.n (take (c.find-e.result - c.loop-at.at) (drop c.loop-at.at c.args.s.now)), c.plan_place.ensures, long (goal.at.overflow_add-result c).After-find-e)
+    omega (
+      arith,
+      plan_within c.loop-at.n (take (c.find-e.result - c.loop-at.at) (drop c.loop-at.at c.args.s.now)),
+      c.plan_place.ensures,
+      long
+          (goal.at.overflow_add-result c).After-find-e,
+    )
 
 pub returns-then-e-s : goal.returns-then-e-s
 unfolding place16plan
@@ -36,7 +44,12 @@ returns-then-e-s c =
 
 pub overflow_add-result-then-not-plan_fits : goal.overflow_add-result-then-not-plan_fits
 overflow_add-result-then-not-plan_fits c =
-    omega (arith, plan_within c.loop-at.n (take (c.find-e.result - c.loop-at.at) (drop c.loop-at.at c.args.s.now)), c.plan_place-then-not-plan_fits.ensures, long (goal.at.overflow_add-result-then-not-plan_fits c).After-find-e)
+    omega (
+      arith,
+      plan_within c.loop-at.n (take (c.find-e.result - c.loop-at.at) (drop c.loop-at.at c.args.s.now)),
+      c.plan_place-then-not-plan_fits.ensures,
+      long (goal.at.overflow_add-result-then-not-plan_fits c).After-find-e,
+    )
 
 pub returns-then-not-plan_fits : goal.returns-then-not-plan_fits
 unfolding place16plan
@@ -44,7 +57,8 @@ returns-then-not-plan_fits c =
     omega (
       arith,
       c.plan_place-then-not-plan_fits.ensures,
-      words_stuck plan plan_place c.loop-at.n c.args.s.now c.loop-at.at c.find-e.result c.find-e.ensures.value (omega arith) (stuck (goal.at.returns-then-not-plan_fits c).After-plan_fits c.if-not-plan_fits.true-raw),
+      words_stuck plan plan_place c.loop-at.n c.args.s.now c.loop-at.at c.find-e.result c.find-e.ensures.value (omega arith)
+          (stuck (goal.at.returns-then-not-plan_fits c).After-plan_fits c.if-not-plan_fits.true-raw),
     )
 
 pub returns-then-n-eq3 : goal.returns-then-n-eq3
@@ -54,7 +68,8 @@ returns-then-n-eq3 c =
       arith,
       long (goal.at.returns-then-n-eq3 c).After-find-e,
       words_end plan plan_place c.loop-at.n c.args.s.now c.loop-at.at c.find-e.result
-          c.find-e.ensures.value (c.loop-at.n + 1) (omega arith) (fits (goal.at.returns-then-n-eq3 c).After-plan_fits c.if-not-plan_fits.false-raw) (lt-leb (c.loop-at.n + 1) 2 (omega arith)),
+          c.find-e.ensures.value (c.loop-at.n + 1) (omega arith) (fits (goal.at.returns-then-n-eq3 c).After-plan_fits c.if-not-plan_fits.false-raw)
+          (lt-leb (c.loop-at.n + 1) 2 (omega arith)),
     )
 
 pub loop-at-preserved : goal.loop-at-preserved
@@ -63,5 +78,6 @@ loop-at-preserved c =
       arith,
       long (goal.at.loop-at-preserved c).After-find-e,
       words_next plan plan_place c.loop-at.n c.args.s.now c.loop-at.at c.find-e.result
-          c.find-e.ensures.value (c.loop-at.n + 1) (omega arith) (fits (goal.at.loop-at-preserved c).After-plan_fits c.if-not-plan_fits.false-raw) (le-leb (c.loop-at.n + 1) 2 (omega arith)),
+          c.find-e.ensures.value (c.loop-at.n + 1) (omega arith) (fits (goal.at.loop-at-preserved c).After-plan_fits c.if-not-plan_fits.false-raw)
+          (le-leb (c.loop-at.n + 1) 2 (omega arith)),
     )

@@ -7,7 +7,8 @@ use Rattle.aerodromes_places.specs.Places.{plan, plan_place}
 use Rattle.aerodromes_places.proofs.place_field16_plan.Given as goal
 
 abbrev pub invariant-loop-at : goal.invariant-loop-at
-invariant-loop-at l = (l.at ≤ length l.s) × (l.n ≤ 2) × (words_place plan plan_place 0 (split 32 l.s) ≡ l.at + words_place plan plan_place l.n (split 32 (drop l.at l.s)))
+invariant-loop-at l =
+    (l.at ≤ length l.s) × (l.n ≤ 2) × (words_place plan plan_place 0 (split 32 l.s) ≡ l.at + words_place plan plan_place l.n (split 32 (drop l.at l.s)))
 
 abbrev pub decreases-loop-at : goal.decreases-loop-at
 decreases-loop-at l = length l.s - l.at

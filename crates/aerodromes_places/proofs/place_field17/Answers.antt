@@ -15,26 +15,45 @@ long : (c : After-find-e) → length ((take (c.find-e.result - c.loop-at.at) (dr
 long c =
     word_length c.args.s.now c.loop-at.at c.find-e.result (omega arith) (omega arith)
 
-stuck : (c : After-landed_next-j) → c.landed_next-j.result ≡ 0 → landed.after c.loop-at.n (take (c.find-e.result - c.loop-at.at) (drop c.loop-at.at c.args.s.now)) ≡ none
+stuck : (c : After-landed_next-j) → c.landed_next-j.result ≡ 0 → landed.after c.loop-at.n
+    (take (c.find-e.result - c.loop-at.at) (drop c.loop-at.at c.args.s.now)) ≡ none
 stuck c z =
     after_none c.loop-at.n (take (c.find-e.result - c.loop-at.at) (drop c.loop-at.at c.args.s.now)) (sym c.landed_next-j.ensures ∙ z)
 
-fits : (c : After-landed_next-j) → (c.landed_next-j.result ≡ 0 → ⊥) → landed.after c.loop-at.n (take (c.find-e.result - c.loop-at.at) (drop c.loop-at.at c.args.s.now)) ≡ some c.landed_next-j.result
+fits : (c : After-landed_next-j) → (c.landed_next-j.result ≡ 0 → ⊥) → landed.after c.loop-at.n
+    (take (c.find-e.result - c.loop-at.at) (drop c.loop-at.at c.args.s.now)) ≡ some c.landed_next-j.result
 fits c h =
     after_some c.loop-at.n (take (c.find-e.result - c.loop-at.at) (drop c.loop-at.at c.args.s.now)) c.landed_next-j.result c.landed_next-j.ensures h
 
 pub overflow_add-result : goal.overflow_add-result
 overflow_add-result c =
-    omega (arith, landed_within c.loop-at.n (take (c.find-e.result - c.loop-at.at) (drop c.loop-at.at c.args.s.now)), c.landed_place.ensures, long (goal.at.overflow_add-result c).After-find-e)
+    omega (
+      arith,
+      landed_within c.loop-at.n (take (c.find-e.result - c.loop-at.at) (drop c.loop-at.at c.args.s.now)),
+      c.landed_place.ensures,
+      long
+          (goal.at.overflow_add-result c).After-find-e,
+    )
 
 pub returns-then-e-s : goal.returns-then-e-s
 unfolding place17
 returns-then-e-s c =
-    omega (arith, c.landed_place.ensures, words_last landed landed_place c.loop-at.n c.args.s.now c.loop-at.at c.find-e.result c.find-e.ensures.value (omega arith))
+    omega (
+      arith,
+      c.landed_place.ensures,
+      words_last landed landed_place c.loop-at.n c.args.s.now c.loop-at.at c.find-e.result c.find-e.ensures.value
+          (omega arith),
+    )
 
 pub overflow_add-result-then-j-eq0 : goal.overflow_add-result-then-j-eq0
 overflow_add-result-then-j-eq0 c =
-    omega (arith, landed_within c.loop-at.n (take (c.find-e.result - c.loop-at.at) (drop c.loop-at.at c.args.s.now)), c.landed_place-then-j-eq0.ensures, long (goal.at.overflow_add-result-then-j-eq0 c).After-find-e)
+    omega (
+      arith,
+      landed_within c.loop-at.n (take (c.find-e.result - c.loop-at.at) (drop c.loop-at.at c.args.s.now)),
+      c.landed_place-then-j-eq0.ensures,
+      long
+          (goal.at.overflow_add-result-then-j-eq0 c).After-find-e,
+    )
 
 pub returns-then-j-eq0 : goal.returns-then-j-eq0
 unfolding place17
@@ -42,7 +61,8 @@ returns-then-j-eq0 c =
     omega (
       arith,
       c.landed_place-then-j-eq0.ensures,
-      words_stuck landed landed_place c.loop-at.n c.args.s.now c.loop-at.at c.find-e.result c.find-e.ensures.value (omega arith) (stuck (goal.at.returns-then-j-eq0 c).After-landed_next-j c.if-j-eq0.true),
+      words_stuck landed landed_place c.loop-at.n c.args.s.now c.loop-at.at c.find-e.result c.find-e.ensures.value (omega arith)
+          (stuck (goal.at.returns-then-j-eq0 c).After-landed_next-j c.if-j-eq0.true),
     )
 
 pub returns-then-j-eq1 : goal.returns-then-j-eq1
@@ -52,7 +72,8 @@ returns-then-j-eq1 c =
       arith,
       long (goal.at.returns-then-j-eq1 c).After-find-e,
       words_end landed landed_place c.loop-at.n c.args.s.now c.loop-at.at c.find-e.result
-          c.find-e.ensures.value c.landed_next-j.result (omega arith) (fits (goal.at.returns-then-j-eq1 c).After-landed_next-j c.if-j-eq0.false) (ap landed.goes c.if-j-eq1.true),
+          c.find-e.ensures.value c.landed_next-j.result (omega arith) (fits (goal.at.returns-then-j-eq1 c).After-landed_next-j c.if-j-eq0.false)
+          (ap landed.goes c.if-j-eq1.true),
     )
 
 pub loop-at-preserved : goal.loop-at-preserved
@@ -61,5 +82,6 @@ loop-at-preserved c =
       arith,
       long (goal.at.loop-at-preserved c).After-find-e,
       words_next landed landed_place c.loop-at.n c.args.s.now c.loop-at.at c.find-e.result
-          c.find-e.ensures.value c.landed_next-j.result (omega arith) (fits (goal.at.loop-at-preserved c).After-landed_next-j c.if-j-eq0.false) (goes_more c.landed_next-j.result (take (c.find-e.result - c.loop-at.at) (drop c.loop-at.at c.args.s.now)) c.if-j-eq0.false c.if-j-eq1.false),
+          c.find-e.ensures.value c.landed_next-j.result (omega arith) (fits (goal.at.loop-at-preserved c).After-landed_next-j c.if-j-eq0.false)
+          (goes_more c.landed_next-j.result (take (c.find-e.result - c.loop-at.at) (drop c.loop-at.at c.args.s.now)) c.if-j-eq0.false c.if-j-eq1.false),
     )

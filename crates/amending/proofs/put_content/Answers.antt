@@ -17,7 +17,8 @@ as-role c e = ap (λ (r : Role). content_in r c.args.own.now c.args.said.now c.a
 asked : (c : Start) {role : Role} (e : c.args.role ≡ role) → length (content_in role c.args.own.now c.args.said.now c.args.k) ≤ length c.args.out.now
 asked c e = room_same c.args.out.now (as-role c e) c.requires.1
 
-given : (c : Start) {role : Role} (e : c.args.role ≡ role) {n : ℕ} {after : List ℕ} → Puts (content_in role c.args.own.now c.args.said.now c.args.k) n c.args.out.now after
+given : (c : Start) {role : Role} (e : c.args.role ≡ role) {n : ℕ} {after : List ℕ} → Puts (content_in role c.args.own.now c.args.said.now c.args.k) n
+    c.args.out.now after
     → Puts (content_in c.args.role c.args.own.now c.args.said.now c.args.k) n c.args.out.now after
 given c e p = put_same c.args.out.now (sym (as-role c e)) p
 

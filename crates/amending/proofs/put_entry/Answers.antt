@@ -9,7 +9,8 @@ use Rattle.force.specs.InForce.{put_in}
 use Rattle.amending.proofs.put_entry.Goals.{After-behind_aerodrome, After-is_bare}
 use Rattle.amending.proofs.put_entry.Goals as goal
 
-as-tested : (c : After-is_bare) → {b : Bool} → c.is_bare.result ≡ b → cond b (c.args.content.now ++ drop 4 c.args.own.now) c.args.content.now ≡ ((put_in c.args.k c.args.content.now c.args.own.now))
+as-tested : (c : After-is_bare) → {b : Bool} → c.is_bare.result ≡ b → cond b (c.args.content.now ++ drop 4 c.args.own.now) c.args.content.now
+    ≡ ((put_in c.args.k c.args.content.now c.args.own.now))
 as-tested c e =
     ap (λ (b : Bool). cond b (c.args.content.now ++ drop 4 c.args.own.now) c.args.content.now) (sym e ∙ c.is_bare.ensures)
 

@@ -9,7 +9,8 @@ use Rattle.amending.proofs.write_amended.Goals.{After-end-e}
 use Rattle.amending.proofs.write_amended.Goals as goal
 
 turn : (c : After-end-e) → Turn c.args.role c.args.plan.now c.args.said.now c.args.out.now
-    c.loop-k.out c.loop-k.o c.loop-k.k (content_in c.args.role ((take (c.end-e.result - c.loop-k.c.at) (drop c.loop-k.c.at c.args.plan.now))) c.args.said.now c.loop-k.k)
+    c.loop-k.out c.loop-k.o c.loop-k.k (content_in c.args.role ((take (c.end-e.result - c.loop-k.c.at) (drop c.loop-k.c.at c.args.plan.now))) c.args.said.now
+    c.loop-k.k)
 turn c =
     let a = c.args in
     record {

@@ -38,14 +38,20 @@ slice_bounds-ask_read-end c =
 
 pub ask_read-requires : goal.ask_read-requires
 ask_read-requires c =
-    let f = facts (goal.at.ask_read-requires c).In-Read in
-    (omega (arith, f.two, spelled-long (goal.at.ask_read-requires c).In-Read), omega (arith, f.short, spelled-long (goal.at.ask_read-requires c).In-Read), f.plan.two, f.plan.short)
+    let f = facts (goal.at.ask_read-requires c).In-Read in (
+      omega (arith, f.two, spelled-long (goal.at.ask_read-requires c).In-Read),
+      omega (arith, f.short, spelled-long (goal.at.ask_read-requires c).In-Read),
+      f.plan.two,
+      f.plan.short,
+    )
 
 pub returns-in-Refused : goal.returns-in-Refused
 returns-in-Refused c =
-    let a = c.args in let told = not_opened a.strip.now a.held a.chg.now a.number _ _ _ (sym c.open_strip.ensures.0 ∙ c.in-Refused.is) in record { value = told.0; shows = told.1 }
+    let a = c.args in let told = not_opened a.strip.now a.held a.chg.now a.number _ _ _ (sym c.open_strip.ensures.0 ∙ c.in-Refused.is) in
+    record { value = told.0; shows = told.1 }
 
 pub returns-in-Read : goal.returns-in-Read
 returns-in-Read c =
     let a = c.args in let told = was_opened a.strip.now a.held a.chg.now a.number _ _ (is_open (goal.at.returns-in-Read c).In-Read)
-    _ (whole_there a.strip.now a.held a.chg.now _ _ (is_open (goal.at.returns-in-Read c).In-Read) _ _ c.open_strip.ensures.1) _ (c.ask_read.ensures.value, c.ask_read.ensures.shows) in record { value = told.0; shows = told.1 }
+    _ (whole_there a.strip.now a.held a.chg.now _ _ (is_open (goal.at.returns-in-Read c).In-Read) _ _ c.open_strip.ensures.1) _
+    (c.ask_read.ensures.value, c.ask_read.ensures.shows) in record { value = told.0; shows = told.1 }

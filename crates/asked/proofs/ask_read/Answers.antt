@@ -25,11 +25,13 @@ as_long c =
 
 pub returns-then-not-is_change : goal.returns-then-not-is_change
 returns-then-not-is_change c =
-    let a = c.args in let told = no_change a.t a.spelled.now a.strip.now a.chg.now a.number (sym c.is_change.ensures ∙ c.if-not-is_change.true) in record { value = told.0; shows = told.1 }
+    let a = c.args in let told = no_change a.t a.spelled.now a.strip.now a.chg.now a.number (sym c.is_change.ensures ∙ c.if-not-is_change.true) in
+    record { value = told.0; shows = told.1 }
 
 pub returns-then-not-same_bytes : goal.returns-then-not-same_bytes
 returns-then-not-same_bytes c =
-    let a = c.args in let told = not_spelled a.t a.spelled.now a.strip.now a.chg.now a.number (change (goal.at.returns-then-not-same_bytes c).Else-not-is_change)
+    let a = c.args in let told = not_spelled a.t a.spelled.now a.strip.now a.chg.now a.number
+    (change (goal.at.returns-then-not-same_bytes c).Else-not-is_change)
     (sym c.same_bytes.ensures ∙ c.if-not-same_bytes.true) in record { value = told.0; shows = told.1 }
 
 pub overflow_sub-e : goal.overflow_sub-e
@@ -52,10 +54,15 @@ pub ask_texts-requires : goal.ask_texts-requires
 ask_texts-requires c =
     let p = c.requires in
     let strip = c.args.strip.now in
-    let chg = c.args.chg.now in
-    (slice_short (length strip - 1 - 1) 1 1800 strip p.3, slice_short (length chg - 1 - 1) 1 1800 chg (omega (arith, p.1, as_long (goal.at.ask_texts-requires c).Else-not-same_bytes)))
+    let chg = c.args.chg.now in (
+      slice_short (length strip - 1 - 1) 1 1800 strip p.3,
+      slice_short (length chg - 1 - 1) 1 1800 chg
+          (omega (arith, p.1, as_long (goal.at.ask_texts-requires c).Else-not-same_bytes)),
+    )
 
 pub returns : goal.returns
 returns c =
-    let a = c.args in let p = c.requires in let told = spelled_so a.t a.spelled.now a.strip.now a.chg.now a.number (change (goal.at.returns c).Else-not-is_change) (own-spelling (goal.at.returns c).Else-not-same_bytes) p.0 p.2
-    _ _ (inner_slice a.strip.now) (inner_slice a.chg.now) _ (c.ask_texts.ensures.value, c.ask_texts.ensures.shows_text) in record { value = told.0; shows = told.1 }
+    let a = c.args in let p = c.requires in let told = spelled_so a.t a.spelled.now a.strip.now a.chg.now a.number
+    (change (goal.at.returns c).Else-not-is_change) (own-spelling (goal.at.returns c).Else-not-same_bytes) p.0 p.2
+    _ _ (inner_slice a.strip.now) (inner_slice a.chg.now) _ (c.ask_texts.ensures.value, c.ask_texts.ensures.shows_text) in
+    record { value = told.0; shows = told.1 }

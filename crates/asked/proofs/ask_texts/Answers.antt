@@ -16,11 +16,13 @@ compared c =
 
 pub returns-then-any : goal.returns-then-any
 returns-then-any c =
-    let a = c.args in let told = other_flight a.plan.now a.said.now a.number (compared (goal.at.returns-then-any c).After-any ∙ c.if-any.true) in record { value = told.0; shows_text = told.1 }
+    let a = c.args in let told = other_flight a.plan.now a.said.now a.number (compared (goal.at.returns-then-any c).After-any ∙ c.if-any.true) in
+    record { value = told.0; shows_text = told.1 }
 
 same-flight : (c : After-named_bare) → differs (differences Changes (split 45 c.args.plan.now) (split 45 c.args.said.now)) ≡ false
 same-flight c =
-    let compared : differs (differences Changes (split 45 c.args.plan.now) (split 45 c.args.said.now)) ≡ c.any.result = sym (c.any.ensures ∙ ap differs c.differences_in.ensures) in
+    let compared : differs (differences Changes (split 45 c.args.plan.now) (split 45 c.args.said.now)) ≡ c.any.result =
+    sym (c.any.ensures ∙ ap differs c.differences_in.ensures) in
     compared ∙ c.if-any.false
 
 bare-tested : (c : After-named_bare) → is_bare c.rank_of-k.result (named_by c.args.said.now c.rank_of-k.result) ≡ c.named_bare.result
@@ -29,11 +31,14 @@ bare-tested c =
 
 pub returns-then-named_bare : goal.returns-then-named_bare
 returns-then-named_bare c =
-    let a = c.args in let told = neither_whole a.plan.now a.said.now a.number (same-flight (goal.at.returns-then-named_bare c).After-named_bare) _ c.rank_of-k.ensures (bare-tested (goal.at.returns-then-named_bare c).After-named_bare ∙ c.if-named_bare.true) in record { value = told.0; shows_text = told.1 }
+    let a = c.args in let told = neither_whole a.plan.now a.said.now a.number (same-flight (goal.at.returns-then-named_bare c).After-named_bare) _
+    c.rank_of-k.ensures (bare-tested (goal.at.returns-then-named_bare c).After-named_bare ∙ c.if-named_bare.true) in
+    record { value = told.0; shows_text = told.1 }
 
 pub returns-then-k-eq0 : goal.returns-then-k-eq0
 returns-then-k-eq0 c =
-    let a = c.args in let told = not_named a.plan.now a.said.now a.number (same-flight (goal.at.returns-then-k-eq0 c).After-named_bare) _ c.rank_of-k.ensures (bare-tested (goal.at.returns-then-k-eq0 c).After-named_bare ∙ c.if-named_bare.false) c.if-k-eq0.true in record { value = told.0; shows_text = told.1 }
+    let a = c.args in let told = not_named a.plan.now a.said.now a.number (same-flight (goal.at.returns-then-k-eq0 c).After-named_bare) _ c.rank_of-k.ensures
+    (bare-tested (goal.at.returns-then-k-eq0 c).After-named_bare ∙ c.if-named_bare.false) c.if-k-eq0.true in record { value = told.0; shows_text = told.1 }
 
 pub stands-requires : goal.stands-requires
 stands-requires c =
@@ -41,5 +46,6 @@ stands-requires c =
 
 pub returns : goal.returns
 returns c =
-    let a = c.args in let told = asked_for a.plan.now a.said.now a.number (same-flight (goal.at.returns c).After-named_bare) _ c.rank_of-k.ensures (bare-tested (goal.at.returns c).After-named_bare ∙ c.if-named_bare.false)
+    let a = c.args in let told = asked_for a.plan.now a.said.now a.number (same-flight (goal.at.returns c).After-named_bare) _ c.rank_of-k.ensures
+    (bare-tested (goal.at.returns c).After-named_bare ∙ c.if-named_bare.false)
     c.if-k-eq0.false _ (c.stands.ensures.value, c.stands.ensures.shows_text) in record { value = told.0; shows_text = told.1 }

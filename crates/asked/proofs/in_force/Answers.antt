@@ -44,12 +44,14 @@ slice_bounds-result-end-in-InChange c =
 pub returns-in-InStrip : goal.returns-in-InStrip
 returns-in-InStrip c =
     let a = c.args in let is = c.in-InStrip.is in let told = part_shown a.strip.now a.held a.chg.now a.number (c.ask.ensures.value, c.ask.ensures.shows) is
-    a.strip.ref_ptr.0 a.strip.ref_ptr.1 a.chg.ref_ptr.0 a.chg.ref_ptr.1 _ _ _ (holds (goal.at.returns-in-InStrip c).After-ask is).2 (refl, refl) in record { result_value = told.0; stands_at = told.1 }
+    a.strip.ref_ptr.0 a.strip.ref_ptr.1 a.chg.ref_ptr.0 a.chg.ref_ptr.1 _ _ _ (holds (goal.at.returns-in-InStrip c).After-ask is).2 (refl, refl) in
+    record { result_value = told.0; stands_at = told.1 }
 
 pub returns-in-InChange : goal.returns-in-InChange
 returns-in-InChange c =
     let a = c.args in let is = c.in-InChange.is in let told = part_shown a.strip.now a.held a.chg.now a.number (c.ask.ensures.value, c.ask.ensures.shows) is
-    a.strip.ref_ptr.0 a.strip.ref_ptr.1 a.chg.ref_ptr.0 a.chg.ref_ptr.1 _ _ _ (holds (goal.at.returns-in-InChange c).After-ask is).2 (refl, refl) in record { result_value = told.0; stands_at = told.1 }
+    a.strip.ref_ptr.0 a.strip.ref_ptr.1 a.chg.ref_ptr.0 a.chg.ref_ptr.1 _ _ _ (holds (goal.at.returns-in-InChange c).After-ask is).2 (refl, refl) in
+    record { result_value = told.0; stands_at = told.1 }
 
 pub returns-in-Refused : goal.returns-in-Refused
 returns-in-Refused c =

@@ -21,8 +21,10 @@ overflow_add-result-in-At c =
 
 pub returns-in-At : goal.returns-in-At
 returns-in-At c =
-    let a = c.args in let told = in_change a.plan.now a.said.now a.k _ _ (found (goal.at.returns-in-At c).In-At) in record { value = told.0; shows_text = told.1 }
+    let a = c.args in let told = in_change a.plan.now a.said.now a.k _ _ (found (goal.at.returns-in-At c).In-At) in
+    record { value = told.0; shows_text = told.1 }
 
 pub returns-in-Nowhere : goal.returns-in-Nowhere
 returns-in-Nowhere c =
-    let a = c.args in let s = c.seek-c.ensures in let e = c.end-e.ensures in let nowhere = as_found _ _ c.named.ensures c.in-Nowhere.is in let told = in_strip a.plan.now a.said.now a.k _ _ nowhere s.0 s.1 e.value e.lower_bound.0 e.lower_bound.1 in record { value = told.0; shows_text = told.1 }
+    let a = c.args in let s = c.seek-c.ensures in let e = c.end-e.ensures in let nowhere = as_found _ _ c.named.ensures c.in-Nowhere.is in let told =
+    in_strip a.plan.now a.said.now a.k _ _ nowhere s.0 s.1 e.value e.lower_bound.0 e.lower_bound.1 in record { value = told.0; shows_text = told.1 }

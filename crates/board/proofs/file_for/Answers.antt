@@ -44,7 +44,8 @@ returns-then-not-has_room c =
 pub returns-then-not-is_plan : goal.returns-then-not-is_plan
 returns-then-not-is_plan c =
     let a = c.args in
-    file_unfit a.f a.board a.bytes.now a.msg.now (room (goal.at.returns-then-not-is_plan c).After-read) _ _ _ (read_as_lem (goal.at.returns-then-not-is_plan c).In-Accepted) c.refused-then-not-is_plan.ensures
+    file_unfit a.f a.board a.bytes.now a.msg.now (room (goal.at.returns-then-not-is_plan c).After-read) _ _ _
+    (read_as_lem (goal.at.returns-then-not-is_plan c).In-Accepted) c.refused-then-not-is_plan.ensures
     (sym c.is_plan.ensures ∙ c.if-not-is_plan.true)
 
 pub slice_bounds-scratch-end : goal.slice_bounds-scratch-end
@@ -56,16 +57,25 @@ slice_bounds-put-end c =
     sym (length-take-le _ _ (fits (goal.at.slice_bounds-put-end c).In-Accepted))
 
 pub put-b-requires : goal.put-b-requires
-put-b-requires c =
-    (below (goal.at.put-b-requires c).After-lowest_of-k, omega (arith, short (goal.at.put-b-requires c).In-Accepted, length-take-le _ c.read.new.out (fits (goal.at.put-b-requires c).In-Accepted)))
+put-b-requires c = (
+  below (goal.at.put-b-requires c).After-lowest_of-k,
+  omega (
+    arith,
+    short (goal.at.put-b-requires c).In-Accepted,
+    length-take-le _ c.read.new.out
+        (fits (goal.at.put-b-requires c).In-Accepted),
+  ),
+)
 
 pub returns-in-Refused : goal.returns-in-Refused
 returns-in-Refused c =
     let a = c.args in
-    file_unread a.f a.board a.bytes.now a.msg.now (room (goal.at.returns-in-Refused c).After-read) _ _ _ _ c.refused-in-Refused.ensures (sym c.read.ensures.0 ∙ c.in-Refused.is)
+    file_unread a.f a.board a.bytes.now a.msg.now (room (goal.at.returns-in-Refused c).After-read) _ _ _ _ c.refused-in-Refused.ensures
+    (sym c.read.ensures.0 ∙ c.in-Refused.is)
 
 pub returns-else-not-is_plan : goal.returns-else-not-is_plan
 returns-else-not-is_plan c =
     let a = c.args in
-    file_filed a.f a.board a.bytes.now a.msg.now (room (goal.at.returns-else-not-is_plan c).After-read) _ _ _ (read_as_lem (goal.at.returns-else-not-is_plan c).In-Accepted) lent c.read.new.out _ _
+    file_filed a.f a.board a.bytes.now a.msg.now (room (goal.at.returns-else-not-is_plan c).After-read) _ _ _
+    (read_as_lem (goal.at.returns-else-not-is_plan c).In-Accepted) lent c.read.new.out _ _
     (sym c.is_plan.ensures ∙ c.if-not-is_plan.false) c.read.ensures.1 refl c.lowest_of-k.ensures refl c.put-b.ensures

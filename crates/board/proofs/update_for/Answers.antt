@@ -20,19 +20,22 @@ inside c =
     flight_inside c.args.f c.args.slot c.args.board.places _ _ (sym c.held_in.ensures ∙ c.in-Flight.is)
 
 -- what the update gave, of the strip that stands there
-updates : (c : After-update) → (u : Updated) → c.update.result ≡ u → update_of ((shown_to c.args.f c.args.slot c.args.board.places c.args.bytes.now)) c.in-Flight.held c.args.msg.now 1800 ≡ u
+updates : (c : After-update) → (u : Updated) → c.update.result ≡ u → update_of ((shown_to c.args.f c.args.slot c.args.board.places c.args.bytes.now))
+    c.in-Flight.held c.args.msg.now 1800 ≡ u
 updates c u e =
     sym (ap (λ (w : List ℕ). update_of w c.in-Flight.held c.args.msg.now 1800) c.strip_in.ensures)
     ∙ sym c.update.ensures.0
     ∙ e
 
-new_is : (c : After-update) → c.update.new.out ≡ out_after ((shown_to c.args.f c.args.slot c.args.board.places c.args.bytes.now)) c.in-Flight.held c.args.msg.now lent
+new_is : (c : After-update) → c.update.new.out ≡ out_after ((shown_to c.args.f c.args.slot c.args.board.places c.args.bytes.now)) c.in-Flight.held
+    c.args.msg.now lent
 new_is c =
     c.update.ensures.1 ∙ ap (λ (w : List ℕ). out_after w c.in-Flight.held c.args.msg.now lent) c.strip_in.ensures
 
 short : (c : In-Accepted) → c.in-Accepted.n ≤ 1800
 short c =
-    let updates : (u : Updated) → c.update.result ≡ u → update_of ((shown_to c.args.f c.args.slot c.args.board.places c.args.bytes.now)) c.in-Flight.held c.args.msg.now 1800 ≡ u = λ u e. sym (ap (λ (w : List ℕ). update_of w c.in-Flight.held c.args.msg.now 1800) c.strip_in.ensures)
+    let updates : (u : Updated) → c.update.result ≡ u → update_of ((shown_to c.args.f c.args.slot c.args.board.places c.args.bytes.now)) c.in-Flight.held
+    c.args.msg.now 1800 ≡ u = λ u e. sym (ap (λ (w : List ℕ). update_of w c.in-Flight.held c.args.msg.now 1800) c.strip_in.ensures)
     ∙ sym c.update.ensures.0
     ∙ e in
     accepted_fits _ _ _ 1800 _ _ (updates _ c.in-Accepted.is)
@@ -50,8 +53,15 @@ slice_bounds-put-end c =
     sym (length-take-le _ _ (fits (goal.at.slice_bounds-put-end c).In-Accepted))
 
 pub put-b-requires : goal.put-b-requires
-put-b-requires c =
-    (inside (goal.at.put-b-requires c).After-update, omega (arith, short (goal.at.put-b-requires c).In-Accepted, length-take-le _ c.update.new.out (fits (goal.at.put-b-requires c).In-Accepted)))
+put-b-requires c = (
+  inside (goal.at.put-b-requires c).After-update,
+  omega (
+    arith,
+    short (goal.at.put-b-requires c).In-Accepted,
+    length-take-le _ c.update.new.out
+        (fits (goal.at.put-b-requires c).In-Accepted),
+  ),
+)
 
 pub returns-in-Nothing : goal.returns-in-Nothing
 returns-in-Nothing c =
@@ -68,4 +78,5 @@ pub returns-in-Accepted : goal.returns-in-Accepted
 returns-in-Accepted c =
     let a = c.args in
     update_taken a.f a.slot a.board a.bytes.now _ _ _ c.held_in.ensures c.in-Flight.is a.msg.now
-    _ _ c.update.new.out _ _ (updates (goal.at.returns-in-Accepted c).After-update _ c.in-Accepted.is) (new_is (goal.at.returns-in-Accepted c).After-update) (omega (arith, c.update.auto.out)) refl c.put-b.ensures
+    _ _ c.update.new.out _ _ (updates (goal.at.returns-in-Accepted c).After-update _ c.in-Accepted.is) (new_is (goal.at.returns-in-Accepted c).After-update)
+    (omega (arith, c.update.auto.out)) refl c.put-b.ensures

@@ -15,7 +15,8 @@ pub returns-then-not-h : goal.returns-then-not-h
 returns-then-not-h c =
     let a = c.args in
     λ bytes.
-    call_not (clear c.args.slot) a.firm c.byte_of-by.result a.numbers.now bytes (by-is (goal.at.returns-then-not-h c).After-struct_known-1) c.not_board.result _ _
+    call_not (clear c.args.slot) a.firm c.byte_of-by.result a.numbers.now bytes (by-is (goal.at.returns-then-not-h c).After-struct_known-1) c.not_board.result
+    _ _
     (sym c.hand_in-h.ensures.1 ∙ not-true _ c.if-not-h.true) c.not_board.ensures c.tell.ensures.0 c.tell.ensures.1
 
 pub returns : goal.returns
@@ -23,6 +24,7 @@ returns c =
     let h = c.hand_in-h in
     let a = c.args in
     λ bytes.
-    call_taken (clear c.args.slot) a.firm c.byte_of-by.result a.numbers.now bytes (by-is (goal.at.returns c).After-struct_known-1) h.result.board.places c.clear-t.result _ _ _ _
+    call_taken (clear c.args.slot) a.firm c.byte_of-by.result a.numbers.now bytes (by-is (goal.at.returns c).After-struct_known-1) h.result.board.places
+    c.clear-t.result _ _ _ _
     h.ensures.0 (sym h.ensures.1 ∙ not-false _ c.if-not-h.false) (c.clear-t.ensures bytes) c.put_board.ensures c.tell-2.ensures.0
     c.tell-2.ensures.1

@@ -14,13 +14,15 @@ by-is c =
 pub returns-then-not-h : goal.returns-then-not-h
 returns-then-not-h c =
     let a = c.args in
-    call_not (file c.args.msg.now) a.firm c.byte_of-by.result a.numbers.now a.strips.now (by-is (goal.at.returns-then-not-h c).After-struct_known-1) c.not_board.result _ _
+    call_not (file c.args.msg.now) a.firm c.byte_of-by.result a.numbers.now a.strips.now (by-is (goal.at.returns-then-not-h c).After-struct_known-1)
+    c.not_board.result _ _
     (sym c.hand_in-h.ensures.1 ∙ not-true _ c.if-not-h.true) c.not_board.ensures c.tell.ensures.0 c.tell.ensures.1
 
 pub returns : goal.returns
 returns c =
     let h = c.hand_in-h in
     let a = c.args in
-    call_taken (file c.args.msg.now) a.firm c.byte_of-by.result a.numbers.now a.strips.now (by-is (goal.at.returns c).After-struct_known-1) h.result.board.places c.file-t.result _ _ _ _
+    call_taken (file c.args.msg.now) a.firm c.byte_of-by.result a.numbers.now a.strips.now (by-is (goal.at.returns c).After-struct_known-1)
+    h.result.board.places c.file-t.result _ _ _ _
     h.ensures.0 (sym h.ensures.1 ∙ not-false _ c.if-not-h.false) c.file-t.ensures c.put_board.ensures c.tell-2.ensures.0
     c.tell-2.ensures.1

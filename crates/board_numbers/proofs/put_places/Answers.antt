@@ -39,8 +39,10 @@ loop-i-preserved c =
     let ps = a.board.places in (
       omega arith,
       l.invariant.1,
-      written_long ps a.out.now l.out c.held_numbers-row.result _ l.i t l.invariant.1 l.invariant.3 (row_is (goal.at.loop-i-preserved c).After-held_numbers-row) c.put_row.ensures,
-      row_written ps a.out.now l.out c.held_numbers-row.result _ l.i t l.invariant.1 l.invariant.3 (row_is (goal.at.loop-i-preserved c).After-held_numbers-row) c.put_row.ensures,
+      written_long ps a.out.now l.out c.held_numbers-row.result _ l.i t l.invariant.1 l.invariant.3
+          (row_is (goal.at.loop-i-preserved c).After-held_numbers-row) c.put_row.ensures,
+      row_written ps a.out.now l.out c.held_numbers-row.result _ l.i t l.invariant.1 l.invariant.3
+          (row_is (goal.at.loop-i-preserved c).After-held_numbers-row) c.put_row.ensures,
     )
 
 pub shape_of-out : goal.shape_of-out

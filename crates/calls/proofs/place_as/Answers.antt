@@ -36,16 +36,19 @@ returns-then-has_more-2 c =
 pub returns-then-same_bytes-2 : goal.returns-then-same_bytes-2
 returns-then-same_bytes-2 c =
     let a = c.args in
-    clears a.firm a.slot a.long a.verb.now a.s.now (no-update (goal.at.returns-then-same_bytes-2 c).Else-has_more-2) (no_more (goal.at.returns-then-same_bytes-2 c).Else-has_more-2) (sym c.same_bytes-2.ensures ∙ c.if-same_bytes-2.true)
+    clears a.firm a.slot a.long a.verb.now a.s.now (no-update (goal.at.returns-then-same_bytes-2 c).Else-has_more-2)
+    (no_more (goal.at.returns-then-same_bytes-2 c).Else-has_more-2) (sym c.same_bytes-2.ensures ∙ c.if-same_bytes-2.true)
 
 pub returns-then-same_bytes-3 : goal.returns-then-same_bytes-3
 returns-then-same_bytes-3 c =
     let a = c.args in
-    looks a.firm a.slot a.long a.verb.now a.s.now (no-update (goal.at.returns-then-same_bytes-3 c).Else-has_more-2) (no_more (goal.at.returns-then-same_bytes-3 c).Else-has_more-2) (sym c.same_bytes-2.ensures ∙ c.if-same_bytes-2.false)
+    looks a.firm a.slot a.long a.verb.now a.s.now (no-update (goal.at.returns-then-same_bytes-3 c).Else-has_more-2)
+    (no_more (goal.at.returns-then-same_bytes-3 c).Else-has_more-2) (sym c.same_bytes-2.ensures ∙ c.if-same_bytes-2.false)
     (sym c.same_bytes-3.ensures ∙ c.if-same_bytes-3.true)
 
 pub returns : goal.returns
 returns c =
     let a = c.args in
-    other_verb a.firm a.slot a.long a.verb.now a.s.now (no-update (goal.at.returns c).Else-has_more-2) (no_more (goal.at.returns c).Else-has_more-2) (sym c.same_bytes-2.ensures ∙ c.if-same_bytes-2.false)
+    other_verb a.firm a.slot a.long a.verb.now a.s.now (no-update (goal.at.returns c).Else-has_more-2) (no_more (goal.at.returns c).Else-has_more-2)
+    (sym c.same_bytes-2.ensures ∙ c.if-same_bytes-2.false)
     (sym c.same_bytes-3.ensures ∙ c.if-same_bytes-3.false)

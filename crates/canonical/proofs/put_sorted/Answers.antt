@@ -14,7 +14,8 @@ use Rattle.canonical.proofs.put_sorted.Goals as goal
 
 -- the byte is written, and what is left behind it
 taken : (c : After-one_of) → c.one_of.result ≡ true
-    → Writing (sorted c.args.set.now c.args.w.now) c.args.out.now c.loop-i.out c.loop-i.o ((get_or c.args.set.now c.loop-i.i 0) ∷ (sorted (drop (c.loop-i.i + 1) c.args.set.now) c.args.w.now))
+    → Writing (sorted c.args.set.now c.args.w.now) c.args.out.now c.loop-i.out c.loop-i.o ((get_or c.args.set.now c.loop-i.i 0)
+    ∷ (sorted (drop (c.loop-i.i + 1) c.args.set.now) c.args.w.now))
 taken c h =
     let l = c.loop-i in
     due l.invariant.2 (sorted_take c.args.set.now c.args.w.now l.i c.loop-i-test.true (sym c.one_of.ensures ∙ h))
@@ -25,7 +26,13 @@ loop-i-init c =
 
 pub bounds-out-o : goal.bounds-out-o
 bounds-out-o c =
-    omega (arith, room ((get_or c.args.set.now c.loop-i.i 0) ∷ []) (sorted (drop (c.loop-i.i + 1) c.args.set.now) c.args.w.now) (taken (goal.at.bounds-out-o c).After-one_of c.if-one_of.true), c.loop-i.invariant.1, c.requires)
+    omega (
+      arith,
+      room ((get_or c.args.set.now c.loop-i.i 0) ∷ []) (sorted (drop (c.loop-i.i + 1) c.args.set.now) c.args.w.now)
+          (taken (goal.at.bounds-out-o c).After-one_of c.if-one_of.true),
+      c.loop-i.invariant.1,
+      c.requires,
+    )
 
 pub loop-i-preserved-then-one_of : goal.loop-i-preserved-then-one_of
 loop-i-preserved-then-one_of c =
@@ -34,7 +41,8 @@ loop-i-preserved-then-one_of c =
     let f = room ((get_or c.args.set.now c.loop-i.i 0) ∷ []) (sorted (drop (c.loop-i.i + 1) c.args.set.now) c.args.w.now) t in (
       omega arith,
       simp length-set l.invariant.1,
-      onward ((get_or c.args.set.now c.loop-i.i 0) ∷ []) (sorted (drop (c.loop-i.i + 1) c.args.set.now) c.args.w.now) t _ (store l.out l.o (get_or c.args.set.now c.loop-i.i 0) (omega (arith, f, l.invariant.1, c.requires))),
+      onward ((get_or c.args.set.now c.loop-i.i 0) ∷ []) (sorted (drop (c.loop-i.i + 1) c.args.set.now) c.args.w.now) t _
+          (store l.out l.o (get_or c.args.set.now c.loop-i.i 0) (omega (arith, f, l.invariant.1, c.requires))),
     )
 
 pub loop-i-preserved : goal.loop-i-preserved

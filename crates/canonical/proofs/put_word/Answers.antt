@@ -37,11 +37,13 @@ within : (c : Else-not-has_key) → 2 ≤ length c.args.w.now
 within c =
     omega (arith, (inside c))
 
-behind-same : (c : Else-not-has_key) → ((changed c.args.stage (take (length c.args.w.now - 2) (drop 2 c.args.w.now)))) ≡ changed c.args.stage (drop 2 c.args.w.now)
+behind-same : (c : Else-not-has_key) → ((changed c.args.stage (take (length c.args.w.now - 2) (drop 2 c.args.w.now))))
+    ≡ changed c.args.stage (drop 2 c.args.w.now)
 behind-same c =
     ap (changed c.args.stage) (rest c.args.w.now 2)
 
-whole_length : (c : Else-not-has_key) → length (rewrite c.args.stage c.args.w.now) ≡ 2 + length ((changed c.args.stage (take (length c.args.w.now - 2) (drop 2 c.args.w.now))))
+whole_length : (c : Else-not-has_key) → length (rewrite c.args.stage c.args.w.now)
+    ≡ 2 + length ((changed c.args.stage (take (length c.args.w.now - 2) (drop 2 c.args.w.now))))
 whole_length c =
     rewrite_length c.args.stage c.args.w.now 2 (two c) (within c) ∙ ap (λ (v : List ℕ). 2 + length v) (sym (behind-same c))
 
@@ -91,13 +93,30 @@ slice_bounds-put_changed-start-2 c =
 
 pub put_changed-requires-2 : goal.put_changed-requires-2
 put_changed-requires-2 c =
-    let h : length (changed c.args.stage (take (length c.args.w.now - 2) (drop 2 c.args.w.now))) ≤ length (take (length (set (set c.args.out.now 0 (get_or c.args.w.now 0 0)) 1 47) - 2) (drop 2 (set (set c.args.out.now 0 (get_or c.args.w.now 0 0)) 1 47)))
-    = omega (arith, ap length (rest (set (set c.args.out.now 0 (get_or c.args.w.now 0 0)) 1 47) 2), length-drop 2 (set (set c.args.out.now 0 (get_or c.args.w.now 0 0)) 1 47), led-length (goal.at.put_changed-requires-2 c).Else-not-has_key, roomy (goal.at.put_changed-requires-2 c).Else-not-has_key) in
+    let h : length (changed c.args.stage (take (length c.args.w.now - 2) (drop 2 c.args.w.now)))
+    ≤ length (take (length (set (set c.args.out.now 0 (get_or c.args.w.now 0 0)) 1 47) - 2)
+    (drop 2 (set (set c.args.out.now 0 (get_or c.args.w.now 0 0)) 1 47)))
+    =
+    omega (
+      arith,
+      ap length (rest (set (set c.args.out.now 0 (get_or c.args.w.now 0 0)) 1 47) 2),
+      length-drop 2
+          (set (set c.args.out.now 0 (get_or c.args.w.now 0 0)) 1 47),
+      led-length (goal.at.put_changed-requires-2 c).Else-not-has_key,
+      roomy
+          (goal.at.put_changed-requires-2 c).Else-not-has_key,
+    ) in
     h
 
 pub overflow_add-result : goal.overflow_add-result
 overflow_add-result c =
-    omega (arith, c.put_changed-2.ensures.0, whole_length (goal.at.overflow_add-result c).Else-not-has_key, rewrite_shorter c.args.stage c.args.w.now 2 (two (goal.at.overflow_add-result c).Else-not-has_key) (within (goal.at.overflow_add-result c).Else-not-has_key))
+    omega (
+      arith,
+      c.put_changed-2.ensures.0,
+      whole_length (goal.at.overflow_add-result c).Else-not-has_key,
+      rewrite_shorter c.args.stage c.args.w.now 2
+          (two (goal.at.overflow_add-result c).Else-not-has_key) (within (goal.at.overflow_add-result c).Else-not-has_key),
+    )
 
 pub shape_of-out : goal.shape_of-out
 shape_of-out c =
@@ -107,8 +126,13 @@ pub returns : goal.returns
 returns c =
     let a = get_or c.args.w.now 0 0 in (
       omega (arith, c.put_changed-2.ensures.0, whole_length (goal.at.returns c).Else-not-has_key),
-      lent (set (set c.args.out.now 0 (get_or c.args.w.now 0 0)) 1 47) (changed c.args.stage (take (length c.args.w.now - 2) (drop 2 c.args.w.now))) 2 _ c.put_changed-2.ensures.1
-          ∙ halves (a ∷ (47 ∷ [])) (changed c.args.stage (take (length c.args.w.now - 2) (drop 2 c.args.w.now))) c.args.out.now (set (set c.args.out.now 0 (get_or c.args.w.now 0 0)) 1 47) 2 refl (stored_two c.args.out.now a 47 (omega (arith, roomy (goal.at.returns c).Else-not-has_key)))
-          ∙ ap₂ (λ (u v : List ℕ). front (u ++ v) c.args.out.now) (sym (two_bytes c.args.w.now (second (goal.at.returns c).Else-not-has_key))) (behind-same (goal.at.returns c).Else-not-has_key)
-          ∙ ap (λ (v : List ℕ). front v c.args.out.now) (sym (rewrite_parts c.args.stage c.args.w.now 2 (two (goal.at.returns c).Else-not-has_key) (within (goal.at.returns c).Else-not-has_key))),
+      lent (set (set c.args.out.now 0 (get_or c.args.w.now 0 0)) 1 47) (changed c.args.stage (take (length c.args.w.now - 2) (drop 2 c.args.w.now))) 2 _
+          c.put_changed-2.ensures.1
+          ∙ halves (a ∷ (47 ∷ [])) (changed c.args.stage (take (length c.args.w.now - 2) (drop 2 c.args.w.now))) c.args.out.now
+          (set (set c.args.out.now 0 (get_or c.args.w.now 0 0)) 1 47) 2 refl
+          (stored_two c.args.out.now a 47 (omega (arith, roomy (goal.at.returns c).Else-not-has_key)))
+          ∙ ap₂ (λ (u v : List ℕ). front (u ++ v) c.args.out.now) (sym (two_bytes c.args.w.now (second (goal.at.returns c).Else-not-has_key)))
+          (behind-same (goal.at.returns c).Else-not-has_key)
+          ∙ ap (λ (v : List ℕ). front v c.args.out.now)
+          (sym (rewrite_parts c.args.stage c.args.w.now 2 (two (goal.at.returns c).Else-not-has_key) (within (goal.at.returns c).Else-not-has_key))),
     )

@@ -27,7 +27,8 @@ inside : (c : Else-not-has_key) → 1 < length c.args.w.now
 inside c =
     second_inside c.args.w.now (second c)
 
-opening : (c : Else-not-has_key) → step c.args.stage c.args.w.now ≡ first (by_letter (get_or c.args.w.now 0 0)) (take (length c.args.w.now - 2) (drop 2 c.args.w.now))
+opening : (c : Else-not-has_key) → step c.args.stage c.args.w.now ≡ first (by_letter (get_or c.args.w.now 0 0))
+    (take (length c.args.w.now - 2) (drop 2 c.args.w.now))
 opening c =
     key_first c.args.stage c.args.w.now c.requires (second c) ∙ sym (ap (first (by_letter (get_or c.args.w.now 0 0))) (rest c.args.w.now 2))
 

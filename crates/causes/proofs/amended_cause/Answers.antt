@@ -27,7 +27,8 @@ inside c =
     let fits = new_room c.args.plan.now c.args.said.now c.args.role c.requires.0 in
     omega (arith, (long c), fits, c.requires.1, c.requires.2, c.write_amended-n.auto.out)
 
-text_there : (c : After-write_amended-n) → split 45 (take (c.write_amended-n.result - 1 - 1) (drop 1 c.write_amended-n.new.out)) ≡ ((amended c.args.role c.args.plan.now c.args.said.now))
+text_there : (c : After-write_amended-n) → split 45 (take (c.write_amended-n.result - 1 - 1) (drop 1 c.write_amended-n.new.out))
+    ≡ ((amended c.args.role c.args.plan.now c.args.said.now))
 text_there c =
     ap (λ (w : List ℕ). split 45 (take (c.write_amended-n.result - 1 - 1) (drop 1 w))) c.write_amended-n.ensures.1
     ∙ ap (split 45) (front_text _ _ c.write_amended-n.result (long c) (two c))
@@ -37,7 +38,9 @@ field_is : (c : After-unexplained_in-field) → c.unexplained_in-field.result �
 field_is c =
     let long : c.write_amended-n.result ≡ length (new_strip c.args.role c.args.plan.now c.args.said.now) = c.write_amended-n.ensures.0 in
     let two : 2 ≤ c.write_amended-n.result = omega (arith, long, new_two c.args.plan.now c.args.said.now c.args.role) in
-    let text_there : split 45 (take (c.write_amended-n.result - 1 - 1) (drop 1 c.write_amended-n.new.out)) ≡ ((amended c.args.role c.args.plan.now c.args.said.now)) = ap (λ (w : List ℕ). split 45 (take (c.write_amended-n.result - 1 - 1) (drop 1 w))) c.write_amended-n.ensures.1
+    let text_there : split 45 (take (c.write_amended-n.result - 1 - 1) (drop 1 c.write_amended-n.new.out))
+    ≡ ((amended c.args.role c.args.plan.now c.args.said.now)) = ap (λ (w : List ℕ). split 45 (take (c.write_amended-n.result - 1 - 1) (drop 1 w)))
+    c.write_amended-n.ensures.1
     ∙ ap (split 45) (front_text _ _ c.write_amended-n.result long two)
     ∙ new_cut c.args.plan.now c.args.said.now c.args.role in
     c.unexplained_in-field.ensures ∙ ap unexplained_in text_there
@@ -64,7 +67,8 @@ slice_bounds-unexplained_in-end c =
 
 pub returns-then-field-eq0 : goal.returns-then-field-eq0
 returns-then-field-eq0 c =
-    explained (amended c.args.role c.args.plan.now c.args.said.now) _ (field_is (goal.at.returns-then-field-eq0 c).After-unexplained_in-field) c.if-field-eq0.true
+    explained (amended c.args.role c.args.plan.now c.args.said.now) _ (field_is (goal.at.returns-then-field-eq0 c).After-unexplained_in-field)
+    c.if-field-eq0.true
 
 pub slice_bounds-key_for-count : goal.slice_bounds-key_for-count
 slice_bounds-key_for-count c =
@@ -80,4 +84,5 @@ slice_bounds-key_for-end c =
 
 pub returns : goal.returns
 returns c =
-    unexplained (amended c.args.role c.args.plan.now c.args.said.now) _ (field_is (goal.at.returns c).After-unexplained_in-field) c.if-field-eq0.false _ (c.key_for.ensures ∙ ap (key_for c.unexplained_in-field.result) (text_there (goal.at.returns c).After-write_amended-n))
+    unexplained (amended c.args.role c.args.plan.now c.args.said.now) _ (field_is (goal.at.returns c).After-unexplained_in-field) c.if-field-eq0.false _
+    (c.key_for.ensures ∙ ap (key_for c.unexplained_in-field.result) (text_there (goal.at.returns c).After-write_amended-n))

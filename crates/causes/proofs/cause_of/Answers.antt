@@ -59,7 +59,12 @@ slice_bounds-offered_cause-start-in-Read c =
 
 pub slice_bounds-offered_cause-end-in-Read : goal.slice_bounds-offered_cause-end-in-Read
 slice_bounds-offered_cause-end-in-Read c =
-    omega (arith, (facts (goal.at.slice_bounds-offered_cause-end-in-Read c).In-Read).short, scratch-long (goal.at.slice_bounds-offered_cause-end-in-Read c).In-Read)
+    omega (
+      arith,
+      (facts (goal.at.slice_bounds-offered_cause-end-in-Read c).In-Read).short,
+      scratch-long
+          (goal.at.slice_bounds-offered_cause-end-in-Read c).In-Read,
+    )
 
 pub offered_cause-requires : goal.offered_cause-requires
 offered_cause-requires c =
@@ -67,7 +72,12 @@ offered_cause-requires c =
     let p = (facts (goal.at.offered_cause-requires c).In-Read).plan in (
       ap (λ (w : List ℕ). length (split 45 w)) (inner_slice s) ∙ p.nine,
       omega (arith, length-take (length s - 1 - 1) (drop 1 s), length-drop 1 s, p.two, p.short),
-      omega (arith, length-take (c.in-Read.n - 1 - 1) (drop 1 c.open_strip.new.scratch), (facts (goal.at.offered_cause-requires c).In-Read).two, (facts (goal.at.offered_cause-requires c).In-Read).short),
+      omega (
+        arith,
+        length-take (c.in-Read.n - 1 - 1) (drop 1 c.open_strip.new.scratch),
+        (facts (goal.at.offered_cause-requires c).In-Read).two,
+        (facts (goal.at.offered_cause-requires c).In-Read).short,
+      ),
     )
 
 pub returns-in-Refused : goal.returns-in-Refused
@@ -78,5 +88,6 @@ returns-in-Refused c =
 pub returns-in-Read : goal.returns-in-Read
 returns-in-Read c =
     let a = c.args in
-    was_opened a.strip.now a.held a.msg.now _ _ (is_open (goal.at.returns-in-Read c).In-Read) _ c.role.ensures _ _ (inner_slice a.strip.now) (said-there (goal.at.returns-in-Read c).In-Read)
+    was_opened a.strip.now a.held a.msg.now _ _ (is_open (goal.at.returns-in-Read c).In-Read) _ c.role.ensures _ _ (inner_slice a.strip.now)
+    (said-there (goal.at.returns-in-Read c).In-Read)
     _ c.offered_cause.ensures

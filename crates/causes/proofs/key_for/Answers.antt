@@ -9,7 +9,8 @@ use Rattle.causes.proofs.Steps.{of_type, of_departure, of_destination, of_altern
 use Rattle.causes.proofs.key_for.Goals.{After-without_dest}
 use Rattle.causes.proofs.key_for.Goals as goal
 
-found : (c : After-without_dest) → without_dest (get_or ((split 45 c.args.plan.now)) plan16 []) (get_or ((split 45 c.args.plan.now)) plan18 []) ≡ c.without_dest.result
+found : (c : After-without_dest) → without_dest (get_or ((split 45 c.args.plan.now)) plan16 []) (get_or ((split 45 c.args.plan.now)) plan18 [])
+    ≡ c.without_dest.result
 found c =
     sym (c.without_dest.ensures ∙ ap₂ without_dest c.field.ensures c.field-2.ensures)
 
@@ -23,8 +24,10 @@ returns-then-field-eq13 c =
 
 pub returns-then-without_dest : goal.returns-then-without_dest
 returns-then-without_dest c =
-    of_destination _ (split 45 c.args.plan.now) c.if-field-eq9.false c.if-field-eq13.false (found (goal.at.returns-then-without_dest c).After-without_dest ∙ c.if-without_dest.true)
+    of_destination _ (split 45 c.args.plan.now) c.if-field-eq9.false c.if-field-eq13.false (found (goal.at.returns-then-without_dest c).After-without_dest
+    ∙ c.if-without_dest.true)
 
 pub returns : goal.returns
 returns c =
-    of_alternate _ (split 45 c.args.plan.now) c.if-field-eq9.false c.if-field-eq13.false (found (goal.at.returns c).After-without_dest ∙ c.if-without_dest.false)
+    of_alternate _ (split 45 c.args.plan.now) c.if-field-eq9.false c.if-field-eq13.false (found (goal.at.returns c).After-without_dest
+    ∙ c.if-without_dest.false)

@@ -14,11 +14,16 @@ inside : (c : After-shared_slice_known-in-loop-at-1) → c.loop-at.at + 1 < leng
 inside c =
     c.loop-at-test.true
 
-found : (c : After-shared_slice_known-in-loop-at-1) → ((get_or c.args.list.now c.loop-at.at 0)) ≡ c.args.b → ((get_or c.args.list.now (c.loop-at.at + 1) 0)) ≡ c.args.c → ((rank_from (c.args.f + 1) ((before 32 (c.args.b ∷ (c.args.c ∷ [])))) (cells 2 (drop (2 * c.args.f) c.args.list.now)))) ≡ c.loop-at.k + 1
+found : (c : After-shared_slice_known-in-loop-at-1) → ((get_or c.args.list.now c.loop-at.at 0)) ≡ c.args.b → ((get_or c.args.list.now (c.loop-at.at + 1) 0))
+    ≡ c.args.c → ((rank_from (c.args.f + 1) ((before 32 (c.args.b ∷ (c.args.c ∷ [])))) (cells 2 (drop (2 * c.args.f) c.args.list.now)))) ≡ c.loop-at.k + 1
 found c p q =
-    c.loop-at.invariant.2 ∙ here ((before 32 (c.args.b ∷ (c.args.c ∷ [])))) c.loop-at.k c.args.list.now c.loop-at.at (inside c) (cell_same c.args.b c.args.c c.requires.1 ((get_or c.args.list.now c.loop-at.at 0)) ((get_or c.args.list.now (c.loop-at.at + 1) 0)) p q)
+    c.loop-at.invariant.2 ∙ here ((before 32 (c.args.b ∷ (c.args.c ∷ [])))) c.loop-at.k c.args.list.now c.loop-at.at (inside c)
+    (cell_same c.args.b c.args.c c.requires.1 ((get_or c.args.list.now c.loop-at.at 0)) ((get_or c.args.list.now (c.loop-at.at + 1) 0)) p q)
 
-passed : (c : After-shared_slice_known-in-loop-at-1) → same ((before 32 (c.args.b ∷ (c.args.c ∷ [])))) (before 32 (((get_or c.args.list.now c.loop-at.at 0)) ∷ (((get_or c.args.list.now (c.loop-at.at + 1) 0)) ∷ []))) ≡ false → ((rank_from (c.args.f + 1) ((before 32 (c.args.b ∷ (c.args.c ∷ [])))) (cells 2 (drop (2 * c.args.f) c.args.list.now)))) ≡ rank_from (c.loop-at.k + 1 + 1) ((before 32 (c.args.b ∷ (c.args.c ∷ [])))) (pairs (drop (c.loop-at.at + 2) c.args.list.now))
+passed : (c : After-shared_slice_known-in-loop-at-1) → same ((before 32 (c.args.b ∷ (c.args.c ∷ []))))
+    (before 32 (((get_or c.args.list.now c.loop-at.at 0)) ∷ (((get_or c.args.list.now (c.loop-at.at + 1) 0)) ∷ []))) ≡ false
+    → ((rank_from (c.args.f + 1) ((before 32 (c.args.b ∷ (c.args.c ∷ [])))) (cells 2 (drop (2 * c.args.f) c.args.list.now))))
+    ≡ rank_from (c.loop-at.k + 1 + 1) ((before 32 (c.args.b ∷ (c.args.c ∷ [])))) (pairs (drop (c.loop-at.at + 2) c.args.list.now))
 passed c e =
     c.loop-at.invariant.2 ∙ further ((before 32 (c.args.b ∷ (c.args.c ∷ [])))) c.loop-at.k c.args.list.now c.loop-at.at (inside c) e
 
@@ -32,12 +37,21 @@ returns-then-y-c c =
     sym (found (goal.at.returns-then-y-c c).After-shared_slice_known-in-loop-at-1 c.if-x-b.true c.if-y-c.true)
 
 pub loop-at-preserved-else-y-c : goal.loop-at-preserved-else-y-c
-loop-at-preserved-else-y-c c =
-    (search rules, search rules, passed (goal.at.loop-at-preserved-else-y-c c).After-shared_slice_known-in-loop-at-1 (cell_half c.args.b c.args.c c.requires.1 (get_or c.args.list.now c.loop-at.at 0) (get_or c.args.list.now (c.loop-at.at + 1) 0) c.if-x-b.true c.if-y-c.false))
+loop-at-preserved-else-y-c c = (
+  search rules,
+  search rules,
+  passed (goal.at.loop-at-preserved-else-y-c c).After-shared_slice_known-in-loop-at-1
+      (cell_half c.args.b c.args.c c.requires.1 (get_or c.args.list.now c.loop-at.at 0) (get_or c.args.list.now (c.loop-at.at + 1) 0) c.if-x-b.true
+      c.if-y-c.false),
+)
 
 pub loop-at-preserved : goal.loop-at-preserved
-loop-at-preserved c =
-    (search rules, search rules, passed (goal.at.loop-at-preserved c).After-shared_slice_known-in-loop-at-1 (cell_other c.args.b c.args.c c.requires.1 (get_or c.args.list.now c.loop-at.at 0) (get_or c.args.list.now (c.loop-at.at + 1) 0) c.if-x-b.false))
+loop-at-preserved c = (
+  search rules,
+  search rules,
+  passed (goal.at.loop-at-preserved c).After-shared_slice_known-in-loop-at-1
+      (cell_other c.args.b c.args.c c.requires.1 (get_or c.args.list.now c.loop-at.at 0) (get_or c.args.list.now (c.loop-at.at + 1) 0) c.if-x-b.false),
+)
 
 pub returns : goal.returns
 returns c =

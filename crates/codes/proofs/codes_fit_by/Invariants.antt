@@ -7,7 +7,8 @@ use Rattle.codes.proofs.Marks.{rest}
 use Rattle.codes.proofs.codes_fit_by.Given as goal
 
 abbrev pub invariant-loop-at : goal.invariant-loop-at
-invariant-loop-at l = (l.at ≤ length l.s) × (length l.seen ≡ 64) × (codes_fit (cells 2 l.list) (codes l.s) ≡ rest l.seen (cells 2 l.list) (codes (drop l.at l.s)))
+invariant-loop-at l = (l.at ≤ length l.s) × (length l.seen ≡ 64)
+    × (codes_fit (cells 2 l.list) (codes l.s) ≡ rest l.seen (cells 2 l.list) (codes (drop l.at l.s)))
 
 abbrev pub decreases-loop-at : goal.decreases-loop-at
 decreases-loop-at l = length l.s - l.at

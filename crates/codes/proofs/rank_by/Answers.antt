@@ -37,9 +37,11 @@ cell_behind-requires c =
 pub returns-then-is_letter : goal.returns-then-is_letter
 returns-then-is_letter c =
     let f = c.wide.result in
-    let passed = index_letter c.args.first.now _ c.requires.list_value _ c.wide-i.result f (begins (goal.at.returns-then-is_letter c).Then-is_letter) c.wide-i.ensures.0 c.wide.ensures.0 in
+    let passed = index_letter c.args.first.now _ c.requires.list_value _ c.wide-i.result f (begins (goal.at.returns-then-is_letter c).Then-is_letter)
+    c.wide-i.ensures.0 c.wide.ensures.0 in
     c.cell_behind.ensures
-    ∙ rank-behind c.args.w.now c.requires.w_value.0 (letter_no_space _ (begins (goal.at.returns-then-is_letter c).Then-is_letter)) c.args.list.now f _ passed c.requires.w_value.1
+    ∙ rank-behind c.args.w.now c.requires.w_value.0 (letter_no_space _ (begins (goal.at.returns-then-is_letter c).Then-is_letter)) c.args.list.now f _ passed
+    c.requires.w_value.1
 
 pub returns-then-b-eq32 : goal.returns-then-b-eq32
 returns-then-b-eq32 c =

@@ -15,17 +15,21 @@ so_far c =
 
 in_room : (c : After-put_two-n) → c.put_two-n.result + length c.args.date.now ≤ length c.put_two-n.new.out
 in_room c =
-    let so_far : length (((c.args.head.now ++ c.args.lead.now)) ++ c.args.date.now) ≤ length c.args.out.now = omega (arith, length-append (((c.args.head.now ++ c.args.lead.now)) ++ c.args.date.now) ((c.args.gap.now ++ c.args.tail.now)), c.requires) in
+    let so_far : length (((c.args.head.now ++ c.args.lead.now)) ++ c.args.date.now) ≤ length c.args.out.now =
+    omega (arith, length-append (((c.args.head.now ++ c.args.lead.now)) ++ c.args.date.now) ((c.args.gap.now ++ c.args.tail.now)), c.requires) in
     inside (c.args.head.now ++ c.args.lead.now) c.args.date.now c.args.out.now c.put_two-n.ensures so_far
 
 dated-out : (c : After-put) → Puts ((c.args.head.now ++ c.args.lead.now) ++ c.args.date.now) (c.put_two-n.result + c.put.result) c.args.out.now
-    (take c.put_two-n.result c.put_two-n.new.out ++ (c.put.new.out ++ drop (length c.put_two-n.new.out - c.put_two-n.result) (drop c.put_two-n.result c.put_two-n.new.out)))
+    (take c.put_two-n.result c.put_two-n.new.out
+    ++ (c.put.new.out ++ drop (length c.put_two-n.new.out - c.put_two-n.result) (drop c.put_two-n.result c.put_two-n.new.out)))
 dated-out c =
-    let so_far : length (((c.args.head.now ++ c.args.lead.now)) ++ c.args.date.now) ≤ length c.args.out.now = omega (arith, length-append (((c.args.head.now ++ c.args.lead.now)) ++ c.args.date.now) ((c.args.gap.now ++ c.args.tail.now)), c.requires) in
+    let so_far : length (((c.args.head.now ++ c.args.lead.now)) ++ c.args.date.now) ≤ length c.args.out.now =
+    omega (arith, length-append (((c.args.head.now ++ c.args.lead.now)) ++ c.args.date.now) ((c.args.gap.now ++ c.args.tail.now)), c.requires) in
     put_behind (c.args.head.now ++ c.args.lead.now) c.args.date.now c.args.out.now c.put_two-n.ensures so_far _ _ c.put.ensures
 
 in-room-2 : (c : After-put) → c.put_two-n.result + c.put.result + length (c.args.gap.now ++ c.args.tail.now)
-    ≤ length (take c.put_two-n.result c.put_two-n.new.out ++ (c.put.new.out ++ drop (length c.put_two-n.new.out - c.put_two-n.result) (drop c.put_two-n.result c.put_two-n.new.out)))
+    ≤ length (take c.put_two-n.result c.put_two-n.new.out
+    ++ (c.put.new.out ++ drop (length c.put_two-n.new.out - c.put_two-n.result) (drop c.put_two-n.result c.put_two-n.new.out)))
 in-room-2 c =
     inside ((c.args.head.now ++ c.args.lead.now) ++ c.args.date.now) (c.args.gap.now ++ c.args.tail.now) c.args.out.now (dated-out c) c.requires
 
@@ -59,12 +63,21 @@ slice_bounds-put_two-start c =
 
 pub put_two-requires : goal.put_two-requires
 put_two-requires c =
-    fits_behind ((c.args.head.now ++ c.args.lead.now) ++ c.args.date.now) (c.args.gap.now ++ c.args.tail.now) c.args.out.now (dated-out (goal.at.put_two-requires c).After-put) c.requires
+    fits_behind ((c.args.head.now ++ c.args.lead.now) ++ c.args.date.now) (c.args.gap.now ++ c.args.tail.now) c.args.out.now
+    (dated-out (goal.at.put_two-requires c).After-put) c.requires
 
 pub overflow_add-result : goal.overflow_add-result
 overflow_add-result c =
-    omega (arith, (dated-out (goal.at.overflow_add-result c).After-put).0, c.put_two.ensures.0, length-append ((c.args.head.now ++ c.args.lead.now) ++ c.args.date.now) (c.args.gap.now ++ c.args.tail.now), c.requires)
+    omega (
+      arith,
+      (dated-out (goal.at.overflow_add-result c).After-put).0,
+      c.put_two.ensures.0,
+      length-append ((c.args.head.now ++ c.args.lead.now)
+          ++ c.args.date.now) (c.args.gap.now ++ c.args.tail.now),
+      c.requires,
+    )
 
 pub returns : goal.returns
 returns c =
-    put_behind ((c.args.head.now ++ c.args.lead.now) ++ c.args.date.now) (c.args.gap.now ++ c.args.tail.now) c.args.out.now (dated-out (goal.at.returns c).After-put) c.requires _ _ c.put_two.ensures
+    put_behind ((c.args.head.now ++ c.args.lead.now) ++ c.args.date.now) (c.args.gap.now ++ c.args.tail.now) c.args.out.now
+    (dated-out (goal.at.returns c).After-put) c.requires _ _ c.put_two.ensures

@@ -37,7 +37,8 @@ slice_bounds-put_around-start c =
 
 pub put_around-requires : goal.put_around-requires
 put_around-requires c =
-    room_same c.args.out.now (sym (written_instead c.args.own.now c.args.date.now c.in-Instead.from c.in-Instead.to (instead (goal.at.put_around-requires c).In-Instead))) c.requires
+    room_same c.args.out.now
+    (sym (written_instead c.args.own.now c.args.date.now c.in-Instead.from c.in-Instead.to (instead (goal.at.put_around-requires c).In-Instead))) c.requires
 
 pub slice_bounds-put_around-count-in-Before : goal.slice_bounds-put_around-count-in-Before
 slice_bounds-put_around-count-in-Before c =
@@ -49,20 +50,25 @@ slice_bounds-put_around-start-in-Before c =
 
 pub put_around-requires-in-Before : goal.put_around-requires-in-Before
 put_around-requires-in-Before c =
-    room_same c.args.out.now (sym (written_before c.args.own.now c.args.date.now c.in-Before.at (before-it (goal.at.put_around-requires-in-Before c).In-Before))) c.requires
+    room_same c.args.out.now
+    (sym (written_before c.args.own.now c.args.date.now c.in-Before.at (before-it (goal.at.put_around-requires-in-Before c).In-Before))) c.requires
 
 pub put_around-requires-in-Last : goal.put_around-requires-in-Last
 put_around-requires-in-Last c =
-    room_same c.args.out.now (sym (written_last c.args.own.now c.args.date.now (at_place (goal.at.put_around-requires-in-Last c).After-place_of Last c.in-Last.is))) c.requires
+    room_same c.args.out.now
+    (sym (written_last c.args.own.now c.args.date.now (at_place (goal.at.put_around-requires-in-Last c).After-place_of Last c.in-Last.is))) c.requires
 
 pub returns-in-Instead : goal.returns-in-Instead
 returns-in-Instead c =
-    put_same c.args.out.now (written_instead c.args.own.now c.args.date.now c.in-Instead.from c.in-Instead.to (instead (goal.at.returns-in-Instead c).In-Instead)) c.put_around.ensures
+    put_same c.args.out.now (written_instead c.args.own.now c.args.date.now c.in-Instead.from c.in-Instead.to
+    (instead (goal.at.returns-in-Instead c).In-Instead)) c.put_around.ensures
 
 pub returns-in-Before : goal.returns-in-Before
 returns-in-Before c =
-    put_same c.args.out.now (written_before c.args.own.now c.args.date.now c.in-Before.at (before-it (goal.at.returns-in-Before c).In-Before)) c.put_around-in-Before.ensures
+    put_same c.args.out.now (written_before c.args.own.now c.args.date.now c.in-Before.at (before-it (goal.at.returns-in-Before c).In-Before))
+    c.put_around-in-Before.ensures
 
 pub returns-in-Last : goal.returns-in-Last
 returns-in-Last c =
-    put_same c.args.out.now (written_last c.args.own.now c.args.date.now (at_place (goal.at.returns-in-Last c).After-place_of Last c.in-Last.is)) c.put_around-in-Last.ensures
+    put_same c.args.out.now (written_last c.args.own.now c.args.date.now (at_place (goal.at.returns-in-Last c).After-place_of Last c.in-Last.is))
+    c.put_around-in-Last.ensures

@@ -26,7 +26,8 @@ slice_bounds-side_place-end c =
 pub returns-then-o-s : goal.returns-then-o-s
 unfolding place10
 returns-then-o-s c =
-    cut_none 47 (side_of (cells 2 c.args.left.now) c.args.m) (side_place (cells 2 c.args.left.now) c.args.m) (side_place (cells 2 c.args.right.now) c.args.n) c.args.s.now c.find-o.result c.find-o.ensures.value
+    cut_none 47 (side_of (cells 2 c.args.left.now) c.args.m) (side_place (cells 2 c.args.left.now) c.args.m) (side_place (cells 2 c.args.right.now) c.args.n)
+    c.args.s.now c.find-o.result c.find-o.ensures.value
     c.side_place.result c.if-o-s.true c.side_place.ensures
 
 pub slice_bounds-side_by-end : goal.slice_bounds-side_by-end
@@ -40,7 +41,8 @@ slice_bounds-side_place-end-then-not-side_by c =
 pub returns-then-not-side_by : goal.returns-then-not-side_by
 unfolding place10
 returns-then-not-side_by c =
-    cut_off 47 (side_of (cells 2 c.args.left.now) c.args.m) (side_place (cells 2 c.args.left.now) c.args.m) (side_place (cells 2 c.args.right.now) c.args.n) c.args.s.now c.find-o.result c.find-o.ensures.value
+    cut_off 47 (side_of (cells 2 c.args.left.now) c.args.m) (side_place (cells 2 c.args.left.now) c.args.m) (side_place (cells 2 c.args.right.now) c.args.n)
+    c.args.s.now c.find-o.result c.find-o.ensures.value
     c.side_place-then-not-side_by.result (sym c.side_by.ensures ∙ c.if-not-side_by.true) c.side_place-then-not-side_by.ensures
 
 pub overflow_add-result-2 : goal.overflow_add-result-2
@@ -50,5 +52,6 @@ overflow_add-result-2 c =
 pub returns : goal.returns
 unfolding place10
 returns c =
-    cut_on 47 (side_of (cells 2 c.args.left.now) c.args.m) (side_place (cells 2 c.args.left.now) c.args.m) (side_place (cells 2 c.args.right.now) c.args.n) c.args.s.now c.find-o.result c.find-o.ensures.value
+    cut_on 47 (side_of (cells 2 c.args.left.now) c.args.m) (side_place (cells 2 c.args.left.now) c.args.m) (side_place (cells 2 c.args.right.now) c.args.n)
+    c.args.s.now c.find-o.result c.find-o.ensures.value
     c.side_place-2.result c.if-o-s.false c.find-o.ensures.lower_bound.1 (sym c.side_by.ensures ∙ c.if-not-side_by.false) c.side_place-2.ensures

@@ -35,7 +35,8 @@ pub returns-then-not-is_identification : goal.returns-then-not-is_identification
 unfolding place7
 returns-then-not-is_identification c =
     cut_off 47 identification_fits (run_place 7 sign) (along (bytes "Aoooo")) c.args.s.now c.find-o.result c.find-o.ensures.value
-    c.run_place-then-not-is_identification.result (sym c.is_identification.ensures ∙ c.if-not-is_identification.true) c.run_place-then-not-is_identification.ensures
+    c.run_place-then-not-is_identification.result (sym c.is_identification.ensures ∙ c.if-not-is_identification.true)
+    c.run_place-then-not-is_identification.ensures
 
 pub overflow_add-result-2 : goal.overflow_add-result-2
 overflow_add-result-2 c =

@@ -21,7 +21,8 @@ inside c =
 
 pub returns-then-not-letters : goal.returns-then-not-letters
 returns-then-not-letters c =
-    number_stuck c.args.w.now c.to_digits-letters.result.at c.to_digits-letters.result.on c.to_digits-letters.ensures.1 (number_then no_more) (not-true _ c.if-not-letters.true)
+    number_stuck c.args.w.now c.to_digits-letters.result.at c.to_digits-letters.result.on c.to_digits-letters.ensures.1 (number_then no_more)
+    (not-true _ c.if-not-letters.true)
 
 pub overflow_add-result : goal.overflow_add-result
 overflow_add-result c =
@@ -29,7 +30,8 @@ overflow_add-result c =
 
 pub returns-then-digits-lt3 : goal.returns-then-digits-lt3
 returns-then-digits-lt3 c =
-    first_short c.args.w.now c.to_digits-letters.result.at c.to_digits-letters.result.on c.to_digits-letters.ensures.1 (not-false _ c.if-not-letters.false) c.front_of-digits.result
+    first_short c.args.w.now c.to_digits-letters.result.at c.to_digits-letters.result.on c.to_digits-letters.ensures.1 (not-false _ c.if-not-letters.false)
+    c.front_of-digits.result
     c.front_of-digits.ensures.0 c.if-digits-lt3.true
 
 pub overflow_add-n : goal.overflow_add-n
@@ -48,11 +50,13 @@ pub overflow_add-result-3 : goal.overflow_add-result-3
 overflow_add-result-3 c =
     omega (
       arith,
-      behind_within (number_then no_more) number_within c.args.w.now (c.to_digits-letters.result.at + 3) c.place_number.result (omega (arith, inside (goal.at.overflow_add-result-3 c).After-front_of-digits, c.if-digits-lt3.false))
+      behind_within (number_then no_more) number_within c.args.w.now (c.to_digits-letters.result.at + 3) c.place_number.result
+          (omega (arith, inside (goal.at.overflow_add-result-3 c).After-front_of-digits, c.if-digits-lt3.false))
           c.place_number.ensures,
     )
 
 pub returns : goal.returns
 returns c =
-    first_on c.args.w.now c.to_digits-letters.result.at c.to_digits-letters.result.on c.to_digits-letters.ensures.1 (not-false _ c.if-not-letters.false) c.front_of-digits.result
+    first_on c.args.w.now c.to_digits-letters.result.at c.to_digits-letters.result.on c.to_digits-letters.ensures.1 (not-false _ c.if-not-letters.false)
+    c.front_of-digits.result
     c.front_of-digits.ensures.0 c.place_number.result c.if-digits-lt3.false c.place_number.ensures

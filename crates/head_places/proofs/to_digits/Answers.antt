@@ -14,19 +14,24 @@ inside c =
     omega (arith, c.past_unit-second.ensures.0, l)
 
 pub returns-then-not-first : goal.returns-then-not-first
-returns-then-not-first c =
-    (c.past_unit-first.ensures.0, letters_stuck c.args.w.now c.past_unit-first.result.at c.past_unit-first.result.on c.past_unit-first.ensures.1 (not-true _ c.if-not-first.true))
+returns-then-not-first c = (
+  c.past_unit-first.ensures.0,
+  letters_stuck c.args.w.now c.past_unit-first.result.at c.past_unit-first.result.on c.past_unit-first.ensures.1
+      (not-true _ c.if-not-first.true),
+)
 
 pub returns-then-n-w : goal.returns-then-n-w
 returns-then-n-w c = (
   c.past_unit-first.ensures.0,
-  oblique_none c.args.w.now c.past_unit-first.result.at c.past_unit-first.result.on c.past_unit-first.ensures.1 (not-false _ c.if-not-first.false) (omega arith),
+  oblique_none c.args.w.now c.past_unit-first.result.at c.past_unit-first.result.on c.past_unit-first.ensures.1 (not-false _ c.if-not-first.false)
+      (omega arith),
 )
 
 pub returns-then-w-n-ne47 : goal.returns-then-w-n-ne47
 returns-then-w-n-ne47 c = (
   c.past_unit-first.ensures.0,
-  oblique_off c.args.w.now c.past_unit-first.result.at c.past_unit-first.result.on c.past_unit-first.ensures.1 (not-false _ c.if-not-first.false) (omega arith) c.if-w-n-ne47.true,
+  oblique_off c.args.w.now c.past_unit-first.result.at c.past_unit-first.result.on c.past_unit-first.ensures.1 (not-false _ c.if-not-first.false)
+      (omega arith) c.if-w-n-ne47.true,
 )
 
 pub overflow_add-result : goal.overflow_add-result
@@ -40,6 +45,7 @@ overflow_add-result-2 c =
 pub returns : goal.returns
 returns c = (
   inside (goal.at.returns c).After-past_unit-second,
-  oblique_on c.args.w.now c.past_unit-first.result.at c.past_unit-first.result.on c.past_unit-first.ensures.1 (not-false _ c.if-not-first.false) (omega arith) c.if-w-n-ne47.false
+  oblique_on c.args.w.now c.past_unit-first.result.at c.past_unit-first.result.on c.past_unit-first.ensures.1 (not-false _ c.if-not-first.false)
+      (omega arith) c.if-w-n-ne47.false
       c.past_unit-second.result.at c.past_unit-second.result.on c.past_unit-second.ensures.1,
 )

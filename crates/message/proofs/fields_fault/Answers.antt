@@ -72,12 +72,14 @@ slice_bounds-fault_of-end c =
 pub returns-then-number-ne0 : goal.returns-then-number-ne0
 returns-then-number-ne0 c =
     let r = c.rank_in-rank.ensures in
-    walk_found _ _ _ _ _ _ _ (walked (goal.at.returns-then-number-ne0 c).At-loop-row) (end-here (goal.at.returns-then-number-ne0 c).At-loop-row).end _ _ _ (form-here (goal.at.returns-then-number-ne0 c).At-loop-row) r.0 r.1 c.fault_of-number.ensures c.if-number-ne0.true
+    walk_found _ _ _ _ _ _ _ (walked (goal.at.returns-then-number-ne0 c).At-loop-row) (end-here (goal.at.returns-then-number-ne0 c).At-loop-row).end _ _ _
+    (form-here (goal.at.returns-then-number-ne0 c).At-loop-row) r.0 r.1 c.fault_of-number.ensures c.if-number-ne0.true
 
 pub returns-then-e-s : goal.returns-then-e-s
 returns-then-e-s c =
     let r = c.rank_in-rank.ensures in
-    walk_clear _ _ _ _ _ _ _ (walked (goal.at.returns-then-e-s c).At-loop-row) (end-here (goal.at.returns-then-e-s c).At-loop-row).end _ _ _ (form-here (goal.at.returns-then-e-s c).At-loop-row) r.0 r.1 c.fault_of-number.ensures c.if-number-ne0.false (omega arith)
+    walk_clear _ _ _ _ _ _ _ (walked (goal.at.returns-then-e-s c).At-loop-row) (end-here (goal.at.returns-then-e-s c).At-loop-row).end _ _ _
+    (form-here (goal.at.returns-then-e-s c).At-loop-row) r.0 r.1 c.fault_of-number.ensures c.if-number-ne0.false (omega arith)
 
 pub overflow_add-at : goal.overflow_add-at
 overflow_add-at c =
@@ -94,7 +96,8 @@ loop-row-smaller c =
 pub loop-row-preserved : goal.loop-row-preserved
 loop-row-preserved c =
     let r = c.rank_in-rank.ensures in (
-      λ t row e. walk_next t _ _ _ _ _ _ (c.loop-row.invariant.0 t row e) (end-here (goal.at.loop-row-preserved c).At-loop-row).end _ _ _ ((row c.loop-row.j).0 (inside (goal.at.loop-row-preserved c).At-loop-row)) r.0 r.1
+      λ t row e. walk_next t _ _ _ _ _ _ (c.loop-row.invariant.0 t row e) (end-here (goal.at.loop-row-preserved c).At-loop-row).end _ _ _
+          ((row c.loop-row.j).0 (inside (goal.at.loop-row-preserved c).At-loop-row)) r.0 r.1
           c.fault_of-number.ensures c.if-number-ne0.false (omega (arith, (end-here (goal.at.loop-row-preserved c).At-loop-row).inside)),
       start_next c.args.ends.now c.loop-row.j,
     )

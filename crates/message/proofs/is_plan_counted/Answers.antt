@@ -40,12 +40,14 @@ at_most : (c : Else-greatest-count) → (c.count_hyphens-count.result + 1) ≤ g
 at_most c =
     omega (arith, c.greatest.ensures, c.if-greatest-count.false)
 
-text-counted : (c : Else-greatest-count) → Counted c.args.t c.args.msg.now (c.count_hyphens-count.result + 1) ((take (length c.args.msg.now - 1 - 1) (drop 1 c.args.msg.now)))
+text-counted : (c : Else-greatest-count) → Counted c.args.t c.args.msg.now (c.count_hyphens-count.result + 1)
+    ((take (length c.args.msg.now - 1 - 1) (drop 1 c.args.msg.now)))
 text-counted c =
     let count_is : ((c.count_hyphens-count.result + 1)) ≡ count_of c.args.msg.now = ap (λ (k : ℕ). k + 1) c.count_hyphens-count.ensures in
     let at_least : least_of c.args.t ≤ (c.count_hyphens-count.result + 1) = omega (arith, c.least.ensures, c.if-count-least.false) in
     let is_same : same (reduced c.args.msg.now) c.args.msg.now ≡ true = sym c.is_reduced.ensures ∙ c.if-not-is_reduced.false in
-    counted c.args.msg.now [] _ c.requires refl c.args.t (c.count_hyphens-count.result + 1) count_is at_least (at_most c) ((take (length c.args.msg.now - 1 - 1) (drop 1 c.args.msg.now)))
+    counted c.args.msg.now [] _ c.requires refl c.args.t (c.count_hyphens-count.result + 1) count_is at_least (at_most c)
+    ((take (length c.args.msg.now - 1 - 1) (drop 1 c.args.msg.now)))
     (text_itself c.args.msg.now (same-eq _ _ is_same))
 
 pub returns-then-not-is_plan : goal.returns-then-not-is_plan
@@ -64,11 +66,13 @@ overflow_add-count c =
 
 pub returns-then-count-least : goal.returns-then-count-least
 returns-then-count-least c =
-    rw (too_few c.args.t c.args.msg.now most _ (count_is (goal.at.returns-then-count-least c).After-count_hyphens-count) (omega (arith, c.least.ensures, c.if-count-least.true)))
+    rw (too_few c.args.t c.args.msg.now most _ (count_is (goal.at.returns-then-count-least c).After-count_hyphens-count)
+    (omega (arith, c.least.ensures, c.if-count-least.true)))
 
 pub returns-then-greatest-count : goal.returns-then-greatest-count
 returns-then-greatest-count c =
-    rw (too_many c.args.t c.args.msg.now most _ (count_is (goal.at.returns-then-greatest-count c).After-count_hyphens-count) (at_least (goal.at.returns-then-greatest-count c).Else-count-least) (omega (arith, c.greatest.ensures, c.if-greatest-count.true)))
+    rw (too_many c.args.t c.args.msg.now most _ (count_is (goal.at.returns-then-greatest-count c).After-count_hyphens-count)
+    (at_least (goal.at.returns-then-greatest-count c).Else-count-least) (omega (arith, c.greatest.ensures, c.if-greatest-count.true)))
 
 pub overflow_sub-last : goal.overflow_sub-last
 overflow_sub-last c =
@@ -93,5 +97,10 @@ is_plan_text-requires c =
 pub returns : goal.returns
 returns c =
     let t = c.args.t in
-    rw (enough t c.args.msg.now most _ (count_is (goal.at.returns c).After-count_hyphens-count) (at_least (goal.at.returns c).Else-count-least) (at_most (goal.at.returns c).Else-greatest-count), and_true _ _ (is_same (goal.at.returns c).After-count_hyphens-count))
-    (c.is_plan_text.ensures ∙ sym (plan_fields_lem t c.args.msg.now _ _ (text-counted (goal.at.returns c).Else-greatest-count) (planned (goal.at.returns c).After-count_hyphens-count) (itself_short c.args.msg.now c.requires)))
+    rw (
+      enough t c.args.msg.now most _ (count_is (goal.at.returns c).After-count_hyphens-count) (at_least (goal.at.returns c).Else-count-least)
+          (at_most (goal.at.returns c).Else-greatest-count),
+      and_true _ _ (is_same (goal.at.returns c).After-count_hyphens-count),
+    )
+    (c.is_plan_text.ensures ∙ sym (plan_fields_lem t c.args.msg.now _ _ (text-counted (goal.at.returns c).Else-greatest-count)
+    (planned (goal.at.returns c).After-count_hyphens-count) (itself_short c.args.msg.now c.requires)))

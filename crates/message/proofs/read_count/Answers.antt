@@ -31,21 +31,29 @@ overflow_sub-result c =
 
 pub returns-then-count-least : goal.returns-then-count-least
 returns-then-count-least c =
-    rw (too_few c.args.t c.args.msg.now (length c.args.out.now) _ (count_is (goal.at.returns-then-count-least c).After-count_hyphens-count) (omega (arith, c.least.ensures, c.if-count-least.true))) (refl, refl)
+    rw (too_few c.args.t c.args.msg.now (length c.args.out.now) _ (count_is (goal.at.returns-then-count-least c).After-count_hyphens-count)
+    (omega (arith, c.least.ensures, c.if-count-least.true))) (refl, refl)
 
 pub returns-then-greatest-count : goal.returns-then-greatest-count
 returns-then-greatest-count c =
     let h : greatest_of c.args.t < (c.count_hyphens-count.result + 1) = omega (arith, c.greatest-greatest.ensures, c.if-greatest-count.true) in
     rw (
-      too_many c.args.t c.args.msg.now (length c.args.out.now) _ (count_is (goal.at.returns-then-greatest-count c).After-count_hyphens-count) (at_least (goal.at.returns-then-greatest-count c).Else-count-least) h,
+      too_many c.args.t c.args.msg.now (length c.args.out.now) _ (count_is (goal.at.returns-then-greatest-count c).After-count_hyphens-count)
+          (at_least (goal.at.returns-then-greatest-count c).Else-count-least) h,
       ← c.greatest-greatest.ensures,
       ← c.place_of_hyphen.ensures,
     ) (refl, refl)
 
 pub read_reduced-requires : goal.read_reduced-requires
-read_reduced-requires c =
-    (c.requires, count_is (goal.at.read_reduced-requires c).After-count_hyphens-count, at_least (goal.at.read_reduced-requires c).Else-count-least, at_most (goal.at.read_reduced-requires c).Else-greatest-count)
+read_reduced-requires c = (
+  c.requires,
+  count_is (goal.at.read_reduced-requires c).After-count_hyphens-count,
+  at_least (goal.at.read_reduced-requires c).Else-count-least,
+  at_most
+      (goal.at.read_reduced-requires c).Else-greatest-count,
+)
 
 pub returns : goal.returns
 returns c =
-    rw (enough c.args.t c.args.msg.now (length c.args.out.now) _ (count_is (goal.at.returns c).After-count_hyphens-count) (at_least (goal.at.returns c).Else-count-least) (at_most (goal.at.returns c).Else-greatest-count)) c.read_reduced.ensures
+    rw (enough c.args.t c.args.msg.now (length c.args.out.now) _ (count_is (goal.at.returns c).After-count_hyphens-count)
+    (at_least (goal.at.returns c).Else-count-least) (at_most (goal.at.returns c).Else-greatest-count)) c.read_reduced.ensures

@@ -36,7 +36,8 @@ slice_bounds-read_text-end c =
 
 pub read_text-requires : goal.read_text-requires
 read_text-requires c =
-    let k = counted c.args.msg.now [] _ c.requires.0 refl c.args.t c.args.count c.requires.1 c.requires.2 c.requires.3 _ (text_itself c.args.msg.now (itself (goal.at.read_text-requires c).Then-is_reduced)) in
+    let k = counted c.args.msg.now [] _ c.requires.0 refl c.args.t c.args.count c.requires.1 c.requires.2 c.requires.3 _
+    (text_itself c.args.msg.now (itself (goal.at.read_text-requires c).Then-is_reduced)) in
     (k, few_fields c.args.t c.args.msg.now c.args.count _ k c.requires.2 c.requires.3)
 
 pub returns-then-is_reduced : goal.returns-then-is_reduced

@@ -15,8 +15,10 @@ has_room-requires c =
 
 pub returns-then-not-has_room : goal.returns-then-not-has_room
 returns-then-not-has_room c =
-    let h = leb-false (length (spelled_from 40 (forms_of c.args.t c.args.count) (split 45 c.args.s.now))) (length c.args.out.now) (sym c.has_room.ensures ∙ c.if-not-has_room.true) in
-    rw (room_short _ _ _ _ c.requires.0 (length c.args.out.now) (length (spelled_from 40 (forms_of c.args.t c.args.count) (split 45 c.args.s.now))) refl h) (refl, refl)
+    let h = leb-false (length (spelled_from 40 (forms_of c.args.t c.args.count) (split 45 c.args.s.now))) (length c.args.out.now)
+    (sym c.has_room.ensures ∙ c.if-not-has_room.true) in
+    rw (room_short _ _ _ _ c.requires.0 (length c.args.out.now) (length (spelled_from 40 (forms_of c.args.t c.args.count) (split 45 c.args.s.now))) refl h)
+    (refl, refl)
 
 pub write_fields-n-requires : goal.write_fields-n-requires
 write_fields-n-requires c =
@@ -26,5 +28,6 @@ pub returns : goal.returns
 returns c =
     let k = c.requires.0 in
     let n = c.write_fields-n.ensures in
-    let h = leb-true (length (spelled_from 40 (forms_of c.args.t c.args.count) (split 45 c.args.s.now))) (length c.args.out.now) (sym c.has_room.ensures ∙ c.if-not-has_room.false) in
+    let h = leb-true (length (spelled_from 40 (forms_of c.args.t c.args.count) (split 45 c.args.s.now))) (length c.args.out.now)
+    (sym c.has_room.ensures ∙ c.if-not-has_room.false) in
     rw (room_enough _ _ _ _ k (length c.args.out.now) _ n.0 (omega (arith, n.0)), ← spelling_is _ _ _ _ k) (refl, n.1)

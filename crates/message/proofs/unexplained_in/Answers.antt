@@ -26,7 +26,9 @@ at-eighteen c =
 pub returns : goal.returns
 returns c =
     let is-nine = field_part plan9 c.onward-nine.result.at c.args.plan.now _ (at-nine (goal.at.returns c).After-onward-eighteen) c.part.ensures in
-    let is-thirteen = field_part plan13 c.onward-thirteen.result.at c.args.plan.now _ (at-thirteen (goal.at.returns c).After-onward-eighteen) c.part-2.ensures in
+    let is-thirteen = field_part plan13 c.onward-thirteen.result.at c.args.plan.now _ (at-thirteen (goal.at.returns c).After-onward-eighteen)
+    c.part-2.ensures in
     let is-sixteen = field_part plan16 c.onward-sixteen.result.at c.args.plan.now _ (at-sixteen (goal.at.returns c).After-onward-eighteen) c.part-3.ensures in
-    let is-eighteen = field_part plan18 c.onward-eighteen.result.at c.args.plan.now _ (at-eighteen (goal.at.returns c).After-onward-eighteen) c.part-4.ensures in
+    let is-eighteen = field_part plan18 c.onward-eighteen.result.at c.args.plan.now _ (at-eighteen (goal.at.returns c).After-onward-eighteen)
+    c.part-4.ensures in
     rw (← is-nine, ← is-thirteen, ← is-sixteen, ← is-eighteen) c.unexplained_field.ensures

@@ -42,7 +42,8 @@ end-here c =
     (writing c).even c.loop-row.invariant.1
 
 turn-of : (c : At-loop-row) → (t : MessageType) → Given t c.args.count c.row-row.result c.args.s.now ((set c.args.out.now 0 40))
-    → Turn t c.args.count c.args.s.now ((set c.args.out.now 0 40)) c.loop-row.out c.loop-row.o c.loop-row.at c.loop-row.j (get_or c.args.ends.now c.loop-row.j 0)
+    → Turn t c.args.count c.args.s.now ((set c.args.out.now 0 40)) c.loop-row.out c.loop-row.o c.loop-row.at c.loop-row.j
+    (get_or c.args.ends.now c.loop-row.j 0)
     (get_or c.row-row.result c.loop-row.j Field3)
 turn-of c t g =
     record { so_far = c.loop-row.invariant.0 t g; end = (end-here c).end; is_form = (g.is_row c.loop-row.j).0 (inside c) }
@@ -64,8 +65,10 @@ more c =
       even = c.requires.2;
       clear = c.requires.3;
     } in
-    let writing : Writing c.args.t c.args.count c.args.s.now ((set c.args.out.now 0 40)) c.loop-row.out c.loop-row.o c.loop-row.at c.loop-row.j = c.loop-row.invariant.0 c.args.t given in
-    let end-here : EndAt c.args.s.now c.loop-row.at (get_or c.args.ends.now c.loop-row.j 0) = end_known c.args.t c.args.count c.args.s.now c.args.ends.now c.requires.0 c.requires.2 c.loop-row.at c.loop-row.j
+    let writing : Writing c.args.t c.args.count c.args.s.now ((set c.args.out.now 0 40)) c.loop-row.out c.loop-row.o c.loop-row.at c.loop-row.j =
+    c.loop-row.invariant.0 c.args.t given in
+    let end-here : EndAt c.args.s.now c.loop-row.at (get_or c.args.ends.now c.loop-row.j 0) =
+    end_known c.args.t c.args.count c.args.s.now c.args.ends.now c.requires.0 c.requires.2 c.loop-row.at c.loop-row.j
     writing.even c.loop-row.invariant.1 in
     omega (arith, end-here.inside)
 
@@ -119,11 +122,13 @@ overflow_add-o c =
 
 pub bounds-out-o : goal.bounds-out-o
 bounds-out-o c =
-    last_room (turn (goal.at.bounds-out-o c).At-loop-row) c.write_fitting-o.ensures.0 c.write_fitting-o.ensures.1 (no_more (goal.at.bounds-out-o c).Then-e-s) c.out-1.given.1
+    last_room (turn (goal.at.bounds-out-o c).At-loop-row) c.write_fitting-o.ensures.0 c.write_fitting-o.ensures.1 (no_more (goal.at.bounds-out-o c).Then-e-s)
+    c.out-1.given.1
 
 pub overflow_add-result : goal.overflow_add-result
 overflow_add-result c =
-    let l = last_long (turn (goal.at.overflow_add-result c).At-loop-row) c.write_fitting-o.ensures.0 c.write_fitting-o.ensures.1 (no_more (goal.at.overflow_add-result c).Then-e-s) c.out-1.given.1 in
+    let l = last_long (turn (goal.at.overflow_add-result c).At-loop-row) c.write_fitting-o.ensures.0 c.write_fitting-o.ensures.1
+    (no_more (goal.at.overflow_add-result c).Then-e-s) c.out-1.given.1 in
     omega (arith, l, c.requires.1, c.well_formed)
 
 pub shape_of-out-then-e-s : goal.shape_of-out-then-e-s
@@ -141,11 +146,13 @@ returns-then-e-s c =
 
 pub bounds-out-o-in-loop-row : goal.bounds-out-o-in-loop-row
 bounds-out-o-in-loop-row c =
-    next_room (turn (goal.at.bounds-out-o-in-loop-row c).At-loop-row) c.write_fitting-o.ensures.0 c.write_fitting-o.ensures.1 (more (goal.at.bounds-out-o-in-loop-row c).Else-e-s) c.out-1.given.1
+    next_room (turn (goal.at.bounds-out-o-in-loop-row c).At-loop-row) c.write_fitting-o.ensures.0 c.write_fitting-o.ensures.1
+    (more (goal.at.bounds-out-o-in-loop-row c).Else-e-s) c.out-1.given.1
 
 pub overflow_add-o-in-loop-row : goal.overflow_add-o-in-loop-row
 overflow_add-o-in-loop-row c =
-    let l = next_room (turn (goal.at.overflow_add-o-in-loop-row c).At-loop-row) c.write_fitting-o.ensures.0 c.write_fitting-o.ensures.1 (more (goal.at.overflow_add-o-in-loop-row c).Else-e-s) c.out-1.given.1 in
+    let l = next_room (turn (goal.at.overflow_add-o-in-loop-row c).At-loop-row) c.write_fitting-o.ensures.0 c.write_fitting-o.ensures.1
+    (more (goal.at.overflow_add-o-in-loop-row c).Else-e-s) c.out-1.given.1 in
     omega (arith, l, c.out-1.given.1, (writing (goal.at.overflow_add-o-in-loop-row c).At-loop-row).long, length-set c.args.out.now 0 40, c.well_formed)
 
 pub overflow_add-at : goal.overflow_add-at

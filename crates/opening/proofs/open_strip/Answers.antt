@@ -30,19 +30,23 @@ returns-then-not-is_sound c =
 pub returns-then-not-is_canonical_plan : goal.returns-then-not-is_canonical_plan
 returns-then-not-is_canonical_plan c =
     let a = c.args in
-    no_plan a.strip.now a.held a.msg.now a.scratch.now (held_sound (goal.at.returns-then-not-is_canonical_plan c).Else-not-is_sound) (sym c.is_canonical_plan.ensures ∙ c.if-not-is_canonical_plan.true)
+    no_plan a.strip.now a.held a.msg.now a.scratch.now (held_sound (goal.at.returns-then-not-is_canonical_plan c).Else-not-is_sound)
+    (sym c.is_canonical_plan.ensures ∙ c.if-not-is_canonical_plan.true)
 
 pub returns-in-Refused : goal.returns-in-Refused
 returns-in-Refused c =
     let a = c.args in
     let there = sym c.read.ensures.0 ∙ c.in-Refused.is in
     rw (c.read.ensures.1, refused_stays a.msg.now a.scratch.now _ _ _ there)
-    (not_read a.strip.now a.held a.msg.now a.scratch.now (held_sound (goal.at.returns-in-Refused c).Else-not-is_sound) (is_plan_lem (goal.at.returns-in-Refused c).Else-not-is_canonical_plan) _ _ _
+    (not_read a.strip.now a.held a.msg.now a.scratch.now (held_sound (goal.at.returns-in-Refused c).Else-not-is_sound)
+    (is_plan_lem (goal.at.returns-in-Refused c).Else-not-is_canonical_plan) _ _ _
     (ap (answer_of a.msg.now) (sym (long (goal.at.returns-in-Refused c).After-read)) ∙ there) _ c.not_read.ensures)
 
 pub returns-in-Accepted : goal.returns-in-Accepted
 returns-in-Accepted c =
     let a = c.args in
     let there = sym c.read.ensures.0 ∙ c.in-Accepted.is in
-    was_read_lem a.strip.now a.held a.msg.now a.scratch.now (held_sound (goal.at.returns-in-Accepted c).Else-not-is_sound) (is_plan_lem (goal.at.returns-in-Accepted c).Else-not-is_canonical_plan) _ _
-    (ap (answer_of a.msg.now) (sym (long (goal.at.returns-in-Accepted c).After-read)) ∙ there) _ (c.read.ensures.1 ∙ read_front a.msg.now a.scratch.now _ _ there)
+    was_read_lem a.strip.now a.held a.msg.now a.scratch.now (held_sound (goal.at.returns-in-Accepted c).Else-not-is_sound)
+    (is_plan_lem (goal.at.returns-in-Accepted c).Else-not-is_canonical_plan) _ _
+    (ap (answer_of a.msg.now) (sym (long (goal.at.returns-in-Accepted c).After-read)) ∙ there) _
+    (c.read.ensures.1 ∙ read_front a.msg.now a.scratch.now _ _ there)

@@ -24,16 +24,21 @@ item-returns-then-k-eq0 t c =
     let ed = (edition (cells 4 c.args.keys.now) c.args.rules.now) in
     let b = c.rank_behind-k in
     sym
-    (item_late c.args.s.now a.at a.o p.at_le_o.0 p.at_le_o.1 p.at_le_o.2 p.at_le_o.3 ed a.last (rank_in ed (take (c.args.o - c.args.at) (drop c.args.at c.args.s.now))) refl
+    (item_late c.args.s.now a.at a.o p.at_le_o.0 p.at_le_o.1 p.at_le_o.2 p.at_le_o.3 ed a.last
+    (rank_in ed (take (c.args.o - c.args.at) (drop c.args.at c.args.s.now))) refl
     (not_later ed p.rules_value a.last (take (c.args.o - c.args.at) (drop c.args.at c.args.s.now)) b.result b.ensures c.if-k-eq0.true))
 
 pub item-returns-then-not-word_ends : goal.item-returns-then-not-word_ends
 item-returns-then-not-word_ends t c =
-    let item-ranked : (c.rank_behind-k.result ≡ rank_in (edition (cells 4 c.args.keys.now) c.args.rules.now) (take (c.args.o - c.args.at) (drop c.args.at c.args.s.now))) × (c.args.last < c.rank_behind-k.result) = let a = c.args in
+    let item-ranked : (c.rank_behind-k.result ≡ rank_in (edition (cells 4 c.args.keys.now) c.args.rules.now)
+    (take (c.args.o - c.args.at) (drop c.args.at c.args.s.now))) × (c.args.last < c.rank_behind-k.result) = let a = c.args in
     let b = c.rank_behind-k in
-    later (edition (cells 4 c.args.keys.now) c.args.rules.now) c.requires.rules_value a.last (take (c.args.o - c.args.at) (drop c.args.at c.args.s.now)) b.result b.ensures
+    later (edition (cells 4 c.args.keys.now) c.args.rules.now) c.requires.rules_value a.last (take (c.args.o - c.args.at) (drop c.args.at c.args.s.now))
+    b.result b.ensures
     c.if-k-eq0.false in
-    let item_none : c.word_ends.result ≡ false → (fit_from ((edition (cells 4 c.args.keys.now) c.args.rules.now)) c.args.last (split 32 (drop c.args.at c.args.s.now))) ≡ false = λ n. let a = c.args in
+    let item_none : c.word_ends.result ≡ false
+    → (fit_from ((edition (cells 4 c.args.keys.now) c.args.rules.now)) c.args.last (split 32 (drop c.args.at c.args.s.now))) ≡ false = λ n. let a =
+    c.args in
     let p = c.requires in
     let f = c.end_of-e.ensures in
     item_odd a.s.now a.at a.o p.at_le_o.0 p.at_le_o.1 p.at_le_o.2 p.at_le_o.3 (edition (cells 4 c.args.keys.now) c.args.rules.now) a.last c.rank_behind-k.result
@@ -45,44 +50,57 @@ item-text_fits-requires t c =
 
 pub item-returns-then-not-text_fits : goal.item-returns-then-not-text_fits
 item-returns-then-not-text_fits t c =
-    let item-ranked : (c.rank_behind-k.result ≡ rank_in (edition (cells 4 c.args.keys.now) c.args.rules.now) (take (c.args.o - c.args.at) (drop c.args.at c.args.s.now))) × (c.args.last < c.rank_behind-k.result) = let a = c.args in
+    let item-ranked : (c.rank_behind-k.result ≡ rank_in (edition (cells 4 c.args.keys.now) c.args.rules.now)
+    (take (c.args.o - c.args.at) (drop c.args.at c.args.s.now))) × (c.args.last < c.rank_behind-k.result) = let a = c.args in
     let b = c.rank_behind-k in
-    later (edition (cells 4 c.args.keys.now) c.args.rules.now) c.requires.rules_value a.last (take (c.args.o - c.args.at) (drop c.args.at c.args.s.now)) b.result b.ensures
+    later (edition (cells 4 c.args.keys.now) c.args.rules.now) c.requires.rules_value a.last (take (c.args.o - c.args.at) (drop c.args.at c.args.s.now))
+    b.result b.ensures
     c.if-k-eq0.false in
     let item-parts : c.word_ends.result ≡ true
     → (fit_from ((edition (cells 4 c.args.keys.now) c.args.rules.now)) c.args.last (split 32 (drop c.args.at c.args.s.now)))
     ≡ (ltb c.args.last c.rank_behind-k.result
-    && (word_fits (rule_in (edition (cells 4 c.args.keys.now) c.args.rules.now) c.rank_behind-k.result) ((take (c.end_of-e.result - ((c.args.o + 1))) (drop ((c.args.o + 1)) c.args.s.now)))
-    && fit_more (edition (cells 4 c.args.keys.now) c.args.rules.now) c.rank_behind-k.result (after 32 (drop c.end_of-e.result c.args.s.now)))) = λ q. let a = c.args in
+    && (word_fits (rule_in (edition (cells 4 c.args.keys.now) c.args.rules.now) c.rank_behind-k.result)
+    ((take (c.end_of-e.result - ((c.args.o + 1))) (drop ((c.args.o + 1)) c.args.s.now)))
+    && fit_more (edition (cells 4 c.args.keys.now) c.args.rules.now) c.rank_behind-k.result (after 32 (drop c.end_of-e.result c.args.s.now)))) = λ q. let a =
+    c.args in
     let p = c.requires in
     let f = c.end_of-e.ensures in
-    item_word a.s.now a.at a.o p.at_le_o.0 p.at_le_o.1 p.at_le_o.2 p.at_le_o.3 (edition (cells 4 c.args.keys.now) c.args.rules.now) a.last c.rank_behind-k.result
+    item_word a.s.now a.at a.o p.at_le_o.0 p.at_le_o.1 p.at_le_o.2 p.at_le_o.3 (edition (cells 4 c.args.keys.now) c.args.rules.now) a.last
+    c.rank_behind-k.result
     item-ranked.0 c.end_of-e.result f.value f.lower_bound.1 (sym c.word_ends.ensures ∙ q) in
-    let e : word_fits c.rule_at.result (take (c.end_of-e.result - ((c.args.o + 1))) (drop ((c.args.o + 1)) c.args.s.now)) ≡ false = sym c.text_fits.ensures ∙ c.if-not-text_fits.true in
+    let e : word_fits c.rule_at.result (take (c.end_of-e.result - ((c.args.o + 1))) (drop ((c.args.o + 1)) c.args.s.now)) ≡ false = sym c.text_fits.ensures
+    ∙ c.if-not-text_fits.true in
     rw (item-parts (c.if-not-word_ends.false), lt-ltb _ _ item-ranked.1, ← c.rule_at.ensures, e)
 
 pub item-words-requires : goal.item-words-requires
 item-words-requires t c =
     let p = c.requires in
     let f = c.end_of-e.ensures.lower_bound in
-    let z = eqb-true _ _ (sym c.word_ends.ensures ∙ c.if-not-word_ends.false) in (omega (arith, p.at_le_o.0, p.at_le_o.1, f), ((search rules, search rules, z), p.rules_value))
+    let z = eqb-true _ _ (sym c.word_ends.ensures ∙ c.if-not-word_ends.false) in
+    (omega (arith, p.at_le_o.0, p.at_le_o.1, f), ((search rules, search rules, z), p.rules_value))
 
 pub item-returns : goal.item-returns
 item-returns t c =
-    let item-ranked : (c.rank_behind-k.result ≡ rank_in (edition (cells 4 c.args.keys.now) c.args.rules.now) (take (c.args.o - c.args.at) (drop c.args.at c.args.s.now))) × (c.args.last < c.rank_behind-k.result) = let a = c.args in
+    let item-ranked : (c.rank_behind-k.result ≡ rank_in (edition (cells 4 c.args.keys.now) c.args.rules.now)
+    (take (c.args.o - c.args.at) (drop c.args.at c.args.s.now))) × (c.args.last < c.rank_behind-k.result) = let a = c.args in
     let b = c.rank_behind-k in
-    later (edition (cells 4 c.args.keys.now) c.args.rules.now) c.requires.rules_value a.last (take (c.args.o - c.args.at) (drop c.args.at c.args.s.now)) b.result b.ensures
+    later (edition (cells 4 c.args.keys.now) c.args.rules.now) c.requires.rules_value a.last (take (c.args.o - c.args.at) (drop c.args.at c.args.s.now))
+    b.result b.ensures
     c.if-k-eq0.false in
     let item-parts : c.word_ends.result ≡ true
     → (fit_from ((edition (cells 4 c.args.keys.now) c.args.rules.now)) c.args.last (split 32 (drop c.args.at c.args.s.now)))
     ≡ (ltb c.args.last c.rank_behind-k.result
-    && (word_fits (rule_in (edition (cells 4 c.args.keys.now) c.args.rules.now) c.rank_behind-k.result) ((take (c.end_of-e.result - ((c.args.o + 1))) (drop ((c.args.o + 1)) c.args.s.now)))
-    && fit_more (edition (cells 4 c.args.keys.now) c.args.rules.now) c.rank_behind-k.result (after 32 (drop c.end_of-e.result c.args.s.now)))) = λ q. let a = c.args in
+    && (word_fits (rule_in (edition (cells 4 c.args.keys.now) c.args.rules.now) c.rank_behind-k.result)
+    ((take (c.end_of-e.result - ((c.args.o + 1))) (drop ((c.args.o + 1)) c.args.s.now)))
+    && fit_more (edition (cells 4 c.args.keys.now) c.args.rules.now) c.rank_behind-k.result (after 32 (drop c.end_of-e.result c.args.s.now)))) = λ q. let a =
+    c.args in
     let p = c.requires in
     let f = c.end_of-e.ensures in
-    item_word a.s.now a.at a.o p.at_le_o.0 p.at_le_o.1 p.at_le_o.2 p.at_le_o.3 (edition (cells 4 c.args.keys.now) c.args.rules.now) a.last c.rank_behind-k.result
+    item_word a.s.now a.at a.o p.at_le_o.0 p.at_le_o.1 p.at_le_o.2 p.at_le_o.3 (edition (cells 4 c.args.keys.now) c.args.rules.now) a.last
+    c.rank_behind-k.result
     item-ranked.0 c.end_of-e.result f.value f.lower_bound.1 (sym c.word_ends.ensures ∙ q) in
-    let e : word_fits c.rule_at.result (take (c.end_of-e.result - ((c.args.o + 1))) (drop ((c.args.o + 1)) c.args.s.now)) ≡ true = sym c.text_fits.ensures ∙ c.if-not-text_fits.false in
+    let e : word_fits c.rule_at.result (take (c.end_of-e.result - ((c.args.o + 1))) (drop ((c.args.o + 1)) c.args.s.now)) ≡ true = sym c.text_fits.ensures
+    ∙ c.if-not-text_fits.false in
     rw (item-parts (c.if-not-word_ends.false), lt-ltb _ _ item-ranked.1, ← c.rule_at.ensures, e, c.rule_at.ensures)
     c.words.ensures
 
@@ -103,41 +121,60 @@ words-loop-e-init t c =
 pub words-bounds-s-e : goal.words-bounds-s-e
 words-bounds-s-e t c =
     let words-most : c.end_of-e.result ≤ length c.args.s.now = c.end_of-e.ensures.lower_bound.1 in
-    let words_inside : c.word_ends.result ≡ false → c.end_of-e.result < length c.args.s.now = λ n. not_over_lem c.args.s.now c.end_of-e.result words-most (sym c.word_ends.ensures ∙ n) in words_inside (c.if-not-word_ends.true)
+    let words_inside : c.word_ends.result ≡ false → c.end_of-e.result < length c.args.s.now = λ n. not_over_lem c.args.s.now c.end_of-e.result words-most
+    (sym c.word_ends.ensures ∙ n) in words_inside (c.if-not-word_ends.true)
 
 pub words-returns-then-s-e-ne47 : goal.words-returns-then-s-e-ne47
 words-returns-then-s-e-ne47 t c =
-    let words-reached : ((fit_more ((edition (cells 4 c.args.keys.now) c.args.rules.now)) c.args.k (after 32 (drop c.args.end c.args.s.now)))) ≡ fit_more ((edition (cells 4 c.args.keys.now) c.args.rules.now)) c.args.k (split 32 (drop ((c.loop-e.e + 1)) c.args.s.now)) = let l = c.loop-e in
+    let words-reached : ((fit_more ((edition (cells 4 c.args.keys.now) c.args.rules.now)) c.args.k (after 32 (drop c.args.end c.args.s.now))))
+    ≡ fit_more ((edition (cells 4 c.args.keys.now) c.args.rules.now)) c.args.k (split 32 (drop ((c.loop-e.e + 1)) c.args.s.now)) = let l = c.loop-e in
     l.invariant.2 ∙ ap (fit_more ((edition (cells 4 c.args.keys.now) c.args.rules.now)) c.args.k) (after_here 32 c.args.s.now l.e c.loop-e-test.true) in
     let words-most : c.end_of-e.result ≤ length c.args.s.now = c.end_of-e.ensures.lower_bound.1 in
-    let words-none : c.word_ends.result ≡ false → (get_or c.args.s.now c.end_of-e.result 0 ≡ 47 → ⊥) → ((fit_more ((edition (cells 4 c.args.keys.now) c.args.rules.now)) c.args.k (after 32 (drop c.args.end c.args.s.now)))) ≡ false = λ n b. words-reached
-    ∙ more_other c.args.s.now ((c.loop-e.e + 1)) c.end_of-e.result c.end_of-e.ensures.value words-most ((edition (cells 4 c.args.keys.now) c.args.rules.now)) c.args.k (sym c.word_ends.ensures ∙ n)
-    (signs_only ((edition (cells 4 c.args.keys.now) c.args.rules.now)) c.requires.rules_value) b in sym (words-none (c.if-not-word_ends.true) c.if-s-e-ne47.true)
+    let words-none : c.word_ends.result ≡ false → (get_or c.args.s.now c.end_of-e.result 0 ≡ 47 → ⊥)
+    → ((fit_more ((edition (cells 4 c.args.keys.now) c.args.rules.now)) c.args.k (after 32 (drop c.args.end c.args.s.now)))) ≡ false = λ n b. words-reached
+    ∙ more_other c.args.s.now ((c.loop-e.e + 1)) c.end_of-e.result c.end_of-e.ensures.value words-most ((edition (cells 4 c.args.keys.now) c.args.rules.now))
+    c.args.k (sym c.word_ends.ensures ∙ n)
+    (signs_only ((edition (cells 4 c.args.keys.now) c.args.rules.now)) c.requires.rules_value) b in
+    sym (words-none (c.if-not-word_ends.true) c.if-s-e-ne47.true)
 
 pub words-item-requires : goal.words-item-requires
 words-item-requires t c =
     let words-most : c.end_of-e.result ≤ length c.args.s.now = c.end_of-e.ensures.lower_bound.1 in
-    let words_inside : c.word_ends.result ≡ false → c.end_of-e.result < length c.args.s.now = λ n. not_over_lem c.args.s.now c.end_of-e.result words-most (sym c.word_ends.ensures ∙ n) in
+    let words_inside : c.word_ends.result ≡ false → c.end_of-e.result < length c.args.s.now = λ n. not_over_lem c.args.s.now c.end_of-e.result words-most
+    (sym c.word_ends.ensures ∙ n) in
     let run = run_all text c.args.s.now (c.loop-e.e + 1) c.end_of-e.result c.end_of-e.ensures.value in
     let p = c.requires in
-    let within = words_inside (c.if-not-word_ends.true) in (omega (arith, c.loop-e.invariant.0, c.loop-e-test.true), ((search rules, within, c.if-s-e-ne47.false, run), p.rules_value))
+    let within = words_inside (c.if-not-word_ends.true) in
+    (omega (arith, c.loop-e.invariant.0, c.loop-e-test.true), ((search rules, within, c.if-s-e-ne47.false, run), p.rules_value))
 
 pub words-returns-then-not-word_ends : goal.words-returns-then-not-word_ends
 words-returns-then-not-word_ends t c =
-    let words-reached : ((fit_more ((edition (cells 4 c.args.keys.now) c.args.rules.now)) c.args.k (after 32 (drop c.args.end c.args.s.now)))) ≡ fit_more ((edition (cells 4 c.args.keys.now) c.args.rules.now)) c.args.k (split 32 (drop ((c.loop-e.e + 1)) c.args.s.now)) = let l = c.loop-e in
+    let words-reached : ((fit_more ((edition (cells 4 c.args.keys.now) c.args.rules.now)) c.args.k (after 32 (drop c.args.end c.args.s.now))))
+    ≡ fit_more ((edition (cells 4 c.args.keys.now) c.args.rules.now)) c.args.k (split 32 (drop ((c.loop-e.e + 1)) c.args.s.now)) = let l = c.loop-e in
     l.invariant.2 ∙ ap (fit_more ((edition (cells 4 c.args.keys.now) c.args.rules.now)) c.args.k) (after_here 32 c.args.s.now l.e c.loop-e-test.true) in
     let words-most : c.end_of-e.result ≤ length c.args.s.now = c.end_of-e.ensures.lower_bound.1 in
-    let words_item : c.word_ends.result ≡ false → get_or c.args.s.now c.end_of-e.result 0 ≡ 47 → ((fit_more ((edition (cells 4 c.args.keys.now) c.args.rules.now)) c.args.k (after 32 (drop c.args.end c.args.s.now)))) ≡ fit_from ((edition (cells 4 c.args.keys.now) c.args.rules.now)) c.args.k (split 32 (drop ((c.loop-e.e + 1)) c.args.s.now)) = λ n b. words-reached
-    ∙ more_from c.args.s.now ((c.loop-e.e + 1)) c.end_of-e.result c.end_of-e.ensures.value words-most ((edition (cells 4 c.args.keys.now) c.args.rules.now)) c.args.k (sym c.word_ends.ensures ∙ n) b in c.item.ensures ∙ sym (words_item (c.if-not-word_ends.true) c.if-s-e-ne47.false)
+    let words_item : c.word_ends.result ≡ false → get_or c.args.s.now c.end_of-e.result 0 ≡ 47
+    → ((fit_more ((edition (cells 4 c.args.keys.now) c.args.rules.now)) c.args.k (after 32 (drop c.args.end c.args.s.now))))
+    ≡ fit_from ((edition (cells 4 c.args.keys.now) c.args.rules.now)) c.args.k (split 32 (drop ((c.loop-e.e + 1)) c.args.s.now)) = λ n b. words-reached
+    ∙ more_from c.args.s.now ((c.loop-e.e + 1)) c.end_of-e.result c.end_of-e.ensures.value words-most ((edition (cells 4 c.args.keys.now) c.args.rules.now))
+    c.args.k (sym c.word_ends.ensures ∙ n) b in c.item.ensures ∙ sym (words_item (c.if-not-word_ends.true) c.if-s-e-ne47.false)
 
 pub words-returns-then-is_single : goal.words-returns-then-is_single
 words-returns-then-is_single t c =
-    let words-reached : ((fit_more ((edition (cells 4 c.args.keys.now) c.args.rules.now)) c.args.k (after 32 (drop c.args.end c.args.s.now)))) ≡ fit_more ((edition (cells 4 c.args.keys.now) c.args.rules.now)) c.args.k (split 32 (drop ((c.loop-e.e + 1)) c.args.s.now)) = let l = c.loop-e in
+    let words-reached : ((fit_more ((edition (cells 4 c.args.keys.now) c.args.rules.now)) c.args.k (after 32 (drop c.args.end c.args.s.now))))
+    ≡ fit_more ((edition (cells 4 c.args.keys.now) c.args.rules.now)) c.args.k (split 32 (drop ((c.loop-e.e + 1)) c.args.s.now)) = let l = c.loop-e in
     l.invariant.2 ∙ ap (fit_more ((edition (cells 4 c.args.keys.now) c.args.rules.now)) c.args.k) (after_here 32 c.args.s.now l.e c.loop-e-test.true) in
     let words-most : c.end_of-e.result ≤ length c.args.s.now = c.end_of-e.ensures.lower_bound.1 in
-    let words-word : c.word_ends.result ≡ true → ((fit_more ((edition (cells 4 c.args.keys.now) c.args.rules.now)) c.args.k (after 32 (drop c.args.end c.args.s.now)))) ≡ ((λ (r : Rule). more_fits r (take (c.end_of-e.result - ((c.loop-e.e + 1))) (drop ((c.loop-e.e + 1)) c.args.s.now)) && fit_more ((edition (cells 4 c.args.keys.now) c.args.rules.now)) c.args.k (after 32 (drop c.end_of-e.result c.args.s.now)))) c.rule_at-rule.result = λ q. words-reached
-    ∙ more_word c.args.s.now ((c.loop-e.e + 1)) c.end_of-e.result c.end_of-e.ensures.value words-most ((edition (cells 4 c.args.keys.now) c.args.rules.now)) c.args.k (sym c.word_ends.ensures ∙ q)
-    ∙ ap ((λ (r : Rule). more_fits r (take (c.end_of-e.result - ((c.loop-e.e + 1))) (drop ((c.loop-e.e + 1)) c.args.s.now)) && fit_more ((edition (cells 4 c.args.keys.now) c.args.rules.now)) c.args.k (after 32 (drop c.end_of-e.result c.args.s.now)))) (sym c.rule_at-rule.ensures) in rw (words-word (c.if-not-word_ends.false), sym c.is_single.ensures ∙ c.if-is_single.true)
+    let words-word : c.word_ends.result ≡ true
+    → ((fit_more ((edition (cells 4 c.args.keys.now) c.args.rules.now)) c.args.k (after 32 (drop c.args.end c.args.s.now))))
+    ≡ ((λ (r : Rule). more_fits r (take (c.end_of-e.result - ((c.loop-e.e + 1))) (drop ((c.loop-e.e + 1)) c.args.s.now))
+    && fit_more ((edition (cells 4 c.args.keys.now) c.args.rules.now)) c.args.k (after 32 (drop c.end_of-e.result c.args.s.now)))) c.rule_at-rule.result =
+    λ q. words-reached
+    ∙ more_word c.args.s.now ((c.loop-e.e + 1)) c.end_of-e.result c.end_of-e.ensures.value words-most ((edition (cells 4 c.args.keys.now) c.args.rules.now))
+    c.args.k (sym c.word_ends.ensures ∙ q)
+    ∙ ap ((λ (r : Rule). more_fits r (take (c.end_of-e.result - ((c.loop-e.e + 1))) (drop ((c.loop-e.e + 1)) c.args.s.now))
+    && fit_more ((edition (cells 4 c.args.keys.now) c.args.rules.now)) c.args.k (after 32 (drop c.end_of-e.result c.args.s.now))))
+    (sym c.rule_at-rule.ensures) in rw (words-word (c.if-not-word_ends.false), sym c.is_single.ensures ∙ c.if-is_single.true)
 
 pub words-text_fits-requires : goal.words-text_fits-requires
 words-text_fits-requires t c =
@@ -145,23 +182,39 @@ words-text_fits-requires t c =
 
 pub words-returns-then-not-text_fits : goal.words-returns-then-not-text_fits
 words-returns-then-not-text_fits t c =
-    let words-reached : ((fit_more ((edition (cells 4 c.args.keys.now) c.args.rules.now)) c.args.k (after 32 (drop c.args.end c.args.s.now)))) ≡ fit_more ((edition (cells 4 c.args.keys.now) c.args.rules.now)) c.args.k (split 32 (drop ((c.loop-e.e + 1)) c.args.s.now)) = let l = c.loop-e in
+    let words-reached : ((fit_more ((edition (cells 4 c.args.keys.now) c.args.rules.now)) c.args.k (after 32 (drop c.args.end c.args.s.now))))
+    ≡ fit_more ((edition (cells 4 c.args.keys.now) c.args.rules.now)) c.args.k (split 32 (drop ((c.loop-e.e + 1)) c.args.s.now)) = let l = c.loop-e in
     l.invariant.2 ∙ ap (fit_more ((edition (cells 4 c.args.keys.now) c.args.rules.now)) c.args.k) (after_here 32 c.args.s.now l.e c.loop-e-test.true) in
     let words-most : c.end_of-e.result ≤ length c.args.s.now = c.end_of-e.ensures.lower_bound.1 in
-    let words-word : c.word_ends.result ≡ true → ((fit_more ((edition (cells 4 c.args.keys.now) c.args.rules.now)) c.args.k (after 32 (drop c.args.end c.args.s.now)))) ≡ ((λ (r : Rule). more_fits r (take (c.end_of-e.result - ((c.loop-e.e + 1))) (drop ((c.loop-e.e + 1)) c.args.s.now)) && fit_more ((edition (cells 4 c.args.keys.now) c.args.rules.now)) c.args.k (after 32 (drop c.end_of-e.result c.args.s.now)))) c.rule_at-rule.result = λ q. words-reached
-    ∙ more_word c.args.s.now ((c.loop-e.e + 1)) c.end_of-e.result c.end_of-e.ensures.value words-most ((edition (cells 4 c.args.keys.now) c.args.rules.now)) c.args.k (sym c.word_ends.ensures ∙ q)
-    ∙ ap ((λ (r : Rule). more_fits r (take (c.end_of-e.result - ((c.loop-e.e + 1))) (drop ((c.loop-e.e + 1)) c.args.s.now)) && fit_more ((edition (cells 4 c.args.keys.now) c.args.rules.now)) c.args.k (after 32 (drop c.end_of-e.result c.args.s.now)))) (sym c.rule_at-rule.ensures) in
+    let words-word : c.word_ends.result ≡ true
+    → ((fit_more ((edition (cells 4 c.args.keys.now) c.args.rules.now)) c.args.k (after 32 (drop c.args.end c.args.s.now))))
+    ≡ ((λ (r : Rule). more_fits r (take (c.end_of-e.result - ((c.loop-e.e + 1))) (drop ((c.loop-e.e + 1)) c.args.s.now))
+    && fit_more ((edition (cells 4 c.args.keys.now) c.args.rules.now)) c.args.k (after 32 (drop c.end_of-e.result c.args.s.now)))) c.rule_at-rule.result =
+    λ q. words-reached
+    ∙ more_word c.args.s.now ((c.loop-e.e + 1)) c.end_of-e.result c.end_of-e.ensures.value words-most ((edition (cells 4 c.args.keys.now) c.args.rules.now))
+    c.args.k (sym c.word_ends.ensures ∙ q)
+    ∙ ap ((λ (r : Rule). more_fits r (take (c.end_of-e.result - ((c.loop-e.e + 1))) (drop ((c.loop-e.e + 1)) c.args.s.now))
+    && fit_more ((edition (cells 4 c.args.keys.now) c.args.rules.now)) c.args.k (after 32 (drop c.end_of-e.result c.args.s.now))))
+    (sym c.rule_at-rule.ensures) in
     let e = sym c.text_fits.ensures ∙ c.if-not-text_fits.true in
     rw (words-word (c.if-not-word_ends.false), sym c.is_single.ensures ∙ c.if-is_single.false, e)
 
 pub words-loop-e-preserved : goal.words-loop-e-preserved
 words-loop-e-preserved t c =
-    let words-reached : ((fit_more ((edition (cells 4 c.args.keys.now) c.args.rules.now)) c.args.k (after 32 (drop c.args.end c.args.s.now)))) ≡ fit_more ((edition (cells 4 c.args.keys.now) c.args.rules.now)) c.args.k (split 32 (drop ((c.loop-e.e + 1)) c.args.s.now)) = let l = c.loop-e in
+    let words-reached : ((fit_more ((edition (cells 4 c.args.keys.now) c.args.rules.now)) c.args.k (after 32 (drop c.args.end c.args.s.now))))
+    ≡ fit_more ((edition (cells 4 c.args.keys.now) c.args.rules.now)) c.args.k (split 32 (drop ((c.loop-e.e + 1)) c.args.s.now)) = let l = c.loop-e in
     l.invariant.2 ∙ ap (fit_more ((edition (cells 4 c.args.keys.now) c.args.rules.now)) c.args.k) (after_here 32 c.args.s.now l.e c.loop-e-test.true) in
     let words-most : c.end_of-e.result ≤ length c.args.s.now = c.end_of-e.ensures.lower_bound.1 in
-    let words-word : c.word_ends.result ≡ true → ((fit_more ((edition (cells 4 c.args.keys.now) c.args.rules.now)) c.args.k (after 32 (drop c.args.end c.args.s.now)))) ≡ ((λ (r : Rule). more_fits r (take (c.end_of-e.result - ((c.loop-e.e + 1))) (drop ((c.loop-e.e + 1)) c.args.s.now)) && fit_more ((edition (cells 4 c.args.keys.now) c.args.rules.now)) c.args.k (after 32 (drop c.end_of-e.result c.args.s.now)))) c.rule_at-rule.result = λ q. words-reached
-    ∙ more_word c.args.s.now ((c.loop-e.e + 1)) c.end_of-e.result c.end_of-e.ensures.value words-most ((edition (cells 4 c.args.keys.now) c.args.rules.now)) c.args.k (sym c.word_ends.ensures ∙ q)
-    ∙ ap ((λ (r : Rule). more_fits r (take (c.end_of-e.result - ((c.loop-e.e + 1))) (drop ((c.loop-e.e + 1)) c.args.s.now)) && fit_more ((edition (cells 4 c.args.keys.now) c.args.rules.now)) c.args.k (after 32 (drop c.end_of-e.result c.args.s.now)))) (sym c.rule_at-rule.ensures) in
+    let words-word : c.word_ends.result ≡ true
+    → ((fit_more ((edition (cells 4 c.args.keys.now) c.args.rules.now)) c.args.k (after 32 (drop c.args.end c.args.s.now))))
+    ≡ ((λ (r : Rule). more_fits r (take (c.end_of-e.result - ((c.loop-e.e + 1))) (drop ((c.loop-e.e + 1)) c.args.s.now))
+    && fit_more ((edition (cells 4 c.args.keys.now) c.args.rules.now)) c.args.k (after 32 (drop c.end_of-e.result c.args.s.now)))) c.rule_at-rule.result =
+    λ q. words-reached
+    ∙ more_word c.args.s.now ((c.loop-e.e + 1)) c.end_of-e.result c.end_of-e.ensures.value words-most ((edition (cells 4 c.args.keys.now) c.args.rules.now))
+    c.args.k (sym c.word_ends.ensures ∙ q)
+    ∙ ap ((λ (r : Rule). more_fits r (take (c.end_of-e.result - ((c.loop-e.e + 1))) (drop ((c.loop-e.e + 1)) c.args.s.now))
+    && fit_more ((edition (cells 4 c.args.keys.now) c.args.rules.now)) c.args.k (after 32 (drop c.end_of-e.result c.args.s.now))))
+    (sym c.rule_at-rule.ensures) in
     let e = sym c.text_fits.ensures ∙ c.if-not-text_fits.false in (
       search rules,
       search rules,

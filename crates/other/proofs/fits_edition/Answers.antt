@@ -14,7 +14,8 @@ use Rattle.other.proofs.fits_edition.Goals.{After-word_ends}
 use Rattle.other.proofs.fits_edition.Goals as goal
 
 -- the content is not `0`
-items-only : (c : After-word_ends) → fits_in ((edition (cells 4 c.args.keys.now) c.args.rules.now)) c.args.s.now ≡ fit_from ((edition (cells 4 c.args.keys.now) c.args.rules.now)) 0 (split 32 c.args.s.now)
+items-only : (c : After-word_ends) → fits_in ((edition (cells 4 c.args.keys.now) c.args.rules.now)) c.args.s.now
+    ≡ fit_from ((edition (cells 4 c.args.keys.now) c.args.rules.now)) 0 (split 32 c.args.s.now)
 unfolding fits_in
 items-only c =
     rw (sym c.same_bytes.ensures ∙ c.if-same_bytes.false)
@@ -35,7 +36,9 @@ returns-then-same_bytes c =
 pub returns-then-word_ends : goal.returns-then-word_ends
 returns-then-word_ends c =
     let f = c.end_of-o in
-    sym (items-only (goal.at.returns-then-word_ends c).After-word_ends ∙ from_word c.args.s.now 0 f.result f.ensures.value (most (goal.at.returns-then-word_ends c).After-word_ends) (edition (cells 4 c.args.keys.now) c.args.rules.now) 0 (sym c.word_ends.ensures ∙ c.if-word_ends.true))
+    sym (items-only (goal.at.returns-then-word_ends c).After-word_ends ∙ from_word c.args.s.now 0 f.result f.ensures.value
+    (most (goal.at.returns-then-word_ends c).After-word_ends) (edition (cells 4 c.args.keys.now) c.args.rules.now) 0
+    (sym c.word_ends.ensures ∙ c.if-word_ends.true))
 
 pub bounds-s-o : goal.bounds-s-o
 bounds-s-o c =
@@ -47,11 +50,22 @@ returns-then-s-o-ne47 c =
     let n = signs_only (edition (cells 4 c.args.keys.now) c.args.rules.now) c.requires in
     sym
     (items-only (goal.at.returns-then-s-o-ne47 c).After-word_ends
-    ∙ from_other c.args.s.now 0 f.result f.ensures.value (most (goal.at.returns-then-s-o-ne47 c).After-word_ends) (edition (cells 4 c.args.keys.now) c.args.rules.now) 0 (sym c.word_ends.ensures ∙ c.if-word_ends.false) n c.if-s-o-ne47.true)
+    ∙ from_other c.args.s.now 0 f.result f.ensures.value (most (goal.at.returns-then-s-o-ne47 c).After-word_ends)
+    (edition (cells 4 c.args.keys.now) c.args.rules.now) 0 (sym c.word_ends.ensures ∙ c.if-word_ends.false) n c.if-s-o-ne47.true)
 
 pub item-requires : goal.item-requires
 item-requires c =
-    let f = c.end_of-o in record { at_le_o = (search rules, inside (goal.at.item-requires c).After-word_ends c.if-word_ends.false, c.if-s-o-ne47.false, run_all text c.args.s.now 0 f.result f.ensures.value); rules_value = c.requires }
+    let f = c.end_of-o in
+    record {
+      at_le_o = (
+        search rules,
+        inside (goal.at.item-requires c).After-word_ends c.if-word_ends.false,
+        c.if-s-o-ne47.false,
+        run_all text c.args.s.now 0 f.result
+            f.ensures.value,
+      );
+      rules_value = c.requires;
+    }
 
 pub returns : goal.returns
 returns c =

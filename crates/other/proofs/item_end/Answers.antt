@@ -15,7 +15,9 @@ loop-e-init c =
 
 pub returns-then-find-w : goal.returns-then-find-w
 returns-then-find-w c =
-    let s = c.args.s.now in let at = c.args.at in let l = c.loop-e in let f = c.find-next in let none = end_item s l.e f.result c.loop-e-test.true f.ensures.value c.find.result c.find.ensures.value c.if-find-w.true in record { s_value = sym (append-nil _) ∙ ap (λ (t : List ℕ). take (l.e - at) (drop at s) ++ t) (sym none) ∙ l.invariant.3; lower_bound = search rules }
+    let s = c.args.s.now in let at = c.args.at in let l = c.loop-e in let f = c.find-next in let none =
+    end_item s l.e f.result c.loop-e-test.true f.ensures.value c.find.result c.find.ensures.value c.if-find-w.true in
+    record { s_value = sym (append-nil _) ∙ ap (λ (t : List ℕ). take (l.e - at) (drop at s) ++ t) (sym none) ∙ l.invariant.3; lower_bound = search rules }
 
 pub loop-e-preserved : goal.loop-e-preserved
 loop-e-preserved c =
@@ -29,4 +31,5 @@ loop-e-preserved c =
 
 pub returns : goal.returns
 returns c =
-    let s = c.args.s.now in let at = c.args.at in let l = c.loop-e in let none = end_last s l.e c.loop-e-test.false in record { s_value = sym (append-nil _) ∙ ap (λ (t : List ℕ). take (l.e - at) (drop at s) ++ t) (sym none) ∙ l.invariant.3; lower_bound = search rules }
+    let s = c.args.s.now in let at = c.args.at in let l = c.loop-e in let none = end_last s l.e c.loop-e-test.false in
+    record { s_value = sym (append-nil _) ∙ ap (λ (t : List ℕ). take (l.e - at) (drop at s) ++ t) (sym none) ∙ l.invariant.3; lower_bound = search rules }

@@ -22,7 +22,8 @@ passed c =
     l.invariant.1
     ∙ elim c.if-o-w.branch [
       | then-o-w+else-same_bytes w ↦
-          from_other c.args.key.now c.args.s.now l.at f.result f.ensures.value g.result g.ensures.value w.if-o-w.true (sym w.same_bytes.ensures ∙ w.if-same_bytes.false)
+          from_other c.args.key.now c.args.s.now l.at f.result f.ensures.value g.result g.ensures.value w.if-o-w.true
+          (sym w.same_bytes.ensures ∙ w.if-same_bytes.false)
       | else-o-w w ↦ from_plain c.args.key.now c.args.s.now l.at f.result f.ensures.value g.result g.ensures.value w.if-o-w.false
     ]
 
@@ -42,7 +43,8 @@ returns-then-same_bytes c =
 pub returns-then-e-s : goal.returns-then-e-s
 returns-then-e-s c =
     let last = after_end 32 c.args.s.now c.find-e.result (omega arith) in
-    found_none c.args.key.now c.args.s.now (passed (goal.at.returns-then-e-s c).Joined-o-w ∙ ap (λ (ws : List Word). from_key c.args.key.now (group ws).grouped) last)
+    found_none c.args.key.now c.args.s.now (passed (goal.at.returns-then-e-s c).Joined-o-w
+    ∙ ap (λ (ws : List Word). from_key c.args.key.now (group ws).grouped) last)
 
 pub loop-w-preserved : goal.loop-w-preserved
 loop-w-preserved c =

@@ -32,11 +32,16 @@ loop-at-preserved c =
       search rules,
       search rules,
       c.loop-at.invariant.3
-          ∙ keys_next (edition (cells 4 c.args.keys.now) c.args.rules.now) a.k c.loop-at.j c.loop-at.at c.loop-at.best a.w.now a.keys.now (omega arith) c.loop-at-test.true
-          ∙ ap (λ x. larger x (entries_place (later_keys ((edition (cells 4 c.args.keys.now) c.args.rules.now)) c.args.k (c.loop-at.j + 1) (cells_from (c.loop-at.j + 1) 4 (c.loop-at.at + 4) c.args.keys.now)) c.args.w.now)) (sym best),
+          ∙ keys_next (edition (cells 4 c.args.keys.now) c.args.rules.now) a.k c.loop-at.j c.loop-at.at c.loop-at.best a.w.now a.keys.now
+          (omega arith) c.loop-at-test.true
+          ∙ ap
+          (λ x. larger x
+          (entries_place (later_keys ((edition (cells 4 c.args.keys.now) c.args.rules.now)) c.args.k (c.loop-at.j + 1)
+          (cells_from (c.loop-at.j + 1) 4 (c.loop-at.at + 4) c.args.keys.now)) c.args.w.now)) (sym best),
     )
 
 pub returns : goal.returns
 returns c =
     let a = c.args in
-    sym (c.loop-at.invariant.3 ∙ keys_end (edition (cells 4 c.args.keys.now) c.args.rules.now) a.k c.loop-at.j c.loop-at.at c.loop-at.best a.w.now a.keys.now c.loop-at-test.false)
+    sym (c.loop-at.invariant.3 ∙ keys_end (edition (cells 4 c.args.keys.now) c.args.rules.now) a.k c.loop-at.j c.loop-at.at c.loop-at.best a.w.now a.keys.now
+    c.loop-at-test.false)

@@ -13,9 +13,11 @@ more : (c : After-more_fits) → c.more_fits.result ≡ more_fits (rule_in (edit
 more c =
     c.more_fits.ensures ∙ ap (λ r. more_fits r c.args.w.now) c.rule_in.ensures
 
-under : (c : After-word_fits) → c.word_fits.result ≡ word_fits (rule_in (edition (cells 4 c.args.keys.now) c.args.rules.now) c.rank_in_cells-r.result) (take (length c.args.w.now - (c.find-o.result + 1)) (drop (c.find-o.result + 1) c.args.w.now))
+under : (c : After-word_fits) → c.word_fits.result ≡ word_fits (rule_in (edition (cells 4 c.args.keys.now) c.args.rules.now) c.rank_in_cells-r.result)
+    (take (length c.args.w.now - (c.find-o.result + 1)) (drop (c.find-o.result + 1) c.args.w.now))
 under c =
-    c.word_fits.ensures ∙ ap (λ r. word_fits r (take (length c.args.w.now - (c.find-o.result + 1)) (drop (c.find-o.result + 1) c.args.w.now))) c.rule_in-2.ensures
+    c.word_fits.ensures ∙ ap (λ r. word_fits r (take (length c.args.w.now - (c.find-o.result + 1)) (drop (c.find-o.result + 1) c.args.w.now)))
+    c.rule_in-2.ensures
 
 pub returns-then-k-eq0 : goal.returns-then-k-eq0
 returns-then-k-eq0 c =
@@ -37,15 +39,19 @@ slice_bounds-rank_in_cells-end c =
 
 pub returns-then-r-k : goal.returns-then-r-k
 returns-then-r-k c =
-    ranked_early (edition (cells 4 c.args.keys.now) c.args.rules.now) c.args.k c.args.w.now c.find-o.result c.find-o.ensures.value c.if-o-w.false c.find-o.ensures.lower_bound.1
+    ranked_early (edition (cells 4 c.args.keys.now) c.args.rules.now) c.args.k c.args.w.now c.find-o.result c.find-o.ensures.value c.if-o-w.false
+    c.find-o.ensures.lower_bound.1
     c.rank_in_cells-r.result c.rank_in_cells-r.ensures c.if-r-k.true
 
 pub returns-then-not-word_fits : goal.returns-then-not-word_fits
 returns-then-not-word_fits c =
-    ranked_not (edition (cells 4 c.args.keys.now) c.args.rules.now) c.args.k c.args.w.now c.find-o.result c.find-o.ensures.value c.if-o-w.false c.find-o.ensures.lower_bound.1
-    c.rank_in_cells-r.result c.rank_in_cells-r.ensures c.if-r-k.false (sym (under (goal.at.returns-then-not-word_fits c).After-word_fits) ∙ c.if-not-word_fits.true)
+    ranked_not (edition (cells 4 c.args.keys.now) c.args.rules.now) c.args.k c.args.w.now c.find-o.result c.find-o.ensures.value c.if-o-w.false
+    c.find-o.ensures.lower_bound.1
+    c.rank_in_cells-r.result c.rank_in_cells-r.ensures c.if-r-k.false (sym (under (goal.at.returns-then-not-word_fits c).After-word_fits)
+    ∙ c.if-not-word_fits.true)
 
 pub returns : goal.returns
 returns c =
-    ranked_key (edition (cells 4 c.args.keys.now) c.args.rules.now) c.args.k c.args.w.now c.find-o.result c.find-o.ensures.value c.if-o-w.false c.find-o.ensures.lower_bound.1
+    ranked_key (edition (cells 4 c.args.keys.now) c.args.rules.now) c.args.k c.args.w.now c.find-o.result c.find-o.ensures.value c.if-o-w.false
+    c.find-o.ensures.lower_bound.1
     c.rank_in_cells-r.result c.rank_in_cells-r.ensures c.if-r-k.false (sym (under (goal.at.returns c).After-word_fits) ∙ c.if-not-word_fits.false)

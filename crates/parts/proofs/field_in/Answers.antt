@@ -27,12 +27,17 @@ overflow_add-count c =
 
 pub rank_of-j-requires : goal.rank_of-j-requires
 rank_of-j-requires c =
-    let o = c.requires in (omega (arith, count_is (goal.at.rank_of-j-requires c).After-count_hyphens-count, o.least), omega (arith, count_is (goal.at.rank_of-j-requires c).After-count_hyphens-count, o.greatest))
+    let o = c.requires in (
+      omega (arith, count_is (goal.at.rank_of-j-requires c).After-count_hyphens-count, o.least),
+      omega
+          (arith, count_is (goal.at.rank_of-j-requires c).After-count_hyphens-count, o.greatest),
+    )
 
 pub returns-then-j-count : goal.returns-then-j-count
 returns-then-j-count c =
     let a = c.args in
-    none_there a.t a.m.now a.number c.requires _ (rank_is (goal.at.returns-then-j-count c).After-rank_of-j) (c.if-j-count.true ∙ count_is (goal.at.returns-then-j-count c).After-count_hyphens-count)
+    none_there a.t a.m.now a.number c.requires _ (rank_is (goal.at.returns-then-j-count c).After-rank_of-j)
+    (c.if-j-count.true ∙ count_is (goal.at.returns-then-j-count c).After-count_hyphens-count)
 
 pub field_at-requires : goal.field_at-requires
 field_at-requires c =
@@ -41,5 +46,6 @@ field_at-requires c =
 pub returns : goal.returns
 returns c =
     let a = c.args in
-    one_there a.t a.m.now a.number c.requires _ (rank_is (goal.at.returns c).After-rank_of-j) (λ e. c.if-j-count.false (e ∙ sym (count_is (goal.at.returns c).After-count_hyphens-count)))
+    one_there a.t a.m.now a.number c.requires _ (rank_is (goal.at.returns c).After-rank_of-j)
+    (λ e. c.if-j-count.false (e ∙ sym (count_is (goal.at.returns c).After-count_hyphens-count)))
     _ c.field_at.ensures

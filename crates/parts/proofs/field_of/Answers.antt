@@ -13,7 +13,8 @@ taken c =
 
 pub returns-then-not-own : goal.returns-then-not-own
 returns-then-not-own c =
-    let a = c.args in let told = field-other a.spelling.now a.number _ _ (taken (goal.at.returns-then-not-own c).In-As) (c.if-not-own.true) in record { value = told.0; shows = told.1 }
+    let a = c.args in let told = field-other a.spelling.now a.number _ _ (taken (goal.at.returns-then-not-own c).In-As) (c.if-not-own.true) in
+    record { value = told.0; shows = told.1 }
 
 pub field_in-requires : goal.field_in-requires
 field_in-requires c =
@@ -22,8 +23,10 @@ field_in-requires c =
 
 pub returns-in-Refused : goal.returns-in-Refused
 returns-in-Refused c =
-    let a = c.args in let told = field-refused a.spelling.now a.number _ _ _ (sym c.read_own.ensures ∙ c.in-Refused.is) in record { value = told.0; shows = told.1 }
+    let a = c.args in let told = field-refused a.spelling.now a.number _ _ _ (sym c.read_own.ensures ∙ c.in-Refused.is) in
+    record { value = told.0; shows = told.1 }
 
 pub returns-else-not-own : goal.returns-else-not-own
 returns-else-not-own c =
-    let a = c.args in let told = field-given a.spelling.now a.number _ _ (taken (goal.at.returns-else-not-own c).In-As) (c.if-not-own.false) _ c.field_in.ensures in record { value = told.0; shows = told.1 }
+    let a = c.args in let told = field-given a.spelling.now a.number _ _ (taken (goal.at.returns-else-not-own c).In-As) (c.if-not-own.false) _
+    c.field_in.ensures in record { value = told.0; shows = told.1 }

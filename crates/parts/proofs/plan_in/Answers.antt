@@ -71,45 +71,66 @@ content-requires c =
     span_bounds Fpl c.args.m.now (own (goal.at.content-requires c).After-field_at-eighteen) plan7 _ (seven (goal.at.content-requires c).After-field_at-eighteen)
 
 pub identification_in-requires : goal.identification_in-requires
-identification_in-requires c =
-    (from_short Fpl c.args.m.now (own (goal.at.identification_in-requires c).After-field_at-eighteen) plan7 _ (seven (goal.at.identification_in-requires c).After-field_at-eighteen), content_short Fpl c.args.m.now (own (goal.at.identification_in-requires c).After-field_at-eighteen) plan7 _ (seven (goal.at.identification_in-requires c).After-field_at-eighteen) _ c.content.ensures)
+identification_in-requires c = (
+  from_short Fpl c.args.m.now (own (goal.at.identification_in-requires c).After-field_at-eighteen) plan7 _
+      (seven (goal.at.identification_in-requires c).After-field_at-eighteen),
+  content_short Fpl c.args.m.now
+      (own (goal.at.identification_in-requires c).After-field_at-eighteen) plan7 _ (seven (goal.at.identification_in-requires c).After-field_at-eighteen) _
+      c.content.ensures,
+)
 
 pub content-requires-2 : goal.content-requires-2
 content-requires-2 c =
-    span_bounds Fpl c.args.m.now (own (goal.at.content-requires-2 c).After-field_at-eighteen) plan9 _ (nine (goal.at.content-requires-2 c).After-field_at-eighteen)
+    span_bounds Fpl c.args.m.now (own (goal.at.content-requires-2 c).After-field_at-eighteen) plan9 _
+    (nine (goal.at.content-requires-2 c).After-field_at-eighteen)
 
 pub aircraft_in-requires : goal.aircraft_in-requires
 aircraft_in-requires c = (
-  from_short Fpl c.args.m.now (own (goal.at.aircraft_in-requires c).After-field_at-eighteen) plan9 _ (nine (goal.at.aircraft_in-requires c).After-field_at-eighteen),
-  content_short Fpl c.args.m.now (own (goal.at.aircraft_in-requires c).After-field_at-eighteen) plan9 _ (nine (goal.at.aircraft_in-requires c).After-field_at-eighteen) _ c.content-2.ensures,
-  ap fits9 (content-nine (goal.at.aircraft_in-requires c).After-content-2) ∙ nine_fits c.args.m.now (own (goal.at.aircraft_in-requires c).After-field_at-eighteen),
+  from_short Fpl c.args.m.now (own (goal.at.aircraft_in-requires c).After-field_at-eighteen) plan9 _
+      (nine (goal.at.aircraft_in-requires c).After-field_at-eighteen),
+  content_short Fpl c.args.m.now (own (goal.at.aircraft_in-requires c).After-field_at-eighteen) plan9 _
+      (nine (goal.at.aircraft_in-requires c).After-field_at-eighteen) _ c.content-2.ensures,
+  ap fits9 (content-nine (goal.at.aircraft_in-requires c).After-content-2)
+      ∙ nine_fits c.args.m.now (own (goal.at.aircraft_in-requires c).After-field_at-eighteen),
 )
 
 pub content-requires-3 : goal.content-requires-3
 content-requires-3 c =
-    span_bounds Fpl c.args.m.now (own (goal.at.content-requires-3 c).After-field_at-eighteen) plan13 _ (thirteen (goal.at.content-requires-3 c).After-field_at-eighteen)
+    span_bounds Fpl c.args.m.now (own (goal.at.content-requires-3 c).After-field_at-eighteen) plan13 _
+    (thirteen (goal.at.content-requires-3 c).After-field_at-eighteen)
 
 pub off_block_in-requires : goal.off_block_in-requires
 off_block_in-requires c =
-    ap fits13 (content-thirteen (goal.at.off_block_in-requires c).After-content-3) ∙ thirteen_fits c.args.m.now (own (goal.at.off_block_in-requires c).After-field_at-eighteen)
+    ap fits13 (content-thirteen (goal.at.off_block_in-requires c).After-content-3) ∙ thirteen_fits c.args.m.now
+    (own (goal.at.off_block_in-requires c).After-field_at-eighteen)
 
 pub content-requires-4 : goal.content-requires-4
 content-requires-4 c =
-    span_bounds Fpl c.args.m.now (own (goal.at.content-requires-4 c).After-field_at-eighteen) plan16 _ (sixteen (goal.at.content-requires-4 c).After-field_at-eighteen)
+    span_bounds Fpl c.args.m.now (own (goal.at.content-requires-4 c).After-field_at-eighteen) plan16 _
+    (sixteen (goal.at.content-requires-4 c).After-field_at-eighteen)
 
 pub destination_in-requires : goal.destination_in-requires
-destination_in-requires c =
-    (from_short Fpl c.args.m.now (own (goal.at.destination_in-requires c).After-field_at-eighteen) plan16 _ (sixteen (goal.at.destination_in-requires c).After-field_at-eighteen), ap fits16plan (content-sixteen (goal.at.destination_in-requires c).After-content-4) ∙ sixteen_fits c.args.m.now (own (goal.at.destination_in-requires c).After-field_at-eighteen))
+destination_in-requires c = (
+  from_short Fpl c.args.m.now (own (goal.at.destination_in-requires c).After-field_at-eighteen) plan16 _
+      (sixteen (goal.at.destination_in-requires c).After-field_at-eighteen),
+  ap fits16plan
+      (content-sixteen (goal.at.destination_in-requires c).After-content-4) ∙ sixteen_fits c.args.m.now
+      (own (goal.at.destination_in-requires c).After-field_at-eighteen),
+)
 
 pub content-requires-5 : goal.content-requires-5
 content-requires-5 c =
-    span_bounds Fpl c.args.m.now (own (goal.at.content-requires-5 c).After-field_at-eighteen) plan18 _ (eighteen (goal.at.content-requires-5 c).After-field_at-eighteen)
+    span_bounds Fpl c.args.m.now (own (goal.at.content-requires-5 c).After-field_at-eighteen) plan18 _
+    (eighteen (goal.at.content-requires-5 c).After-field_at-eighteen)
 
 pub returns : goal.returns
 returns c =
     plan_is c.args.m.now _ _ _ _ _
-    (c.identification_in.ensures ∙ identification_is c.args.m.now _ _ (seven (goal.at.returns c).After-field_at-eighteen) (content-seven (goal.at.returns c).After-content))
+    (c.identification_in.ensures ∙ identification_is c.args.m.now _ _ (seven (goal.at.returns c).After-field_at-eighteen)
+    (content-seven (goal.at.returns c).After-content))
     (c.aircraft_in.ensures ∙ aircraft_at c.args.m.now _ _ (nine (goal.at.returns c).After-field_at-eighteen) (content-nine (goal.at.returns c).After-content-2))
-    (c.off_block_in.ensures ∙ off_block_at c.args.m.now _ _ (thirteen (goal.at.returns c).After-field_at-eighteen) (content-thirteen (goal.at.returns c).After-content-3))
-    (c.destination_in.ensures ∙ destination_at c.args.m.now _ _ (sixteen (goal.at.returns c).After-field_at-eighteen) (content-sixteen (goal.at.returns c).After-content-4))
+    (c.off_block_in.ensures ∙ off_block_at c.args.m.now _ _ (thirteen (goal.at.returns c).After-field_at-eighteen)
+    (content-thirteen (goal.at.returns c).After-content-3))
+    (c.destination_in.ensures ∙ destination_at c.args.m.now _ _ (sixteen (goal.at.returns c).After-field_at-eighteen)
+    (content-sixteen (goal.at.returns c).After-content-4))
     (c.date_in.ensures ∙ date_at c.args.m.now _ (content-eighteen (goal.at.returns c).After-content-5))

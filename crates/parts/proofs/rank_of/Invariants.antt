@@ -7,7 +7,8 @@ use Rattle.kinds.specs.Kinds.{forms_of, number_of}
 use Rattle.parts.proofs.rank_of.Given as goal
 
 abbrev pub invariant-loop-j : goal.invariant-loop-j
-invariant-loop-j l = (l.j ≤ l.count) × (up_to l.number (map number_of (forms_of l.t l.count)) ≡ l.j + up_to l.number (drop l.j (map number_of (forms_of l.t l.count))))
+invariant-loop-j l =
+    (l.j ≤ l.count) × (up_to l.number (map number_of (forms_of l.t l.count)) ≡ l.j + up_to l.number (drop l.j (map number_of (forms_of l.t l.count))))
 
 abbrev pub decreases-loop-j : goal.decreases-loop-j
 decreases-loop-j l = l.count - l.j

@@ -38,4 +38,5 @@ returns-in-Refused c =
 
 pub returns-in-Accepted : goal.returns-in-Accepted
 returns-in-Accepted c =
-    was-taken c.args.m.now _ _ (read_so (goal.at.returns-in-Accepted c).In-Accepted) _ (spelling-there (goal.at.returns-in-Accepted c).In-Accepted) _ c.same_bytes.ensures
+    was-taken c.args.m.now _ _ (read_so (goal.at.returns-in-Accepted c).In-Accepted) _ (spelling-there (goal.at.returns-in-Accepted c).In-Accepted) _
+    c.same_bytes.ensures

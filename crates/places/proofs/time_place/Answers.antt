@@ -20,7 +20,8 @@ minutes-within w = (last_right 0 w).within
 
 over : (c : After-one-tens) → c.args.most < c.one-tens.result * 10 → tens c.args.most (get_or c.args.w.now 0 0) ≡ false
 over c h =
-    and_false (digit (get_or c.args.w.now 0 0)) (leb (((get_or c.args.w.now 0 0 - 48) * 10)) c.args.most) (lt-leb (((get_or c.args.w.now 0 0 - 48) * 10)) c.args.most (omega (arith, c.one-tens.ensures.0, h)))
+    and_false (digit (get_or c.args.w.now 0 0)) (leb (((get_or c.args.w.now 0 0 - 48) * 10)) c.args.most)
+    (lt-leb (((get_or c.args.w.now 0 0 - 48) * 10)) c.args.most (omega (arith, c.one-tens.ensures.0, h)))
 
 up_to_lem : (c : After-one-tens) → c.one-tens.result * 10 ≤ c.args.most → tens c.args.most (get_or c.args.w.now 0 0) ≡ true
 up_to_lem c h =
@@ -29,18 +30,22 @@ up_to_lem c h =
 
 tens-right : (c : After-is_digit-2) → tens c.args.most (get_or c.args.w.now 0 0) ≡ true
 tens-right c =
-    let up_to_lem : c.one-tens.result * 10 ≤ c.args.most → tens c.args.most (get_or c.args.w.now 0 0) ≡ true = λ h. and_both (digit (get_or c.args.w.now 0 0)) (leb (((get_or c.args.w.now 0 0 - 48) * 10)) c.args.most) (sym c.is_digit.ensures ∙ c.if-not-is_digit.false)
+    let up_to_lem : c.one-tens.result * 10 ≤ c.args.most → tens c.args.most (get_or c.args.w.now 0 0) ≡ true = λ h. and_both (digit (get_or c.args.w.now 0 0))
+    (leb (((get_or c.args.w.now 0 0 - 48) * 10)) c.args.most) (sym c.is_digit.ensures ∙ c.if-not-is_digit.false)
     (le-leb (((get_or c.args.w.now 0 0 - 48) * 10)) c.args.most (omega (arith, c.one-tens.ensures.0, h))) in up_to_lem c.if-most-tens.false
 
 late : (c : After-one) → c.args.most < c.one-tens.result * 10 + c.one.result
     → units c.args.most (get_or c.args.w.now 0 0) (get_or c.args.w.now 1 0) ≡ false
 late c h =
-    and_false (digit (get_or c.args.w.now 1 0)) (leb ((((get_or c.args.w.now 0 0 - 48) * 10) + (get_or c.args.w.now 1 0 - 48))) c.args.most) (lt-leb ((((get_or c.args.w.now 0 0 - 48) * 10) + (get_or c.args.w.now 1 0 - 48))) c.args.most (omega (arith, c.one-tens.ensures.0, c.one.ensures.0, h)))
+    and_false (digit (get_or c.args.w.now 1 0)) (leb ((((get_or c.args.w.now 0 0 - 48) * 10) + (get_or c.args.w.now 1 0 - 48))) c.args.most)
+    (lt-leb ((((get_or c.args.w.now 0 0 - 48) * 10) + (get_or c.args.w.now 1 0 - 48))) c.args.most
+    (omega (arith, c.one-tens.ensures.0, c.one.ensures.0, h)))
 
 in-time : (c : After-one) → c.one-tens.result * 10 + c.one.result ≤ c.args.most
     → units c.args.most (get_or c.args.w.now 0 0) (get_or c.args.w.now 1 0) ≡ true
 in-time c h =
-    and_both (digit (get_or c.args.w.now 1 0)) (leb ((((get_or c.args.w.now 0 0 - 48) * 10) + (get_or c.args.w.now 1 0 - 48))) c.args.most) (sym c.is_digit-2.ensures ∙ c.if-not-is_digit-2.false)
+    and_both (digit (get_or c.args.w.now 1 0)) (leb ((((get_or c.args.w.now 0 0 - 48) * 10) + (get_or c.args.w.now 1 0 - 48))) c.args.most)
+    (sym c.is_digit-2.ensures ∙ c.if-not-is_digit-2.false)
     (le-leb ((((get_or c.args.w.now 0 0 - 48) * 10) + (get_or c.args.w.now 1 0 - 48))) c.args.most (omega (arith, c.one-tens.ensures.0, c.one.ensures.0, h)))
 
 pub returns-then-w-eq0 : goal.returns-then-w-eq0
@@ -61,11 +66,13 @@ returns-then-w-eq1 c =
 
 pub returns-then-not-is_digit-2 : goal.returns-then-not-is_digit-2
 returns-then-not-is_digit-2 c =
-    time_second c.args.most c.args.w.now c.if-w-eq0.false (tens-right (goal.at.returns-then-not-is_digit-2 c).After-is_digit-2) (rw (sym c.is_digit-2.ensures ∙ c.if-not-is_digit-2.true))
+    time_second c.args.most c.args.w.now c.if-w-eq0.false (tens-right (goal.at.returns-then-not-is_digit-2 c).After-is_digit-2)
+    (rw (sym c.is_digit-2.ensures ∙ c.if-not-is_digit-2.true))
 
 pub returns-then-most-tens-2 : goal.returns-then-most-tens-2
 returns-then-most-tens-2 c =
-    time_second c.args.most c.args.w.now c.if-w-eq0.false (tens-right (goal.at.returns-then-most-tens-2 c).After-is_digit-2) (late (goal.at.returns-then-most-tens-2 c).After-one c.if-most-tens-2.true)
+    time_second c.args.most c.args.w.now c.if-w-eq0.false (tens-right (goal.at.returns-then-most-tens-2 c).After-is_digit-2)
+    (late (goal.at.returns-then-most-tens-2 c).After-one c.if-most-tens-2.true)
 
 pub overflow_add-result : goal.overflow_add-result
 overflow_add-result c =
@@ -73,5 +80,6 @@ overflow_add-result c =
 
 pub returns : goal.returns
 returns c =
-    time_both c.args.most c.args.w.now c.if-w-eq0.false c.if-w-eq1.false (tens-right (goal.at.returns c).After-is_digit-2) (in-time (goal.at.returns c).After-one c.if-most-tens-2.false)
+    time_both c.args.most c.args.w.now c.if-w-eq0.false c.if-w-eq1.false (tens-right (goal.at.returns c).After-is_digit-2)
+    (in-time (goal.at.returns c).After-one c.if-most-tens-2.false)
     c.two_digits.result c.two_digits.ensures

@@ -34,7 +34,8 @@ returns-then-w-eq1 c =
 
 pub returns-then-not-is_digit : goal.returns-then-not-is_digit
 returns-then-not-is_digit c =
-    pair_second (between c.args.lo c.args.hi) digit c.args.w.now c.if-w-eq0.false (first-right (goal.at.returns-then-not-is_digit c).Else-a-hi) (sym c.is_digit.ensures ∙ c.if-not-is_digit.true)
+    pair_second (between c.args.lo c.args.hi) digit c.args.w.now c.if-w-eq0.false (first-right (goal.at.returns-then-not-is_digit c).Else-a-hi)
+    (sym c.is_digit.ensures ∙ c.if-not-is_digit.true)
 
 pub returns : goal.returns
 returns c =

@@ -22,7 +22,11 @@ returns-then-same_bytes c =
 
 pub returns-then-same_bytes-2 : goal.returns-then-same_bytes-2
 returns-then-same_bytes-2 c =
-    rw (zzzz (goal.at.returns-then-same_bytes-2 c).After-same_bytes c.if-same_bytes.false, afil (goal.at.returns-then-same_bytes-2 c).After-same_bytes-2 c.if-same_bytes-2.true) (ap not c.has_key-then-same_bytes-2.ensures)
+    rw (
+      zzzz (goal.at.returns-then-same_bytes-2 c).After-same_bytes c.if-same_bytes.false,
+      afil (goal.at.returns-then-same_bytes-2 c).After-same_bytes-2
+          c.if-same_bytes-2.true,
+    ) (ap not c.has_key-then-same_bytes-2.ensures)
 
 pub returns : goal.returns
 returns c =

@@ -18,13 +18,16 @@ returns-then-t-i-eq120 c =
 
 pub returns-then-not-fits : goal.returns-then-not-fits
 returns-then-not-fits c =
-    sym (meets_off (get_or c.args.t.now c.args.i 0) (get_or c.args.w.now c.args.i 0) c.if-t-i-eq120.false (class (goal.at.returns-then-not-fits c).After-fits ∙ c.if-not-fits.true))
+    sym (meets_off (get_or c.args.t.now c.args.i 0) (get_or c.args.w.now c.args.i 0) c.if-t-i-eq120.false (class (goal.at.returns-then-not-fits c).After-fits
+    ∙ c.if-not-fits.true))
 
 pub returns-then-is_digit : goal.returns-then-is_digit
 returns-then-is_digit c =
-    sym (meets_digit (get_or c.args.t.now c.args.i 0) (get_or c.args.w.now c.args.i 0) c.if-t-i-eq120.false (class (goal.at.returns-then-is_digit c).After-fits ∙ c.if-not-fits.false)
+    sym (meets_digit (get_or c.args.t.now c.args.i 0) (get_or c.args.w.now c.args.i 0) c.if-t-i-eq120.false
+    (class (goal.at.returns-then-is_digit c).After-fits ∙ c.if-not-fits.false)
     (sym c.is_digit.ensures ∙ c.if-is_digit.true))
 
 pub returns : goal.returns
 returns c =
-    sym (meets_other (get_or c.args.t.now c.args.i 0) (get_or c.args.w.now c.args.i 0) c.if-t-i-eq120.false (class (goal.at.returns c).After-fits ∙ c.if-not-fits.false) (sym c.is_digit.ensures ∙ c.if-is_digit.false))
+    sym (meets_other (get_or c.args.t.now c.args.i 0) (get_or c.args.w.now c.args.i 0) c.if-t-i-eq120.false (class (goal.at.returns c).After-fits
+    ∙ c.if-not-fits.false) (sym c.is_digit.ensures ∙ c.if-is_digit.false))

@@ -25,10 +25,12 @@ inside : (c : After-end_of-o) → (c.end_of-o.result ≡ length c.args.w.now →
 inside c n =
     omega (arith, c.end_of-o.ensures.lower_bound.1)
 
-told : (c : Else-w-o-ne47) → pair_fits (wides climbs) c.args.w.now ≡ (point_fits 5 (take c.end_of-o.result c.args.w.now) && any (wides climbs) (drop (c.end_of-o.result + 1) c.args.w.now))
+told : (c : Else-w-o-ne47) → pair_fits (wides climbs) c.args.w.now
+    ≡ (point_fits 5 (take c.end_of-o.result c.args.w.now) && any (wides climbs) (drop (c.end_of-o.result + 1) c.args.w.now))
 told c =
     let signs : c.end_of-o.result ≡ leading sign c.args.w.now = omega (arith, c.end_of-o.ensures.value) in
-    let inside : (c.end_of-o.result ≡ length c.args.w.now → ⊥) → c.end_of-o.result < length c.args.w.now = λ n. omega (arith, c.end_of-o.ensures.lower_bound.1) in
+    let inside : (c.end_of-o.result ≡ length c.args.w.now → ⊥) → c.end_of-o.result < length c.args.w.now =
+    λ n. omega (arith, c.end_of-o.ensures.lower_bound.1) in
     let n = c.if-o-w.false in
     let at = oblique_at c.args.w.now c.end_of-o.result signs (inside n) c.if-w-o-ne47.false in
     pair_at c.args.w.now c.end_of-o.result at (wides climbs) n c.end_of-o.ensures.lower_bound.1
@@ -39,7 +41,8 @@ returns-then-o-w c =
 
 pub returns-then-w-o-ne47 : goal.returns-then-w-o-ne47
 returns-then-w-o-ne47 c =
-    sym (no_pair c.args.w.now c.end_of-o.result (signs (goal.at.returns-then-w-o-ne47 c).After-end_of-o) (wides climbs) (inside (goal.at.returns-then-w-o-ne47 c).After-end_of-o c.if-o-w.false) c.if-w-o-ne47.true)
+    sym (no_pair c.args.w.now c.end_of-o.result (signs (goal.at.returns-then-w-o-ne47 c).After-end_of-o) (wides climbs)
+    (inside (goal.at.returns-then-w-o-ne47 c).After-end_of-o c.if-o-w.false) c.if-w-o-ne47.true)
 
 pub slice_bounds-point_of_signs-end : goal.slice_bounds-point_of_signs-end
 slice_bounds-point_of_signs-end c =

@@ -14,12 +14,23 @@ use Rattle.route.proofs.climbed.Goals as goal
 
 none : (c : After-level_end-l) → c.level_end-l.result ≡ 0 → any (wides climbs) c.args.w.now ≡ false
 none c =
-    climb_none c.args.w.now c.speed_end-v.result c.speed_end-v.ensures.0 ((take (length c.args.w.now - c.speed_end-v.result) (drop c.speed_end-v.result c.args.w.now))) (rest c.args.w.now c.speed_end-v.result) c.if-v-eq0.false c.level_end-l.result c.level_end-l.ensures.0
+    climb_none c.args.w.now c.speed_end-v.result c.speed_end-v.ensures.0
+    ((take (length c.args.w.now - c.speed_end-v.result) (drop c.speed_end-v.result c.args.w.now))) (rest c.args.w.now c.speed_end-v.result)
+    c.if-v-eq0.false c.level_end-l.result c.level_end-l.ensures.0
 
-told : (c : After-level) → any (wides climbs) c.args.w.now ≡ cond (any (wides levels) ((take (length (take (length c.args.w.now - c.speed_end-v.result) (drop c.speed_end-v.result c.args.w.now)) - c.level_end-l.result) (drop c.level_end-l.result (take (length c.args.w.now - c.speed_end-v.result) (drop c.speed_end-v.result c.args.w.now)))))) true (same ((take (length (take (length c.args.w.now - c.speed_end-v.result) (drop c.speed_end-v.result c.args.w.now)) - c.level_end-l.result) (drop c.level_end-l.result (take (length c.args.w.now - c.speed_end-v.result) (drop c.speed_end-v.result c.args.w.now))))) (bytes "PLUS"))
+told : (c : After-level) → any (wides climbs) c.args.w.now
+    ≡ cond
+    (any (wides levels) ((take (length (take (length c.args.w.now - c.speed_end-v.result) (drop c.speed_end-v.result c.args.w.now)) - c.level_end-l.result)
+    (drop c.level_end-l.result (take (length c.args.w.now - c.speed_end-v.result) (drop c.speed_end-v.result c.args.w.now)))))) true
+    (same ((take (length (take (length c.args.w.now - c.speed_end-v.result) (drop c.speed_end-v.result c.args.w.now)) - c.level_end-l.result)
+    (drop c.level_end-l.result (take (length c.args.w.now - c.speed_end-v.result) (drop c.speed_end-v.result c.args.w.now))))) (bytes "PLUS"))
 told c =
-    climb_behind c.args.w.now c.speed_end-v.result c.speed_end-v.ensures.0 (take (length c.args.w.now - c.speed_end-v.result) (drop c.speed_end-v.result c.args.w.now)) (rest c.args.w.now c.speed_end-v.result) c.if-v-eq0.false
-    c.level_end-l.result c.level_end-l.ensures.0 ((take (length (take (length c.args.w.now - c.speed_end-v.result) (drop c.speed_end-v.result c.args.w.now)) - c.level_end-l.result) (drop c.level_end-l.result (take (length c.args.w.now - c.speed_end-v.result) (drop c.speed_end-v.result c.args.w.now))))) (rest (take (length c.args.w.now - c.speed_end-v.result) (drop c.speed_end-v.result c.args.w.now)) c.level_end-l.result) c.if-l-eq0.false
+    climb_behind c.args.w.now c.speed_end-v.result c.speed_end-v.ensures.0
+    (take (length c.args.w.now - c.speed_end-v.result) (drop c.speed_end-v.result c.args.w.now)) (rest c.args.w.now c.speed_end-v.result) c.if-v-eq0.false
+    c.level_end-l.result c.level_end-l.ensures.0
+    ((take (length (take (length c.args.w.now - c.speed_end-v.result) (drop c.speed_end-v.result c.args.w.now)) - c.level_end-l.result)
+    (drop c.level_end-l.result (take (length c.args.w.now - c.speed_end-v.result) (drop c.speed_end-v.result c.args.w.now)))))
+    (rest (take (length c.args.w.now - c.speed_end-v.result) (drop c.speed_end-v.result c.args.w.now)) c.level_end-l.result) c.if-l-eq0.false
 
 pub returns-then-v-eq0 : goal.returns-then-v-eq0
 returns-then-v-eq0 c =

@@ -23,7 +23,8 @@ word-requires c =
 
 pub returns-then-o-w : goal.returns-then-o-w
 returns-then-o-w c =
-    c.word.ensures ∙ sym (signs_plain _ c.args.w.now (whole_signs c.args.w.now c.end_of-o.result (signs (goal.at.returns-then-o-w c).After-end_of-o) c.if-o-w.true))
+    c.word.ensures
+    ∙ sym (signs_plain _ c.args.w.now (whole_signs c.args.w.now c.end_of-o.result (signs (goal.at.returns-then-o-w c).After-end_of-o) c.if-o-w.true))
 
 pub joined-requires : goal.joined-requires
 joined-requires c =
@@ -31,4 +32,5 @@ joined-requires c =
 
 pub returns : goal.returns
 returns c =
-    c.joined.ensures ∙ sym (anywhere c.args.w.now c.end_of-o.result (signs (goal.at.returns c).After-end_of-o) (inside (goal.at.returns c).After-end_of-o c.if-o-w.false) _)
+    c.joined.ensures ∙ sym (anywhere c.args.w.now c.end_of-o.result (signs (goal.at.returns c).After-end_of-o)
+    (inside (goal.at.returns c).After-end_of-o c.if-o-w.false) _)

@@ -13,7 +13,8 @@ use Rattle.route.proofs.Digits.{no_coordinate, coordinate_by}
 use Rattle.route.proofs.is_coordinate.Goals.{Else-w-m}
 use Rattle.route.proofs.is_coordinate.Goals as goal
 
-told : (c : Else-w-m) → fits (coordinate_shape c.args.k c.args.j) c.args.w.now ≡ (half_fits (bytes "NS") (take (c.args.k + 1) c.args.w.now) && half_fits (bytes "EW") (drop (c.args.k + 1) c.args.w.now))
+told : (c : Else-w-m) → fits (coordinate_shape c.args.k c.args.j) c.args.w.now
+    ≡ (half_fits (bytes "NS") (take (c.args.k + 1) c.args.w.now) && half_fits (bytes "EW") (drop (c.args.k + 1) c.args.w.now))
 told c =
     coordinate_by c.args.k c.args.j c.args.w.now (omega (arith, c.if-w-m.false))
 

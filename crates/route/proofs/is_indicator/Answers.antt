@@ -33,4 +33,5 @@ returns-then-same_bytes-2 c =
 pub returns : goal.returns
 unfolding indicators
 returns c =
-    rw (first (goal.at.returns c).After-same_bytes-2, sym c.same_bytes-2.ensures ∙ c.if-same_bytes-2.false, alone (same c.args.w.now (bytes "IFR"))) c.same_bytes-3.ensures
+    rw (first (goal.at.returns c).After-same_bytes-2, sym c.same_bytes-2.ensures ∙ c.if-same_bytes-2.false, alone (same c.args.w.now (bytes "IFR")))
+    c.same_bytes-3.ensures

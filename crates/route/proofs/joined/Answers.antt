@@ -29,17 +29,21 @@ oblique : (c : Else-w-o-ne47) → c.args.o ≡ 0 + up_to 47 c.args.w.now
 oblique c =
     oblique_at c.args.w.now c.args.o c.requires.1 c.requires.0 c.if-w-o-ne47.false
 
-told : (c : Else-w-o-ne47) → element_fits true c.args.w.now ≡ cond (same (take c.args.o c.args.w.now) (bytes "C")) (pair_fits (wides climbs) (drop (c.args.o + 1) c.args.w.now)) (pair_fits (wides changes) c.args.w.now)
+told : (c : Else-w-o-ne47) → element_fits true c.args.w.now ≡ cond (same (take c.args.o c.args.w.now) (bytes "C"))
+    (pair_fits (wides climbs) (drop (c.args.o + 1) c.args.w.now)) (pair_fits (wides changes) c.args.w.now)
 told c =
     element_at c.args.w.now c.args.o (oblique c) true (short c) (inside c)
 
 -- where it is another
-changing : (c : Else-same_bytes) → element_fits true c.args.w.now ≡ (point_fits 5 (take c.args.o c.args.w.now) && any (wides changes) (drop (c.args.o + 1) c.args.w.now))
+changing : (c : Else-same_bytes) → element_fits true c.args.w.now
+    ≡ (point_fits 5 (take c.args.o c.args.w.now) && any (wides changes) (drop (c.args.o + 1) c.args.w.now))
 changing c =
     let oblique : c.args.o ≡ 0 + up_to 47 c.args.w.now = oblique_at c.args.w.now c.args.o c.requires.1 c.requires.0 c.if-w-o-ne47.false in
     let short : c.args.o ≡ length c.args.w.now → ⊥ = λ e. omega (arith, c.requires.0) in
     let inside : c.args.o ≤ length c.args.w.now = omega (arith, c.requires.0) in
-    let told : element_fits true c.args.w.now ≡ cond (same (take c.args.o c.args.w.now) (bytes "C")) (pair_fits (wides climbs) (drop (c.args.o + 1) c.args.w.now)) (pair_fits (wides changes) c.args.w.now) = element_at c.args.w.now c.args.o oblique true short inside in
+    let told : element_fits true c.args.w.now ≡ cond (same (take c.args.o c.args.w.now) (bytes "C"))
+    (pair_fits (wides climbs) (drop (c.args.o + 1) c.args.w.now)) (pair_fits (wides changes) c.args.w.now) =
+    element_at c.args.w.now c.args.o oblique true short inside in
     rw (told, sym c.same_bytes.ensures ∙ c.if-same_bytes.false) (pair_at c.args.w.now c.args.o oblique (wides changes) short inside)
 
 pub returns-then-w-o-ne47 : goal.returns-then-w-o-ne47
@@ -52,7 +56,8 @@ slice_bounds-p-end c =
 
 pub returns-then-same_bytes : goal.returns-then-same_bytes
 returns-then-same_bytes c =
-    rw (told (goal.at.returns-then-same_bytes c).Else-w-o-ne47, sym c.same_bytes.ensures ∙ c.if-same_bytes.true) (c.climb.ensures ∙ climbs_rest c.args.w.now (c.args.o + 1))
+    rw (told (goal.at.returns-then-same_bytes c).Else-w-o-ne47, sym c.same_bytes.ensures ∙ c.if-same_bytes.true)
+    (c.climb.ensures ∙ climbs_rest c.args.w.now (c.args.o + 1))
 
 pub point_of_signs-requires : goal.point_of_signs-requires
 point_of_signs-requires c =

@@ -38,12 +38,18 @@ in_minutes-requires c =
 pub returns-then-is_coordinate-2 : goal.returns-then-is_coordinate-2
 unfolding point_fits
 returns-then-is_coordinate-2 c =
-    rw (no-degrees (goal.at.returns-then-is_coordinate-2 c).After-is_coordinate-2, sym c.is_coordinate-2.ensures ∙ c.if-is_coordinate-2.true) c.in_minutes.ensures
+    rw (no-degrees (goal.at.returns-then-is_coordinate-2 c).After-is_coordinate-2, sym c.is_coordinate-2.ensures ∙ c.if-is_coordinate-2.true)
+    c.in_minutes.ensures
 
 pub returns-then-w-gt7 : goal.returns-then-w-gt7
 unfolding point_fits
 returns-then-w-gt7 c =
-    rw (no-degrees (goal.at.returns-then-w-gt7 c).After-is_coordinate-2, no-minutes (goal.at.returns-then-w-gt7 c).Else-is_coordinate-2, lt-ltb 7 _ c.if-w-gt7.true) c.with_bearing.ensures
+    rw (
+      no-degrees (goal.at.returns-then-w-gt7 c).After-is_coordinate-2,
+      no-minutes (goal.at.returns-then-w-gt7 c).Else-is_coordinate-2,
+      lt-ltb 7 _
+          c.if-w-gt7.true,
+    ) c.with_bearing.ensures
 
 pub returns : goal.returns
 unfolding point_fits

@@ -12,9 +12,12 @@ use Rattle.route.proofs.Fronts.{no_start, start_behind}
 use Rattle.route.proofs.start.Goals.{After-level}
 use Rattle.route.proofs.start.Goals as goal
 
-told : (c : After-level) → any (wides starts) c.args.w.now ≡ cond (any (wides levels) ((take (length c.args.w.now - c.speed_end-v.result) (drop c.speed_end-v.result c.args.w.now)))) true (same ((take (length c.args.w.now - c.speed_end-v.result) (drop c.speed_end-v.result c.args.w.now))) (bytes "VFR"))
+told : (c : After-level) → any (wides starts) c.args.w.now
+    ≡ cond (any (wides levels) ((take (length c.args.w.now - c.speed_end-v.result) (drop c.speed_end-v.result c.args.w.now)))) true
+    (same ((take (length c.args.w.now - c.speed_end-v.result) (drop c.speed_end-v.result c.args.w.now))) (bytes "VFR"))
 told c =
-    start_behind c.args.w.now c.speed_end-v.result c.speed_end-v.ensures.0 ((take (length c.args.w.now - c.speed_end-v.result) (drop c.speed_end-v.result c.args.w.now))) (rest c.args.w.now c.speed_end-v.result) c.if-v-eq0.false
+    start_behind c.args.w.now c.speed_end-v.result c.speed_end-v.ensures.0
+    ((take (length c.args.w.now - c.speed_end-v.result) (drop c.speed_end-v.result c.args.w.now))) (rest c.args.w.now c.speed_end-v.result) c.if-v-eq0.false
 
 pub returns-then-v-eq0 : goal.returns-then-v-eq0
 returns-then-v-eq0 c =

@@ -8,7 +8,8 @@ use Rattle.route_places.specs.Places.{route, word_place}
 use Rattle.route_places.proofs.place_words.Given as goal
 
 abbrev pub invariant-loop-at : goal.invariant-loop-at
-invariant-loop-at l = (l.at ≤ length l.t) × (words_place route word_place false (split 32 l.t) ≡ l.at + words_place route word_place false (split 32 (drop l.at l.t)))
+invariant-loop-at l =
+    (l.at ≤ length l.t) × (words_place route word_place false (split 32 l.t) ≡ l.at + words_place route word_place false (split 32 (drop l.at l.t)))
 
 abbrev pub decreases-loop-at : goal.decreases-loop-at
 decreases-loop-at l = length l.t - l.at

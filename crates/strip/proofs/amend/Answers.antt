@@ -30,13 +30,16 @@ inside c =
 
 whole_there : (c : After-write_amended-n) → take c.write_amended-n.result c.write_amended-n.new.out ≡ ((new_strip c.args.role c.args.plan.now c.args.said.now))
 whole_there c =
-    ap (take c.write_amended-n.result) c.write_amended-n.ensures.1 ∙ front_whole ((new_strip c.args.role c.args.plan.now c.args.said.now)) _ c.write_amended-n.result (long c)
+    ap (take c.write_amended-n.result) c.write_amended-n.ensures.1 ∙ front_whole ((new_strip c.args.role c.args.plan.now c.args.said.now)) _
+    c.write_amended-n.result (long c)
 
 field_is : (c : After-unexplained_in-field) → c.unexplained_in-field.result ≡ unexplained_in (amended c.args.role c.args.plan.now c.args.said.now)
 field_is c =
     let long : c.write_amended-n.result ≡ length ((new_strip c.args.role c.args.plan.now c.args.said.now)) = c.write_amended-n.ensures.0 in
     let two : 2 ≤ c.write_amended-n.result = omega (arith, long, new_two c.args.plan.now c.args.said.now c.args.role) in
-    let text_there : split 45 (take (c.write_amended-n.result - 1 - 1) (drop 1 c.write_amended-n.new.out)) ≡ amended c.args.role c.args.plan.now c.args.said.now = ap (λ (w : List ℕ). split 45 (take (c.write_amended-n.result - 1 - 1) (drop 1 w))) c.write_amended-n.ensures.1
+    let text_there : split 45 (take (c.write_amended-n.result - 1 - 1) (drop 1 c.write_amended-n.new.out))
+    ≡ amended c.args.role c.args.plan.now c.args.said.now = ap (λ (w : List ℕ). split 45 (take (c.write_amended-n.result - 1 - 1) (drop 1 w)))
+    c.write_amended-n.ensures.1
     ∙ ap (split 45) (front_text ((new_strip c.args.role c.args.plan.now c.args.said.now)) _ c.write_amended-n.result long two)
     ∙ new_cut c.args.plan.now c.args.said.now c.args.role in
     c.unexplained_in-field.ensures ∙ ap unexplained_in text_there
@@ -64,17 +67,20 @@ slice_bounds-unexplained_in-end c =
 pub returns-then-field-ne0 : goal.returns-then-field-ne0
 returns-then-field-ne0 c =
     let a = c.args in
-    left_unexplained a.role a.plan.now a.said.now a.next a.out.now _ (field_is (goal.at.returns-then-field-ne0 c).After-unexplained_in-field) c.if-field-ne0.true
+    left_unexplained a.role a.plan.now a.said.now a.next a.out.now _ (field_is (goal.at.returns-then-field-ne0 c).After-unexplained_in-field)
+    c.if-field-ne0.true
 
 pub returns-then-n-gt-MOST_BYTES : goal.returns-then-n-gt-MOST_BYTES
 returns-then-n-gt-MOST_BYTES c =
     let a = c.args in
-    too_long a.role a.plan.now a.said.now a.next a.out.now _ (field_is (goal.at.returns-then-n-gt-MOST_BYTES c).After-unexplained_in-field) c.if-field-ne0.false _ (long (goal.at.returns-then-n-gt-MOST_BYTES c).After-write_amended-n) c.if-n-gt-MOST_BYTES.true
+    too_long a.role a.plan.now a.said.now a.next a.out.now _ (field_is (goal.at.returns-then-n-gt-MOST_BYTES c).After-unexplained_in-field)
+    c.if-field-ne0.false _ (long (goal.at.returns-then-n-gt-MOST_BYTES c).After-write_amended-n) c.if-n-gt-MOST_BYTES.true
 
 pub returns-then-out-n : goal.returns-then-out-n
 returns-then-out-n c =
     let a = c.args in
-    no_room_lem a.role a.plan.now a.said.now a.next a.out.now _ (field_is (goal.at.returns-then-out-n c).After-unexplained_in-field) c.if-field-ne0.false _ (long (goal.at.returns-then-out-n c).After-write_amended-n)
+    no_room_lem a.role a.plan.now a.said.now a.next a.out.now _ (field_is (goal.at.returns-then-out-n c).After-unexplained_in-field) c.if-field-ne0.false _
+    (long (goal.at.returns-then-out-n c).After-write_amended-n)
     (omega (arith, c.if-n-gt-MOST_BYTES.false)) c.if-out-n.true
 
 pub slice_bounds-new-end : goal.slice_bounds-new-end
@@ -87,11 +93,17 @@ slice_bounds-put-end c =
 
 pub put-written-requires : goal.put-written-requires
 put-written-requires c =
-    omega (arith, ap length (whole_there (goal.at.put-written-requires c).After-write_amended-n), long (goal.at.put-written-requires c).After-write_amended-n, c.if-out-n.false)
+    omega (
+      arith,
+      ap length (whole_there (goal.at.put-written-requires c).After-write_amended-n),
+      long (goal.at.put-written-requires c).After-write_amended-n,
+      c.if-out-n.false,
+    )
 
 pub returns : goal.returns
 returns c =
     let a = c.args in
     let put = put_same a.out.now (whole_there (goal.at.returns c).After-write_amended-n) c.put-written.ensures in
     fits-room a.role a.plan.now a.said.now a.next a.out.now _ (field_is (goal.at.returns c).After-unexplained_in-field) c.if-field-ne0.false
-    _ put.0 (omega (arith, put.0, long (goal.at.returns c).After-write_amended-n, c.if-n-gt-MOST_BYTES.false)) (omega (arith, put.0, long (goal.at.returns c).After-write_amended-n, c.if-out-n.false)) _ put.1
+    _ put.0 (omega (arith, put.0, long (goal.at.returns c).After-write_amended-n, c.if-n-gt-MOST_BYTES.false))
+    (omega (arith, put.0, long (goal.at.returns c).After-write_amended-n, c.if-out-n.false)) _ put.1

@@ -48,12 +48,15 @@ returns-then-not-compares_date c =
 pub returns-then-ours-eq0 : goal.returns-then-ours-eq0
 returns-then-ours-eq0 c =
     let a = c.args in
-    ours-none (compares_date a.role) (date_in c.args.a.now) (date_in a.b.now) (none_there c.date_word-ours.result.now (date_in c.args.a.now) (is_ours (goal.at.returns-then-ours-eq0 c).After-date_word-ours) c.if-ours-eq0.true)
+    ours-none (compares_date a.role) (date_in c.args.a.now) (date_in a.b.now)
+    (none_there c.date_word-ours.result.now (date_in c.args.a.now) (is_ours (goal.at.returns-then-ours-eq0 c).After-date_word-ours) c.if-ours-eq0.true)
 
 pub returns-then-theirs-eq0 : goal.returns-then-theirs-eq0
 returns-then-theirs-eq0 c =
-    theirs-none (compares_date c.args.role) (date_in c.args.a.now) (date_in c.args.b.now) (ours-there (goal.at.returns-then-theirs-eq0 c).After-date_word-theirs)
-    (none_there c.date_word-theirs.result.now (date_in c.args.b.now) (is-theirs (goal.at.returns-then-theirs-eq0 c).After-date_word-theirs) c.if-theirs-eq0.true)
+    theirs-none (compares_date c.args.role) (date_in c.args.a.now) (date_in c.args.b.now)
+    (ours-there (goal.at.returns-then-theirs-eq0 c).After-date_word-theirs)
+    (none_there c.date_word-theirs.result.now (date_in c.args.b.now) (is-theirs (goal.at.returns-then-theirs-eq0 c).After-date_word-theirs)
+    c.if-theirs-eq0.true)
 
 pub returns : goal.returns
 returns c =

@@ -20,7 +20,8 @@ identification c =
       c.field.ensures,
     )
 
-aerodrome : (c : After-same_bytes-2) → c.same_bytes-2.result ≡ same (take 4 (get_or (split 45 c.args.plan.now) 5 [])) (take 4 (get_or (split 45 c.args.said.now) 2 []))
+aerodrome : (c : After-same_bytes-2) → c.same_bytes-2.result ≡ same (take 4 (get_or (split 45 c.args.plan.now) 5 []))
+    (take 4 (get_or (split 45 c.args.said.now) 2 []))
 aerodrome c =
     cc (
       c.same_bytes-2.ensures,
@@ -30,7 +31,8 @@ aerodrome c =
       c.field-ours.ensures,
     )
 
-destination : (c : After-same_bytes-3) → c.same_bytes-3.result ≡ same (take 4 (get_or (split 45 c.args.plan.now) 7 [])) (take 4 (get_or (split 45 c.args.said.now) 3 []))
+destination : (c : After-same_bytes-3) → c.same_bytes-3.result ≡ same (take 4 (get_or (split 45 c.args.plan.now) 7 []))
+    (take 4 (get_or (split 45 c.args.said.now) 3 []))
 destination c =
     cc (
       c.same_bytes-3.ensures,
@@ -40,7 +42,8 @@ destination c =
       c.field-3.ensures,
     )
 
-date : (c : After-date_differs) → c.date_differs.result ≡ (compares_date c.args.role && other_day (date_in (get_or (split 45 c.args.plan.now) 8 [])) (date_in (get_or (split 45 c.args.said.now) 4 [])))
+date : (c : After-date_differs) → c.date_differs.result ≡ (compares_date c.args.role && other_day (date_in (get_or (split 45 c.args.plan.now) 8 []))
+    (date_in (get_or (split 45 c.args.said.now) 4 [])))
 date c =
     c.date_differs.ensures
     ∙ ap₂ (λ (v w : Word). compares_date c.args.role && other_day (date_in v) (date_in w)) c.field-5.ensures c.field-6.ensures

@@ -18,12 +18,14 @@ compared c =
 pub returns-then-any : goal.returns-then-any
 returns-then-any c =
     let a = c.args in
-    differing a.role a.plan.now a.held a.said.now a.out.now _ (says (goal.at.returns-then-any c).In-Says) (compared (goal.at.returns-then-any c).After-any ∙ c.if-any.true)
+    differing a.role a.plan.now a.held a.said.now a.out.now _ (says (goal.at.returns-then-any c).In-Says) (compared (goal.at.returns-then-any c).After-any
+    ∙ c.if-any.true)
 
 pub returns-then-not-allows : goal.returns-then-not-allows
 returns-then-not-allows c =
     let a = c.args in
-    not_allowed a.role a.plan.now a.held a.said.now a.out.now _ (says (goal.at.returns-then-not-allows c).In-Says) (compared (goal.at.returns-then-not-allows c).After-any ∙ c.if-any.false)
+    not_allowed a.role a.plan.now a.held a.said.now a.out.now _ (says (goal.at.returns-then-not-allows c).In-Says)
+    (compared (goal.at.returns-then-not-allows c).After-any ∙ c.if-any.false)
     (sym c.allows.ensures ∙ c.if-not-allows.true)
 
 pub amend-requires : goal.amend-requires
@@ -38,6 +40,7 @@ returns-in-Unfit c =
 pub returns-else-not-allows : goal.returns-else-not-allows
 returns-else-not-allows c =
     let a = c.args in
-    allowed a.role a.plan.now a.held a.said.now a.out.now _ (says (goal.at.returns-else-not-allows c).In-Says) (compared (goal.at.returns-else-not-allows c).After-any ∙ c.if-any.false)
+    allowed a.role a.plan.now a.held a.said.now a.out.now _ (says (goal.at.returns-else-not-allows c).In-Says)
+    (compared (goal.at.returns-else-not-allows c).After-any ∙ c.if-any.false)
     (sym c.allows.ensures ∙ c.if-not-allows.false) c.next.result c.next.ensures
     _ _ c.amend.ensures

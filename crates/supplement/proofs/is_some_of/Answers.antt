@@ -21,7 +21,8 @@ returns-then-not-one_of c =
 
 pub returns-then-one_of : goal.returns-then-one_of
 returns-then-one_of c =
-    some_twice c.args.set.now c.args.w.now c.loop-i.i c.loop-i.invariant.1 c.loop-i-test.true (sym (behind (goal.at.returns-then-one_of c).After-one_of-in-loop-i) ∙ c.if-one_of.true)
+    some_twice c.args.set.now c.args.w.now c.loop-i.i c.loop-i.invariant.1 c.loop-i-test.true
+    (sym (behind (goal.at.returns-then-one_of c).After-one_of-in-loop-i) ∙ c.if-one_of.true)
 
 pub loop-i-preserved : goal.loop-i-preserved
 loop-i-preserved c = (

@@ -32,7 +32,8 @@ bounds-w-0 c =
 pub returns-then-place-past : goal.returns-then-place-past
 returns-then-place-past c =
     sym
-    (step_late c.args.stage c.args.w.now (second (goal.at.returns-then-place-past c).Else-not-has_key) (omega (arith, c.if-place-past.true, c.place.ensures, c.past.ensures)))
+    (step_late c.args.stage c.args.w.now (second (goal.at.returns-then-place-past c).Else-not-has_key)
+    (omega (arith, c.if-place-past.true, c.place.ensures, c.past.ensures)))
 
 pub slice_bounds-first-count : goal.slice_bounds-first-count
 slice_bounds-first-count c =

@@ -29,7 +29,8 @@ pub returns-in-Aircraft : goal.returns-in-Aircraft
 returns-in-Aircraft c =
     let a = c.args in
     c.front_of-in-Aircraft.ensures.0
-    ∙ sym (among (λ r. further_place r a.w.now) (λ r. leading text a.w.now) (Aircraft ∷ (Remarks ∷ (Pilot ∷ []))) a.stage c.in-Aircraft.in-Aircraft-own.keys4 refl)
+    ∙ sym (among (λ r. further_place r a.w.now) (λ r. leading text a.w.now) (Aircraft ∷ (Remarks ∷ (Pilot ∷ []))) a.stage c.in-Aircraft.in-Aircraft-own.keys4
+    refl)
 
 pub returns-in_default : goal.returns-in_default
 returns-in_default c =

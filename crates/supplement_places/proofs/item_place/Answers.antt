@@ -29,11 +29,13 @@ returns-then-place-past c =
 
 pub returns-then-w-eq1 : goal.returns-then-w-eq1
 returns-then-w-eq1 c =
-    item_letter c.args.stage c.args.w.now (some (goal.at.returns-then-w-eq1 c).Else-place-past) (later (goal.at.returns-then-w-eq1 c).Else-place-past) c.if-w-eq1.true
+    item_letter c.args.stage c.args.w.now (some (goal.at.returns-then-w-eq1 c).Else-place-past) (later (goal.at.returns-then-w-eq1 c).Else-place-past)
+    c.if-w-eq1.true
 
 pub returns-then-w-ne47 : goal.returns-then-w-ne47
 returns-then-w-ne47 c =
-    item_bare c.args.stage c.args.w.now (some (goal.at.returns-then-w-ne47 c).Else-place-past) (later (goal.at.returns-then-w-ne47 c).Else-place-past) c.if-w-ne47.true
+    item_bare c.args.stage c.args.w.now (some (goal.at.returns-then-w-ne47 c).Else-place-past) (later (goal.at.returns-then-w-ne47 c).Else-place-past)
+    c.if-w-ne47.true
 
 placed : (c : After-first_place) → 2 + c.first_place.result ≡ item_place c.args.stage c.args.w.now
 placed c =

@@ -6,7 +6,8 @@ use Rattle.text.proofs.Index.{cells_from}
 use Rattle.text.proofs.rank_behind.Given as goal
 
 abbrev pub invariant-loop-k : goal.invariant-loop-k
-invariant-loop-k l = rank_from (l.last + 1) l.w (drop l.last (cells l.width l.list)) ≡ rank_from (l.k + 1) l.w (cells_from (l.k + 1) l.width (l.k * l.width) l.list)
+invariant-loop-k l = rank_from (l.last + 1) l.w (drop l.last (cells l.width l.list))
+    ≡ rank_from (l.k + 1) l.w (cells_from (l.k + 1) l.width (l.k * l.width) l.list)
 
 abbrev pub decreases-loop-k : goal.decreases-loop-k
 decreases-loop-k l = l.n - l.k
