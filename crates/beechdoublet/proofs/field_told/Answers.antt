@@ -1,4 +1,4 @@
--- `beechdoublet::field_told_lem` meets its contract. Assumes nothing.
+-- `beechdoublet::field_told` meets its contract. Assumes nothing.
 use borrow.Author.Tests.{le-ltb, lt-ltb, ne_eqb, eq-eqb}
 use Rattle.beechdoublet.proofs.field_told.Goals as goal
 

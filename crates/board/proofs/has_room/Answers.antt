@@ -1,4 +1,4 @@
--- `board::has_room_lem` meets its contract. Assumes nothing.
+-- `board::has_room` meets its contract. Assumes nothing.
 use mathlib.Core.Path.{◌∙◌}
 use Rattle.board.proofs.Turns.{room_is}
 use Rattle.board.proofs.has_room.Goals as goal

@@ -1,4 +1,4 @@
--- `canonical::read_as_lem` meets its contract. Assumes nothing.
+-- `canonical::read_as` meets its contract. Assumes nothing.
 use Prim.Native.Nat.{◌-◌, ◌<◌}
 use mathlib.Core.Bool.{true}
 use mathlib.Core.Path.{◌≡◌, sym, ap, ◌∙◌}

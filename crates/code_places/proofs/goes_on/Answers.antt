@@ -1,4 +1,4 @@
--- `code_places::goes_on_lem` meets its contract. Assumes nothing.
+-- `code_places::goes_on` meets its contract. Assumes nothing.
 use mathlib.Core.Path.{sym, ◌∙◌}
 use Rattle.text.specs.Words.{cells}
 use Rattle.code_places.proofs.Index.{go_none, go_fits, go_digit}

@@ -1,4 +1,4 @@
--- `message::has_room_lem` meets its contract. Assumes nothing.
+-- `message::has_room` meets its contract. Assumes nothing.
 use native.Mathlib.Omega.{arith}
 use mathlib.Core.Path.{sym, ap}
 use Prim.Native.Nat.{ℕ}

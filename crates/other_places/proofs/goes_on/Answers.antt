@@ -1,4 +1,4 @@
--- `other_places::goes_on_lem` meets its contract. Assumes nothing.
+-- `other_places::goes_on` meets its contract. Assumes nothing.
 use mathlib.Core.Path.{sym, ap, ◌∙◌}
 use borrow.Author.Tests.{lt-ltb}
 use Rattle.other.specs.Rules.{single}

@@ -1,4 +1,4 @@
--- `racks::in_place_lem` meets its contract. Assumes nothing.
+-- `racks::in_place` meets its contract. Assumes nothing.
 use borrow.Author.Tests.{le-leb, lt-leb}
 use Rattle.racks.proofs.in_place.Goals as goal
 

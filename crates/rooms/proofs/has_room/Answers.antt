@@ -1,4 +1,4 @@
--- `rooms::has_room_lem` meets its contract. Assumes nothing.
+-- `rooms::has_room` meets its contract. Assumes nothing.
 use Rattle.rooms.proofs.Racks.{below_six, none_shared, some_shared}
 use Rattle.rooms.proofs.has_room.Goals as goal
 

@@ -1,4 +1,4 @@
--- `route::out_of_range_lem` meets its contract. Assumes nothing.
+-- `route::out_of_range` meets its contract. Assumes nothing.
 use mathlib.Core.Path.{sym, ◌∙◌}
 use Rattle.shape.specs.Shape.{wide}
 use Rattle.shape.proofs.Index.{fits_lengths}

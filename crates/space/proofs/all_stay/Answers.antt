@@ -1,4 +1,4 @@
--- `space::all_stay_lem` meets its contract. Assumes nothing.
+-- `space::all_stay` meets its contract. Assumes nothing.
 use mathlib.Core.Path.{sym, ◌∙◌}
 use Rattle.space.proofs.Stays.{stay_stop, stay_next, stay_end}
 use native.Mathlib.Omega.{arith}
