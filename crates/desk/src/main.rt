@@ -101,12 +101,7 @@ fn cause(desk: Held, piece: &[u8], strip: &[u8]) -> Cause
 }
 
 // Takes a piece: prints its line and hands back what the desk then holds.
-fn take<R: Print + Eprint>(
-    console: &Console<'_, R>,
-    desk: Held,
-    piece: &[u8],
-    strip: &mut [u8],
-) -> Held
+fn take<R: Print>(console: &Console<'_, R>, desk: Held, piece: &[u8], strip: &mut [u8]) -> Held
     requires { (length strip.old ≡ most) × InRoom desk }
     ensures { (standing_in result strip.new ≡ standing_after (standing_in desk strip.old) piece.now) × InRoom result }
 {
@@ -127,7 +122,7 @@ fn take<R: Print + Eprint>(
 }
 
 // Takes each piece of an input in its turn.
-fn run<R: Print + Eprint>(console: &Console<'_, R>, s: &[u8], strip: &mut [u8]) -> Held
+fn run<R: Print>(console: &Console<'_, R>, s: &[u8], strip: &mut [u8]) -> Held
     requires { length strip.old ≡ most }
     ensures { standing_in result strip.new ≡ after_all none (pieces_of s.now) }
 {
@@ -142,7 +137,7 @@ fn run<R: Print + Eprint>(console: &Console<'_, R>, s: &[u8], strip: &mut [u8]) 
 }
 
 fn main(rt: HostRuntime) -> ExitCode {
-    let console = Console::new(&rt);
+    let console = Console::new(&rt, rt.stderr());
     let mut buffer = [0u8; 65537];
     let n = say::messages(&console, &mut rt.stdin(), &mut buffer);
     let mut strip = [0u8; outer::MOST_BYTES];

@@ -42,7 +42,7 @@ fn play(board: Board, call: Call, line: &[u8], bytes: &mut [u8; 36000]) -> Turn
 }
 
 // Makes a call, on a copy of the strips: the board stays as it was where the call is accepted and cannot be kept.
-fn make<R: Print + Eprint>(
+fn make<R: Print>(
     console: &Console<'_, R>,
     board: Board,
     journal: Journal<'_>,
@@ -68,7 +68,7 @@ fn make<R: Print + Eprint>(
     b
 }
 
-fn take<R: Print + Eprint>(
+fn take<R: Print>(
     console: &Console<'_, R>,
     board: Board,
     journal: Journal<'_>,
@@ -96,7 +96,7 @@ fn take<R: Print + Eprint>(
 }
 
 // A line has ended.
-fn end_line<R: Print + Eprint>(
+fn end_line<R: Print>(
     console: &Console<'_, R>,
     board: Board,
     journal: Journal<'_>,
@@ -115,7 +115,7 @@ fn end_line<R: Print + Eprint>(
 }
 
 // Takes standard input to its end. A loop has to end, so the lines are counted down, from a number that no run uses up.
-fn serve<R: Print + Eprint, I: Read>(
+fn serve<R: Print, I: Read>(
     console: &Console<'_, R>,
     from: &mut I,
     board: Board,
@@ -198,11 +198,7 @@ fn replay_end(board: Board, w: Waiting, line: &[u8], bytes: &mut [u8; 36000]) ->
 }
 
 // Plays the journal from the empty board to its end. What cannot be played again is said.
-fn replay_all<R: Eprint>(
-    console: &Console<'_, R>,
-    file: &JournalFile,
-    bytes: &mut [u8; 36000],
-) -> Played
+fn replay_all<R>(console: &Console<'_, R>, file: &JournalFile, bytes: &mut [u8; 36000]) -> Played
     requires { length bytes.old ≡ 36000 }
     ensures { PlaysAgain result bytes.new }
 {
@@ -234,7 +230,7 @@ fn replay_all<R: Eprint>(
 }
 
 // Plays the journal, then takes standard input.
-fn start<R: Print + Eprint, I: Read>(
+fn start<R: Print, I: Read>(
     console: &Console<'_, R>,
     from: &mut I,
     file: &JournalFile,
@@ -253,7 +249,7 @@ fn start<R: Print + Eprint, I: Read>(
 }
 
 fn main(rt: HostRuntime) -> ExitCode {
-    let console = Console::new(&rt);
+    let console = Console::new(&rt, rt.stderr());
     let mut input = rt.stdin();
     let mut bytes = [0u8; 36000];
     if !journal::is_named(&rt) {

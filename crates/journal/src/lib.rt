@@ -170,7 +170,7 @@ fn has_begun(w: Waiting) -> bool {
 }
 
 // The next line of standard input; its last one needs no end. A read that fails looks like the end, and is said.
-pub fn next_of_input<R: Eprint, I: Read>(
+pub fn next_of_input<R, I: Read>(
     console: &Console<'_, R>,
     from: &mut I,
     reader: Reader,
@@ -182,7 +182,7 @@ pub fn next_of_input<R: Eprint, I: Read>(
 {
     let t = next_line(from, true, reader, chunk, line);
     if t.failed {
-        say::complain(console, "beechdoublet: standard input cannot be read\n");
+        say::complain(console, b"beechdoublet: standard input cannot be read\n");
     }
     let w = t.waiting;
     let ended = t.ended;
@@ -202,24 +202,24 @@ pub fn next_of_input<R: Eprint, I: Read>(
 }
 
 // Says that a line of the journal cannot be played again.
-pub fn complain_of_line<R: Eprint>(console: &Console<'_, R>) {
+pub fn complain_of_line<R>(console: &Console<'_, R>) {
     say::complain(
         console,
-        "beechdoublet: a line of the journal is no call that is accepted; the journal is left as it is\n",
+        b"beechdoublet: a line of the journal is no call that is accepted; the journal is left as it is\n",
     );
 }
 
 // Says why the next line of the journal cannot be had: it is too long, or a read failed.
-fn complain_of<R: Eprint>(console: &Console<'_, R>, w: Waiting) {
+fn complain_of<R>(console: &Console<'_, R>, w: Waiting) {
     if w.over {
         complain_of_line(console);
         return;
     }
-    say::complain(console, "beechdoublet: the journal cannot be read\n");
+    say::complain(console, b"beechdoublet: the journal cannot be read\n");
 }
 
 // The next line of the journal. One that is too long is not read on, and a read that fails is said.
-pub fn next_of_journal<R: Eprint>(
+pub fn next_of_journal<R>(
     console: &Console<'_, R>,
     journal: &JournalFile,
     reader: Reader,
@@ -292,7 +292,7 @@ fn open_or_make<R: Files<File = File>>(rt: &R, path: &str) -> io::Result<File> {
 }
 
 // The journal, to be read and kept. There is none where it cannot be opened, which is said.
-fn open_at<R: Eprint + Files<File = File>>(
+fn open_at<R: Files<File = File>>(
     console: &Console<'_, R>,
     rt: &R,
     path: &str,
@@ -303,17 +303,17 @@ fn open_at<R: Eprint + Files<File = File>>(
             lost: Cell::new(false),
         }),
         Err(_) => {
-            say::complain(console, "beechdoublet: the journal cannot be opened\n");
+            say::complain(console, b"beechdoublet: the journal cannot be opened\n");
             None
         }
     }
 }
 
 // The name of the journal is longer than 4,096 bytes, or is no text.
-fn no_name<R: Eprint>(console: &Console<'_, R>) -> Option<JournalFile> {
+fn no_name<R>(console: &Console<'_, R>) -> Option<JournalFile> {
     say::complain(
         console,
-        "beechdoublet: the name of the journal cannot be read\n",
+        b"beechdoublet: the name of the journal cannot be read\n",
     );
     None
 }
@@ -328,7 +328,7 @@ pub fn is_named<R: Env>(rt: &R) -> bool {
 }
 
 // The same of the journal that the program's argument names.
-pub fn open_named<R: Eprint + Env + Files<File = File>>(
+pub fn open_named<R: Env + Files<File = File>>(
     console: &Console<'_, R>,
     rt: &R,
 ) -> Option<JournalFile> {
@@ -363,20 +363,20 @@ fn drop_last(file: &File, n: usize) -> io::Result<()> {
 }
 
 // Drops the n bytes of a last line without its end, and says so; or says that they cannot be dropped.
-pub fn drop_torn<R: Eprint>(console: &Console<'_, R>, journal: &JournalFile, n: usize) -> bool {
+pub fn drop_torn<R>(console: &Console<'_, R>, journal: &JournalFile, n: usize) -> bool {
     if n == 0 {
         return true;
     }
     if drop_last(&journal.file, n).is_err() {
         say::complain(
             console,
-            "beechdoublet: the last line of the journal has no end, and cannot be dropped\n",
+            b"beechdoublet: the last line of the journal has no end, and cannot be dropped\n",
         );
         return false;
     }
     say::note(
         console,
-        "handlers: the last line of the journal has no end, and was dropped\n",
+        b"handlers: the last line of the journal has no end, and was dropped\n",
     );
     true
 }

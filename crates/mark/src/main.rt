@@ -195,7 +195,7 @@ fn mark(s: &[u8], out: &mut [u8; 917504]) -> usize
 }
 
 fn main(rt: HostRuntime) -> ExitCode {
-    let console = Console::new(&rt);
+    let console = Console::new(&rt, rt.stderr());
     let mut buffer = [0u8; 65537];
     let n = say::messages(&console, &mut rt.stdin(), &mut buffer);
     let mut out = [0u8; 917504];

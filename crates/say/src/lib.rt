@@ -11,28 +11,30 @@ use kinds::MessageType;
 use shape::Clock;
 use state::{Departure, State, Strip};
 use std::cell::Cell;
-use std::io::Read;
+use std::io::{Read, Stderr, Write};
 use std::process::ExitCode;
 
-// Where a program prints, and whether it has said that something went wrong.
+// Where a program prints and where it says what went wrong, and whether it has said so.
 #[derive(Drop)]
 pub struct Console<'a, R> {
     rt: &'a R,
+    errors: Stderr,
     complained: Cell<bool>,
 }
 
 impl<'a, R> Console<'a, R> {
     // One on which nothing has gone wrong yet.
-    pub fn new(rt: &'a R) -> Console<'a, R> {
+    pub fn new(rt: &'a R, errors: Stderr) -> Console<'a, R> {
         Console {
             rt,
+            errors,
             complained: Cell::new(false),
         }
     }
 }
 
 // Says what went wrong first, and no more.
-pub fn complain<R: Eprint>(console: &Console<'_, R>, what: &str) {
+pub fn complain<R>(console: &Console<'_, R>, what: &[u8]) {
     if !console.complained.get() {
         note(console, what);
         console.complained.set(true);
@@ -40,8 +42,9 @@ pub fn complain<R: Eprint>(console: &Console<'_, R>, what: &str) {
 }
 
 // Writes to standard error what is no fault. Where that fails there is nowhere to say so.
-pub fn note<R: Eprint>(console: &Console<'_, R>, what: &str) {
-    let _ = console.rt.eprint(what);
+pub fn note<R>(console: &Console<'_, R>, what: &[u8]) {
+    let mut to = &console.errors;
+    let _ = to.write_all(what);
 }
 
 // The status that a program ends with: 1 where it has complained, and 0 otherwise.
@@ -52,8 +55,17 @@ pub fn status<R>(console: &Console<'_, R>) -> ExitCode {
     ExitCode::SUCCESS
 }
 
-// Reads standard input up to its end, or as much as `buf` holds, and gives the count. A read that fails looks like the end, and is said.
-pub fn input<R: Eprint, I: Read>(console: &Console<'_, R>, from: &mut I, buf: &mut [u8]) -> usize
+// Complains unless standard input has ended.
+fn expect_end<R, I: Read>(console: &Console<'_, R>, from: &mut I) {
+    let mut further = [0u8; 1];
+    match from.read(&mut further) {
+        Ok(0) => {}
+        _ => complain(console, b"beechdoublet: standard input cannot be read\n"),
+    }
+}
+
+// Reads up to the end, or as much as `buf` holds, and gives the count. A read that fails looks like the end.
+fn read_full<I: Read>(from: &mut I, buf: &mut [u8]) -> usize
     ensures { IsPrefixLen result buf.new }
 {
     let mut n = 0;
@@ -61,11 +73,19 @@ pub fn input<R: Eprint, I: Read>(console: &Console<'_, R>, from: &mut I, buf: &m
         match from.read(&mut buf[n..]) {
             Ok(0) => return n,
             Ok(more) => n += more,
-            Err(_) => {
-                complain(console, "beechdoublet: standard input cannot be read\n");
-                return n;
-            }
+            Err(_) => return n,
         }
+    }
+    n
+}
+
+// Reads standard input up to its end, or as much as `buf` holds, and gives the count. A read that fails looks like the end; one further tells them apart.
+pub fn input<R, I: Read>(console: &Console<'_, R>, from: &mut I, buf: &mut [u8]) -> usize
+    ensures { IsPrefixLen result buf.new }
+{
+    let n = read_full(from, buf);
+    if n < buf.len() {
+        expect_end(console, from);
     }
     n
 }
@@ -75,7 +95,7 @@ const MOST_INPUT: usize = 65536;
 
 // Reads the messages of standard input, and gives the count. Of more than `MOST_INPUT` bytes it says `TOO LONG`, and gives none; `buf` has one byte more
 // than that, to show it.
-pub fn messages<R: Print + Eprint, I: Read>(
+pub fn messages<R: Print, I: Read>(
     console: &Console<'_, R>,
     from: &mut I,
     buf: &mut [u8; 65537],
@@ -91,14 +111,17 @@ pub fn messages<R: Print + Eprint, I: Read>(
 }
 
 // Writes to standard output.
-pub fn print<R: Print + Eprint>(console: &Console<'_, R>, bytes: &[u8]) {
+pub fn print<R: Print>(console: &Console<'_, R>, bytes: &[u8]) {
     if console.rt.write_all(bytes).is_err() {
-        complain(console, "beechdoublet: standard output cannot be written\n");
+        complain(
+            console,
+            b"beechdoublet: standard output cannot be written\n",
+        );
     }
 }
 
 // Writes a number, as decimal digits.
-pub fn decimal<R: Print + Eprint>(console: &Console<'_, R>, n: u64) {
+pub fn decimal<R: Print>(console: &Console<'_, R>, n: u64) {
     let mut digits = [0u8; 20];
     let k = io::decimal(n, &mut digits);
     print(console, &digits[..k]);
@@ -126,18 +149,18 @@ pub fn four_digits(t: Clock) -> [u8; 4]
     ]
 }
 
-fn time<R: Print + Eprint>(console: &Console<'_, R>, t: Clock) {
+fn time<R: Print>(console: &Console<'_, R>, t: Clock) {
     print(console, &four_digits(t));
 }
 
-fn departure<R: Print + Eprint>(console: &Console<'_, R>, d: Departure) {
+fn departure<R: Print>(console: &Console<'_, R>, d: Departure) {
     match d {
         Departure::Known(t) => time(console, t),
         Departure::Unknown => print(console, b"----"),
     }
 }
 
-fn arrival<R: Print + Eprint>(console: &Console<'_, R>, d: Departure, a: Aerodrome, t: Clock) {
+fn arrival<R: Print>(console: &Console<'_, R>, d: Departure, a: Aerodrome, t: Clock) {
     print(console, b"ARRIVED ");
     departure(console, d);
     print(console, b" ");
@@ -148,7 +171,7 @@ fn arrival<R: Print + Eprint>(console: &Console<'_, R>, d: Departure, a: Aerodro
 
 // A state: its name, and its times and aerodrome. Any state is printed; only one that `Strip::is_sound` passes has times and an aerodrome as
 // document 01 writes them.
-pub fn state<R: Print + Eprint>(console: &Console<'_, R>, s: State) {
+pub fn state<R: Print>(console: &Console<'_, R>, s: State) {
     match s {
         State::Filed => print(console, b"FILED"),
         State::Departed(t) => {
@@ -160,7 +183,7 @@ pub fn state<R: Print + Eprint>(console: &Console<'_, R>, s: State) {
     }
 }
 
-fn type_of<R: Print + Eprint>(console: &Console<'_, R>, t: MessageType) {
+fn type_of<R: Print>(console: &Console<'_, R>, t: MessageType) {
     match t {
         MessageType::Fpl => print(console, b"OK FPL"),
         MessageType::Chg => print(console, b"OK CHG"),
@@ -175,20 +198,20 @@ fn type_of<R: Print + Eprint>(console: &Console<'_, R>, t: MessageType) {
 }
 
 // The end of a line: a space and the spelling.
-pub fn spelled<R: Print + Eprint>(console: &Console<'_, R>, spelling: &[u8]) {
+pub fn spelled<R: Print>(console: &Console<'_, R>, spelling: &[u8]) {
     print(console, b" ");
     print(console, spelling);
     print(console, b"\n");
 }
 
 // An accepted message: `OK`, its type, its spelling.
-pub fn accepted<R: Print + Eprint>(console: &Console<'_, R>, t: MessageType, spelling: &[u8]) {
+pub fn accepted<R: Print>(console: &Console<'_, R>, t: MessageType, spelling: &[u8]) {
     type_of(console, t);
     spelled(console, spelling);
 }
 
 // A strip: `OK`, its state, its spelling.
-pub fn strip<R: Print + Eprint>(console: &Console<'_, R>, held: Strip, spelling: &[u8]) {
+pub fn strip<R: Print>(console: &Console<'_, R>, held: Strip, spelling: &[u8]) {
     let s = held.state;
     print(console, b"OK ");
     state(console, s);
@@ -196,7 +219,7 @@ pub fn strip<R: Print + Eprint>(console: &Console<'_, R>, held: Strip, spelling:
 }
 
 // A refusal up to the end of its line: `NO`, number, field, place.
-pub fn refused<R: Print + Eprint>(console: &Console<'_, R>, number: u8, field: u8, place: usize) {
+pub fn refused<R: Print>(console: &Console<'_, R>, number: u8, field: u8, place: usize) {
     print(console, b"NO ");
     decimal(console, number as u64);
     print(console, b" ");
@@ -206,7 +229,7 @@ pub fn refused<R: Print + Eprint>(console: &Console<'_, R>, number: u8, field: u
 }
 
 // A refusal, as a line.
-pub fn refusal<R: Print + Eprint>(console: &Console<'_, R>, number: u8, field: u8, place: usize) {
+pub fn refusal<R: Print>(console: &Console<'_, R>, number: u8, field: u8, place: usize) {
     refused(console, number, field, place);
     print(console, b"\n");
 }

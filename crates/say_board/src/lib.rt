@@ -9,7 +9,7 @@ use say::Console;
 use state::Strip;
 
 // A strip that was just filed: its slot, its state and its spelling.
-fn tell_filed<R: Print + Eprint>(
+fn tell_filed<R: Print>(
     console: &Console<'_, R>,
     board: Board,
     call: Call,
@@ -25,7 +25,7 @@ fn tell_filed<R: Print + Eprint>(
 }
 
 // A strip that was updated: its state and its spelling.
-fn tell_updated<R: Print + Eprint>(
+fn tell_updated<R: Print>(
     console: &Console<'_, R>,
     board: Board,
     call: Call,
@@ -38,7 +38,7 @@ fn tell_updated<R: Print + Eprint>(
 }
 
 // The state of the strip in a slot, behind a space.
-fn show_found<R: Print + Eprint>(console: &Console<'_, R>, board: Board, firm: u8, slot: usize) {
+fn show_found<R: Print>(console: &Console<'_, R>, board: Board, firm: u8, slot: usize) {
     if let Looked::Stands(held) = board::look(board, firm, slot) {
         say::print(console, b" ");
         let s = held.state;
@@ -47,7 +47,7 @@ fn show_found<R: Print + Eprint>(console: &Console<'_, R>, board: Board, firm: u
 }
 
 // Why an update of the strip in a slot was refused, as the desk shows it.
-fn show_why<R: Print + Eprint>(
+fn show_why<R: Print>(
     console: &Console<'_, R>,
     board: Board,
     firm: u8,
@@ -62,7 +62,7 @@ fn show_why<R: Print + Eprint>(
 }
 
 // The cause of a refusal, behind its number, field and place. It is asked of the board as it stands: a refused call leaves it as it was.
-fn show_cause<R: Print + Eprint>(
+fn show_cause<R: Print>(
     console: &Console<'_, R>,
     board: Board,
     call: Call,
@@ -86,7 +86,7 @@ fn show_cause<R: Print + Eprint>(
 }
 
 // The answer to a call; the board is as it then stands.
-pub fn tell<R: Print + Eprint>(
+pub fn tell<R: Print>(
     console: &Console<'_, R>,
     board: Board,
     call: Call,
@@ -111,7 +111,7 @@ pub fn tell<R: Print + Eprint>(
 }
 
 // The strip in a slot, or why there is none.
-pub fn show_strip<R: Print + Eprint>(
+pub fn show_strip<R: Print>(
     console: &Console<'_, R>,
     board: Board,
     firm: u8,
@@ -133,7 +133,7 @@ pub fn show_strip<R: Print + Eprint>(
 }
 
 // Of a strip in the list: its slot, its identification and its state.
-fn show_entry<R: Print + Eprint>(
+fn show_entry<R: Print>(
     console: &Console<'_, R>,
     board: Board,
     firm: u8,
@@ -152,12 +152,7 @@ fn show_entry<R: Print + Eprint>(
     }
 }
 
-fn show_entries<R: Print + Eprint>(
-    console: &Console<'_, R>,
-    board: Board,
-    firm: u8,
-    bytes: &[u8; 36000],
-) {
+fn show_entries<R: Print>(console: &Console<'_, R>, board: Board, firm: u8, bytes: &[u8; 36000]) {
     let mut slot = 0;
     while slot < 10 {
         show_entry(console, board, firm, slot, bytes);
@@ -166,12 +161,7 @@ fn show_entries<R: Print + Eprint>(
 }
 
 // The strips of a firm, by rising slot.
-pub fn show_list<R: Print + Eprint>(
-    console: &Console<'_, R>,
-    board: Board,
-    firm: u8,
-    bytes: &[u8; 36000],
-) {
+pub fn show_list<R: Print>(console: &Console<'_, R>, board: Board, firm: u8, bytes: &[u8; 36000]) {
     match rooms::firm_named(firm) {
         Named::Nobody => say::refusal(console, 18, 0, 0),
         Named::By(_) => {

@@ -5,14 +5,14 @@ use causes::{Cause, Key};
 use say::{Console, print};
 use strip::Differences;
 
-fn name<R: Print + Eprint>(console: &Console<'_, R>, shown: bool, word: &[u8]) {
+fn name<R: Print>(console: &Console<'_, R>, shown: bool, word: &[u8]) {
     if shown {
         print(console, b" ");
         print(console, word);
     }
 }
 
-fn differences<R: Print + Eprint>(console: &Console<'_, R>, d: Differences) {
+fn differences<R: Print>(console: &Console<'_, R>, d: Differences) {
     name(console, d.identification, b"IDENTIFICATION");
     name(console, d.aerodrome, b"AERODROME");
     name(console, d.time, b"TIME");
@@ -20,7 +20,7 @@ fn differences<R: Print + Eprint>(console: &Console<'_, R>, d: Differences) {
     name(console, d.date, b"DATE");
 }
 
-fn key<R: Print + Eprint>(console: &Console<'_, R>, k: Key) {
+fn key<R: Print>(console: &Console<'_, R>, k: Key) {
     match k {
         Key::Typ => print(console, b" TYP"),
         Key::Dep => print(console, b" DEP"),
@@ -30,7 +30,7 @@ fn key<R: Print + Eprint>(console: &Console<'_, R>, k: Key) {
 }
 
 // The names of a cause; nothing where nothing more is shown.
-pub fn names<R: Print + Eprint>(console: &Console<'_, R>, c: Cause) {
+pub fn names<R: Print>(console: &Console<'_, R>, c: Cause) {
     match c {
         Cause::NothingMore => {}
         Cause::Another(d) => differences(console, d),
@@ -43,20 +43,14 @@ pub fn names<R: Print + Eprint>(console: &Console<'_, R>, c: Cause) {
 }
 
 // A refusal of an update, as a line: `NO`, number, field, place and the names of its cause.
-pub fn refusal<R: Print + Eprint>(
-    console: &Console<'_, R>,
-    number: u8,
-    field: u8,
-    place: usize,
-    c: Cause,
-) {
+pub fn refusal<R: Print>(console: &Console<'_, R>, number: u8, field: u8, place: usize, c: Cause) {
     say::refused(console, number, field, place);
     names(console, c);
     print(console, b"\n");
 }
 
 // A cause by itself, as a line: `CAUSE`, its number and its names, or `NONE`.
-pub fn line<R: Print + Eprint>(console: &Console<'_, R>, c: Cause) {
+pub fn line<R: Print>(console: &Console<'_, R>, c: Cause) {
     match c {
         Cause::NothingMore => print(console, b"NONE"),
         Cause::Another(_) => print(console, b"CAUSE 12"),

@@ -71,6 +71,10 @@ find_part c s i e l h f =
     let d = drop-drop (e - i) i s ∙ ap (λ (j : ℕ). drop j s) k in
     omega (arith, over_free c (e - i) (drop i s) (omega (arith, length-drop i s)) f, ap (up_to c) d)
 
+pub find_block : (c : ℕ) (s : List ℕ) (i : ℕ) → 16 ≤ length s - i → free c (take (i + 16 - i) (drop i s)) ≡ true
+    → up_to c (drop i s) ≡ 16 + up_to c (drop (i + 16) s)
+find_block c s i h e = omega (arith, find_part c s i (i + 16) (omega arith) (omega arith) e)
+
 -- EVERY BYTE
 
 pub all_stop : (p : ℕ → Bool) (s : List ℕ) (i : ℕ) → i < length s → p (get_or s i 0) ≡ false → all p (drop i s) ≡ false

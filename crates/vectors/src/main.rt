@@ -32,7 +32,7 @@ type Line = [u8; 8192];
 
 type Out = [u8; 1800];
 
-fn say_bad<R: Print + Eprint>(console: &Console<'_, R>) {
+fn say_bad<R: Print>(console: &Console<'_, R>) {
     print(console, b"BAD LINE\n");
 }
 
@@ -177,7 +177,7 @@ fn spelling(out: &Out, n: usize) -> &[u8] {
 }
 
 // Says so if a byte from n on is not as it was.
-fn check_kept<R: Print + Eprint>(console: &Console<'_, R>, out: &Out, n: usize) {
+fn check_kept<R: Print>(console: &Console<'_, R>, out: &Out, n: usize) {
     let mut i = n;
     while i < MOST_ROOM {
         if out[i] != BEFORE {
@@ -188,7 +188,7 @@ fn check_kept<R: Print + Eprint>(console: &Console<'_, R>, out: &Out, n: usize) 
     }
 }
 
-fn read<R: Print + Eprint>(console: &Console<'_, R>, msg: &[u8], room: usize) {
+fn read<R: Print>(console: &Console<'_, R>, msg: &[u8], room: usize) {
     if MOST_ROOM < room {
         say_bad(console);
         return;
@@ -211,7 +211,7 @@ fn read<R: Print + Eprint>(console: &Console<'_, R>, msg: &[u8], room: usize) {
 }
 
 // A part of a strip or of a CHG: where it stands, and what it is.
-fn say_part<R: Print + Eprint>(
+fn say_part<R: Print>(
     console: &Console<'_, R>,
     place: &[u8],
     from: usize,
@@ -226,7 +226,7 @@ fn say_part<R: Print + Eprint>(
 }
 
 // Asks for the field in force of a strip and a CHG: where it stands, and its content.
-fn show<'a, R: Print + Eprint>(
+fn show<'a, R: Print>(
     console: &Console<'_, R>,
     chg: &'a [u8],
     number: usize,
@@ -269,7 +269,7 @@ fn form_of(rank: usize) -> Form {
 }
 
 // Holds a content to the form that a word names.
-fn fit<R: Print + Eprint>(console: &Console<'_, R>, word: &[u8], content: &[u8]) {
+fn fit<R: Print>(console: &Console<'_, R>, word: &[u8], content: &[u8]) {
     let k = text::rank_of(word, b"3 7 8 9 10 13 13open 15 16 16plan 17 18 19");
     if k == 0 {
         say_bad(console);
@@ -292,7 +292,7 @@ fn strip_held(plan: &Line, n: usize) -> &[u8] {
 }
 
 // What leaves the strip as it is.
-fn tell<'a, R: Print + Eprint>(
+fn tell<'a, R: Print>(
     console: &Console<'_, R>,
     letter: u8,
     word: &[u8],
@@ -319,7 +319,7 @@ fn keep(strip: &[u8], plan: &mut Line) -> usize {
 }
 
 // Holds a strip, in `plan`, with the state that a word says.
-fn hold<R: Print + Eprint>(
+fn hold<R: Print>(
     console: &Console<'_, R>,
     word: &[u8],
     strip: &[u8],
@@ -343,7 +343,7 @@ fn hold<R: Print + Eprint>(
 }
 
 // Offers a message to the strip held.
-fn offer<R: Print + Eprint>(
+fn offer<R: Print>(
     console: &Console<'_, R>,
     msg: &[u8],
     room: usize,
@@ -396,7 +396,7 @@ fn number_of(w: &[u8]) -> usize {
 }
 
 // Answers what a line asks of the bytes that it has from a place up to another; a word may stand before them.
-fn ask<R: Print + Eprint>(
+fn ask<R: Print>(
     console: &Console<'_, R>,
     line: &Line,
     from: usize,
@@ -445,7 +445,7 @@ fn text_from(line: &Line) -> usize
 }
 
 // Answers a line of n bytes.
-fn answer<R: Print + Eprint>(
+fn answer<R: Print>(
     console: &Console<'_, R>,
     n: usize,
     line: &mut Line,
@@ -477,7 +477,7 @@ fn gather(b: u8, n: usize, line: &mut Line) -> usize {
 }
 
 // Answers the lines that end in a block, and gathers what is left of it.
-fn each_byte<R: Print + Eprint>(
+fn each_byte<R: Print>(
     console: &Console<'_, R>,
     block: &[u8],
     line: &mut Line,
@@ -502,7 +502,7 @@ fn each_byte<R: Print + Eprint>(
 // Reads blocks up to one that is not full. A proved loop has to end, and nothing says that an input does: the turns are counted down from a
 // number that no run uses up. The last line may have no line feed behind it.
 fn main(rt: HostRuntime) -> ExitCode {
-    let console = Console::new(&rt);
+    let console = Console::new(&rt, rt.stderr());
     let mut block = [0u8; 65536];
     let mut line = [0u8; 8192];
     let mut plan = [0u8; 8192];
