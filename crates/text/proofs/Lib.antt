@@ -1,4 +1,5 @@
 pub mod Tests
+pub mod Iterated
 pub mod Index
 pub mod Pairs
 pub mod Joined

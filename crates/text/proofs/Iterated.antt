@@ -1,0 +1,52 @@
+-- What the library says of a chain of iterators, in the words of a text. Assumes nothing.
+use Rattle.std.proofs.Common.{rules, arith, ℕ, ◌+◌, ◌≤◌, ◌≡◌, length, drop, Bool, true, false, List, [], ◌∷◌, Option, Some, None}
+use Rattle.std.specs.Prelude.{suc, not, cond, refl, ◌&&◌, ◌||◌, eqb}
+use Rattle.std.specs.List.{position_or_len, list_all, list_any, slice_split}
+use Rattle.std.specs.Option.{unwrap_or}
+use Rattle.std.specs.Str.{bytes_eq}
+use lib.Dec.{ltb}
+use mathlib.Core.Path.{ap, sym, ◌∙◌}
+use Rattle.std.proofs.lemmas.List.Recursion.{same_from_clauses}
+use Rattle.alphabet.specs.Alphabet.{one_of}
+use Rattle.alphabet.proofs.First.{count_found}
+use Rattle.text.specs.Words.{Word, split, onto, up_to, leading, all, free, same, elem}
+
+-- ALL AND ANY
+
+pub all_listed : {A : Type 0} (p : A → Bool) (xs : List A) → list_all p xs ≡ all p xs
+all_listed p xs = same_from_clauses (list_all p) (all p) (λ x b. p x && b) refl (λ x ys. refl) (λ x ys. refl) xs
+
+either : (t u : Bool) → (t || u) ≡ cond t true u
+either true u = refl
+either false u = refl
+
+pub one_of_listed : (b : ℕ) (set : List ℕ) → list_any (λ x. eqb b x) set ≡ one_of b set
+one_of_listed b set = same_from_clauses (list_any (λ x. eqb b x)) (one_of b) (λ x t. eqb b x || t) refl (λ x ys. refl) (λ x ys. sym (either (eqb b x) (one_of b ys))) set
+
+pub elem_listed : (w : Word) (vs : List Word) → list_any (λ v. same w v) vs ≡ elem w vs
+elem_listed w vs = same_from_clauses (list_any (λ v. same w v)) (elem w) (λ v t. same w v || t) refl (λ x ys. refl) (λ x ys. sym (either (same w x) (elem w ys))) vs
+
+-- THE PIECES
+
+joined_on : (b : ℕ) (ws : List Word) → Rattle.std.specs.List.onto_first b ws ≡ onto b ws
+joined_on b [] = refl
+joined_on b (w ∷ ws) = refl
+
+pub split_listed : (c : ℕ) (s : List ℕ) → slice_split (λ b. eqb b c) s ≡ split c s
+split_listed c s = same_from_clauses (slice_split (λ b. eqb b c)) (split c) (λ b ws. cond (eqb b c) ([] ∷ ws) (onto b ws)) refl
+    (λ b t. ap (λ ws. cond (eqb b c) ([] ∷ slice_split (λ b. eqb b c) t) ws) (joined_on b (slice_split (λ b. eqb b c) t))) (λ b t. refl) s
+
+-- EQUAL BYTES
+
+pub same_listed : (a b : List ℕ) → bytes_eq a b ≡ same a b
+same_listed [] [] = refl
+same_listed [] (y ∷ t) = refl
+same_listed (x ∷ s) [] = refl
+same_listed (x ∷ s) (y ∷ t) = ap (λ e. eqb x y && e) (same_listed s t)
+
+-- PLACES: u is what is given where `position` found r, and the length where it found none
+
+pub leading_found : (p : ℕ → Bool) (s : List ℕ) (r : Option ℕ)
+    → r ≡ cond (ltb (position_or_len (λ b. not (p b)) s) (length s)) (Some (position_or_len (λ b. not (p b)) s)) None
+    → (u : ℕ) → u ≡ unwrap_or r (length s) → (u ≡ leading p s) × (u ≤ length s)
+leading_found p = count_found p (leading p) refl (λ b t. refl)
