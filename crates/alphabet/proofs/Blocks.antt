@@ -1,22 +1,12 @@
 -- Bytes that may stand between the parentheses, told for a block of them at once. Assumes nothing.
-use Prim.Native.Nat.{ℕ, zero, suc, ◌+◌, ◌-◌, ◌<◌, ◌≤◌}
-use mathlib.Core.Path.{◌≡◌, refl, sym, ap, ◌∙◌}
-use mathlib.Core.Bool.{Bool, true, false, ◌&&◌, and_assoc, and-true, false≢true}
+use Prim.Native.Nat.{ℕ, zero, suc, ◌+◌, ◌-◌, ◌≤◌}
+use mathlib.Core.Path.{◌≡◌, refl, ap, ◌∙◌}
+use mathlib.Core.Bool.{Bool, true, false, ◌&&◌, false≢true}
 use mathlib.Core.List.{List, [], ◌∷◌}
 use native.Mathlib.Omega.{arith}
-use native.Mathlib.Numerals.{add-one}
-use lib.ListN.{length, take, drop, get_or, length-drop, drop_of_length-le}
-use lib.Seq.{drop-cons, drop-drop, take_all}
+use lib.ListN.{length, take, drop, length-drop}
+use lib.Seq.{drop-drop, take_all}
 use Rattle.alphabet.specs.Alphabet.{inner_byte, all_inner, inner_bytes}
-
--- A BLOCK, gathered: `fine` says it of the bytes before i
-
-module _ (s : List ℕ) (i : ℕ) (fine : Bool) where
-  pub inner_next : (r : Bool) → i < length s → r ≡ inner_byte (get_or s i 0) → (fine && r) && all_inner (drop (i + 1) s) ≡ fine && all_inner (drop i s)
-  inner_next r h e = rw (e, add-one, drop-cons s i 0 h) (and_assoc fine (inner_byte (get_or s i 0)) (all_inner (drop (suc i) s)))
-
-  pub inner_end : length s ≤ i → fine ≡ fine && all_inner (drop i s)
-  inner_end h = rw (drop_of_length-le s h) (sym (and-true fine))
 
 -- A BLOCK THAT PASSES is passed at once
 

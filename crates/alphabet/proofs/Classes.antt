@@ -1,21 +1,13 @@
 -- Each set of bytes, and which comparisons and which classes it is, at every byte value. Assumes nothing.
 use mathlib.Core.Path.{◌≡◌, refl}
 use mathlib.Core.Bool.{Bool, true, false, ◌&&◌, ◌||◌, cond}
-use Prim.Native.Nat.{ℕ, ◌<◌, ◌≤◌}
+use Prim.Native.Nat.{ℕ, ◌<◌}
 use lib.Dec.{leb, ltb, eqb}
-use borrow.Author.Tests.{le-leb, lt-leb}
 use Rattle.alphabet.specs.Text.{bytes}
 use Rattle.alphabet.specs.Alphabet.{class_of, in_alphabet, inner_byte, letter, digit, octal, sign, text, white, one_of, marks}
 use Rattle.alphabet.proofs.Every.{agree}
 
 -- THE COMPARISONS
-
--- a range of bytes, tested at its lower end and then at its upper
-pub under : (low high b : ℕ) → b < low → false ≡ (leb low b && leb b high)
-under low high b h = rw (lt-leb low b h)
-
-pub over : (low high b : ℕ) → low ≤ b → leb b high ≡ (leb low b && leb b high)
-over low high b h = rw (le-leb low b h)
 
 pub last_test : (x : Bool) → x ≡ cond x true false
 last_test true = refl

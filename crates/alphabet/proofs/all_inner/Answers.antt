@@ -1,14 +1,15 @@
+-- `alphabet::all_inner` meets its contract. Assumes nothing.
+use Rattle.std.proofs.Common.{rules}
+use Rattle.std.specs.Prelude.{refl, ◌&&◌}
 use mathlib.Core.Path.{◌∙◌}
-use Rattle.alphabet.proofs.Blocks.{inner_next, inner_end}
+use Rattle.std.proofs.lemmas.Iterator.{YieldsList-from_slice}
+use Rattle.std.proofs.lemmas.Iterator.Consumers.{fold_from_yields_List}
+use Rattle.alphabet.specs.Alphabet.{inner_byte, all_inner}
+use Rattle.alphabet.proofs.Folded.{all_folded}
 use Rattle.alphabet.proofs.all_inner.Goals as goal
-
-pub loop-i-preserved : goal.loop-i-preserved
-loop-i-preserved c =
-    let l = c.loop-i in
-    let s = c.args.s.now in
-    inner_next s l.i l.fine _ c.loop-i-test.true c.is_inner_flat-fine.ensures ∙ l.invariant
 
 pub returns : goal.returns
 returns c =
-    let l = c.loop-i in
-    inner_end c.args.s.now l.i l.fine c.loop-i-test.false ∙ l.invariant
+    let s = c.args.s.now in
+    fold_from_yields_List _ (λ fine b. fine && inner_byte b) _ c.fold.result c.fold.ensures.ran (YieldsList-from_slice s (search rules)) (λ a x b q k. search rules)
+    ∙ all_folded inner_byte all_inner refl (λ b s. refl) s

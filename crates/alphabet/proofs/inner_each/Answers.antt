@@ -1,26 +1,15 @@
--- `alphabet::inner_each` meets its contract. Assumes nothing.
-use mathlib.Core.Path.{refl, sym, ◌∙◌}
-use native.Mathlib.Omega.{arith}
+use Rattle.std.proofs.Common.{rules}
+use Rattle.std.specs.Prelude.{not, refl}
+use borrow.Author.Tests.{tests}
+use Rattle.std.proofs.lemmas.Iterator.{YieldsList-from_slice}
+use Rattle.std.proofs.lemmas.Iterator.Search.{position_from_yields_List}
 use Rattle.alphabet.specs.Alphabet.{inner_byte, inner_bytes}
-use Rattle.alphabet.proofs.Known.{count_stop, count_next, count_end}
+use Rattle.alphabet.proofs.First.{count_found}
 use Rattle.alphabet.proofs.inner_each.Goals as goal
-
-pub returns-then-not-is_inner : goal.returns-then-not-is_inner
-returns-then-not-is_inner c =
-    let l = c.loop-i in
-    let s = c.args.s.now in
-    let h = sym c.is_inner.ensures ∙ c.if-not-is_inner.true in
-    (omega (arith, l.invariant.1, count_stop inner_byte inner_bytes (λ b t. refl) s l.i c.loop-i-test.true h), l.invariant.0)
-
-pub loop-i-preserved : goal.loop-i-preserved
-loop-i-preserved c =
-    let l = c.loop-i in
-    let s = c.args.s.now in
-    let h = sym c.is_inner.ensures ∙ c.if-not-is_inner.false in
-    (omega arith, omega (arith, l.invariant.1, count_next inner_byte inner_bytes (λ b t. refl) s l.i c.loop-i-test.true h))
 
 pub returns : goal.returns
 returns c =
     let s = c.args.s.now in
-    let l = c.loop-i in
-    (omega (arith, l.invariant.1, count_end inner_byte inner_bytes (λ b t. refl) s l.i refl c.loop-i-test.false), l.invariant.0)
+    let found = position_from_yields_List (λ b. not (inner_byte b)) _ _ c.position.result c.position.ensures.ran (YieldsList-from_slice s (search rules))
+    (λ x b q k. search (rules, tests)) in
+    count_found inner_byte inner_bytes refl (λ b t. refl) s _ found _ c.unwrap_or.ensures
