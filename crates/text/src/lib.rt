@@ -13,27 +13,15 @@ pub fn find(s: &[u8], from: usize, c: u8) -> usize
     ensures value { result ≡ from + up_to c (drop from s.now) }
     ensures lower_bound { (from ≤ result) × (result ≤ length s.now) }
 {
-    let mut i = from;
-    while i < s.len() {
-        if s[i] == c {
-            return i;
-        }
-        i += 1;
-    }
-    i
+    let rest = &s[from..];
+    from + rest.iter().position(|&b| b == c).unwrap_or(rest.len())
 }
 
 // Whether c stands nowhere in s. No branch: of a part whose length the code says it is worked out for all bytes at a time.
 pub fn is_free(c: u8, s: &[u8]) -> bool
     ensures { result ≡ free c s.now }
 {
-    let mut fine = true;
-    let mut i = 0;
-    while i < s.len() {
-        fine = fine & (s[i] != c);
-        i += 1;
-    }
-    fine
+    s.iter().fold(true, |fine, &b| fine & (b != c))
 }
 
 // As find, over blocks of 16 bytes as long as none of them is c: for what may be far away.
@@ -77,14 +65,7 @@ pub fn is_kind(k: Kind, b: u8) -> bool
 pub fn all_of(k: Kind, w: &[u8]) -> bool
     ensures { result ≡ all (of_kind k) w.now }
 {
-    let mut i = 0;
-    while i < w.len() {
-        if !is_kind(k, w[i]) {
-            return false;
-        }
-        i += 1;
-    }
-    true
+    w.iter().all(|&b| is_kind(k, b))
 }
 
 // Where the bytes of a kind end that begin at `from`: the place of the first that is none, or the length.
@@ -93,73 +74,47 @@ pub fn end_of(k: Kind, s: &[u8], from: usize) -> usize
     ensures value { result ≡ from + leading (of_kind k) (drop from s.now) }
     ensures lower_bound { (from ≤ result) × (result ≤ length s.now) }
 {
-    let mut i = from;
-    while i < s.len() {
-        if !is_kind(k, s[i]) {
-            return i;
-        }
-        i += 1;
-    }
-    i
+    let rest = &s[from..];
+    from + rest
+        .iter()
+        .position(|&b| !is_kind(k, b))
+        .unwrap_or(rest.len())
 }
 
 // Whether w is a text word.
 pub fn is_text_word(w: &[u8]) -> bool
     ensures { result ≡ text_word w.now }
 {
-    if w.len() < 1 {
-        return false;
-    }
-    all_of(Kind::Text, w)
+    !w.is_empty() && all_of(Kind::Text, w)
 }
 
 pub fn same_bytes(a: &[u8], b: &[u8]) -> bool
     ensures { result ≡ same a.now b.now }
 {
-    if a.len() != b.len() {
-        return false;
-    }
-    let mut i = 0;
-    while i < a.len() {
-        if a[i] != b[i] {
-            return false;
-        }
-        i += 1;
-    }
-    true
+    a == b
 }
 
 // The place of w in a list of words with one space between them, counted from 1; 0 where it has none.
 pub fn rank_of(w: &[u8], list: &[u8]) -> usize
     ensures { result ≡ rank w.now (split 32 list.now) }
 {
-    let mut at = 0;
-    let mut k = 1;
-    loop {
-        let e = find(list, at, b' ');
-        if same_bytes(w, &list[at..e]) {
-            return k;
-        }
-        if e == list.len() {
-            return 0;
-        }
-        at = e + 1;
-        k += 1;
-    }
+    list.split(|&b| b == b' ')
+        .position(|v| w == v)
+        .map_or(0, |k| k + 1)
 }
 
 // Whether w is one of the words of a list, which have one space between them.
 pub fn in_list(w: &[u8], list: &[u8]) -> bool
     ensures { result ≡ elem w.now (split 32 list.now) }
 {
-    rank_of(w, list) != 0
+    list.split(|&b| b == b' ').any(|v| w == v)
 }
 
 // What a cell that holds w begins with.
 fn first_in_cell(w: &[u8]) -> u8
     ensures { result ≡ get_or w.now 0 32 }
 {
-    if w.len() == 0 { b' ' } else { w[0] }
+    w.first().copied().unwrap_or(b' ')
 }
 
 // Whether a cell holds w, filled up with spaces. Most that do not are known by their first byte.
@@ -253,10 +208,6 @@ pub fn put(part: &[u8], out: &mut [u8]) -> usize
     requires { length part.now ≤ length out.old }
     ensures { (result ≡ length part.now) × (out.new ≡ front part.now out.old) }
 {
-    let mut i = 0;
-    while i < part.len() {
-        out[i] = part[i];
-        i += 1;
-    }
-    i
+    out[..part.len()].copy_from_slice(part);
+    part.len()
 }

@@ -1,23 +1,20 @@
 -- `text::end_of` meets its contract. Assumes nothing.
-use mathlib.Core.Path.{sym, ◌∙◌}
-use native.Mathlib.Omega.{arith}
+use Rattle.std.proofs.Common.{rules, ◌+◌, length, drop}
+use Rattle.std.specs.Prelude.{not}
+use Rattle.std.specs.Option.{unwrap_or}
+use mathlib.Core.Path.{ap, ◌∙◌}
+use borrow.Author.Tests.{tests}
+use Rattle.std.proofs.lemmas.Iterator.{YieldsList-from_slice}
+use Rattle.std.proofs.lemmas.Iterator.Search.{position_from_yields_List}
 use Rattle.text.specs.Kinds.{of_kind}
-use Rattle.text.proofs.Index.{leading_here, leading_next, leading_end}
+use Rattle.text.proofs.Index.{rest}
+use Rattle.text.proofs.Iterated.{leading_found}
 use Rattle.text.proofs.end_of.Goals as goal
 
-pub returns-then-not-is_kind : goal.returns-then-not-is_kind
-returns-then-not-is_kind c =
+pub returns-clause-value : goal.returns-clause-value
+returns-clause-value c =
     let a = c.args in
-    let e = sym c.is_kind.ensures ∙ c.if-not-is_kind.true in
-    omega (arith, leading_here (of_kind a.k) a.s.now c.loop-i.i c.loop-i-test.true e)
-
-pub loop-i-preserved : goal.loop-i-preserved
-loop-i-preserved c =
-    let a = c.args in
-    let e = sym c.is_kind.ensures ∙ c.if-not-is_kind.false in
-    omega (arith, leading_next (of_kind a.k) a.s.now c.loop-i.i c.loop-i-test.true e)
-
-pub returns : goal.returns
-returns c =
-    let a = c.args in
-    omega (arith, leading_end (of_kind a.k) a.s.now c.loop-i.i c.loop-i-test.false)
+    let s = drop a.from a.s.now in
+    let found = position_from_yields_List (λ b. not (of_kind a.k b)) _ _ c.position.result c.position.ensures.ran (YieldsList-from_slice s (search (rules, rest)))
+    (λ x b q k. search (rules, tests)) in
+    ap (λ n. a.from + n) (leading_found (of_kind a.k) s _ found _ (c.unwrap_or.ensures ∙ ap (λ s. unwrap_or c.position.result (length s)) (rest a.s.now a.from))).0

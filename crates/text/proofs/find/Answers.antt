@@ -1,19 +1,19 @@
 -- `text::find` meets its contract. Assumes nothing.
-use native.Mathlib.Omega.{arith}
-use Rattle.text.proofs.Index.{find_here, find_next, find_end}
+use Rattle.std.proofs.Common.{rules, ◌+◌, length, drop}
+use Rattle.std.specs.Prelude.{eqb}
+use Rattle.std.specs.Option.{unwrap_or}
+use mathlib.Core.Path.{ap, ◌∙◌}
+use borrow.Author.Tests.{tests}
+use Rattle.std.proofs.lemmas.Iterator.{YieldsList-from_slice}
+use Rattle.std.proofs.lemmas.Iterator.Search.{position_from_yields_List}
+use Rattle.text.proofs.Index.{rest}
+use Rattle.text.proofs.Iterated.{up_to_found}
 use Rattle.text.proofs.find.Goals as goal
 
-pub returns-then-s-i : goal.returns-then-s-i
-returns-then-s-i c =
+pub returns-clause-value : goal.returns-clause-value
+returns-clause-value c =
     let a = c.args in
-    omega (arith, find_here a.c a.s.now c.loop-i.i c.loop-i-test.true c.if-s-i.true)
-
-pub loop-i-preserved : goal.loop-i-preserved
-loop-i-preserved c =
-    let a = c.args in
-    omega (arith, find_next a.c a.s.now c.loop-i.i c.loop-i-test.true c.if-s-i.false)
-
-pub returns : goal.returns
-returns c =
-    let a = c.args in
-    omega (arith, find_end a.c a.s.now c.loop-i.i c.loop-i-test.false)
+    let s = drop a.from a.s.now in
+    let found = position_from_yields_List (λ b. eqb b a.c) _ _ c.position.result c.position.ensures.ran (YieldsList-from_slice s (search (rules, rest)))
+    (λ x b q k. search (rules, tests)) in
+    ap (λ n. a.from + n) (up_to_found a.c s _ found _ (c.unwrap_or.ensures ∙ ap (λ s. unwrap_or c.position.result (length s)) (rest a.s.now a.from))).0

@@ -1,26 +1,12 @@
 -- `text::put` meets its contract. Assumes nothing.
-use Prim.Native.Nat.{◌+◌, ◌<◌}
-use mathlib.Core.Path.{◌≡◌, ◌∙◌}
-use mathlib.Core.List.{[], ◌∷◌}
-use lib.ListN.{length, get_or, drop, length-set}
-use Rattle.text.proofs.Index.{drop_here}
-use Rattle.text.proofs.Lent.{store, next_out, whole_out}
-use native.Mathlib.Omega.{arith}
+use Rattle.std.proofs.Common.{◌++◌, length, drop}
+use Rattle.std.specs.Prelude.{refl}
+use mathlib.Core.Path.{ap}
+use Rattle.text.specs.Lent.{front}
 use Rattle.text.proofs.put.Goals as goal
 
-pub loop-i-preserved : goal.loop-i-preserved
-loop-i-preserved c =
-    let l = c.loop-i in
-    let a = c.args in
-    let part = a.part.now in
-    let h : l.i < length part = c.loop-i-test.true in (
-      omega arith,
-      simp length-set l.invariant.1,
-      store l.out l.i (get_or part l.i 0) (omega arith)
-          ∙ next_out part a.out.now l.out l.i l.invariant.2 l.invariant.0 (get_or part l.i 0 ∷ []) (drop (l.i + 1) part) (drop_here part l.i h),
-    )
-
 pub returns : goal.returns
+unfolding front
 returns c =
-    let z : c.loop-i.i ≡ length c.args.part.now = omega arith in
-    (z, whole_out _ _ _ _ c.loop-i.invariant.2 z)
+    let a = c.args in
+    (refl, ap (λ w. w ++ drop (length a.part.now) a.out.now) c.copy_from_slice.ensures.after)
