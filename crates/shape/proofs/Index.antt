@@ -1,26 +1,34 @@
 -- Shapes at an index. Assumes nothing.
-use Prim.Native.Nat.{ℕ, suc, ◌+◌, ◌-◌, ◌<◌, ◌≤◌}
-use mathlib.Core.Path.{◌≡◌, refl, sym, ap}
-use mathlib.Core.Bool.{Bool, true, false, ◌&&◌, false≢true}
+use Prim.Native.Nat.{ℕ, suc}
+use mathlib.Core.Path.{◌≡◌, refl, sym, ap, ◌∙◌}
+use native.Mathlib.Omega.{arith}
+use Rattle.std.specs.List.{list_all, list_any, zip}
+use mathlib.Core.Bool.{Bool, true, false, cond, ◌&&◌, ◌||◌, false≢true}
 use mathlib.Core.List.{List, [], ◌∷◌}
-use lib.ListN.{length, take, drop, get_or}
-use borrow.Author.Tests.{eq-eqb, ne_eqb}
+use lib.Dec.{eqb}
+use lib.ListN.{length}
+use borrow.Author.Tests.{eq-eqb, eqb-true, ne_eqb}
 use Rattle.alphabet.specs.Alphabet.{digit, one_of}
-use Rattle.text.specs.Words.{Word, split, up_to, all}
-use Rattle.text.proofs.Index.{drop_here, drop_end, split_at, after_here, after_end}
+use Rattle.text.specs.Words.{Word, all}
 use Rattle.text.proofs.Tests.{both}
 use Rattle.shape.specs.Shape.{in_class, fits, copies, any}
 
 -- A BYTE OF A SET
 
-pub one_found : (b : ℕ) (s : List ℕ) (i : ℕ) → i < length s → b ≡ get_or s i 0 → one_of b (drop i s) ≡ true
-one_found b s i h e = rw (drop_here s i h, eq-eqb b (get_or s i 0) e)
+either : (t u : Bool) → cond t true u ≡ (t || u)
+either true u = refl
+either false u = refl
 
-pub one_next : (b : ℕ) (s : List ℕ) (i : ℕ) → i < length s → (b ≡ get_or s i 0 → ⊥) → one_of b (drop i s) ≡ one_of b (drop (i + 1) s)
-one_next b s i h e = rw (drop_here s i h, ne_eqb b (get_or s i 0) e)
+swapped : (a b : ℕ) → eqb a b ≡ eqb b a
+swapped a b = go (eqb b a) refl
+  where
+    go : (t : Bool) → eqb b a ≡ t → eqb a b ≡ t
+    go true e = eq-eqb a b (sym (eqb-true b a e))
+    go false e = ne_eqb a b (λ h. false≢true (sym e ∙ eq-eqb b a (sym h)))
 
-pub one_end : (b : ℕ) (s : List ℕ) (i : ℕ) → length s ≤ i → one_of b (drop i s) ≡ false
-one_end b s i h = rw (drop_end s i h)
+pub contained : (b : ℕ) (set : List ℕ) → list_any (λ x. eqb x b) set ≡ one_of b set
+contained b [] = refl
+contained b (x ∷ set) = rw swapped (ap (λ (r : Bool). eqb b x || r) (contained b set) ∙ sym (either (eqb b x) (one_of b set)))
 
 -- A SHAPE
 
@@ -42,24 +50,15 @@ pub fits_digits : (w : Word) → fits (copies (length w)) w ≡ all digit w
 fits_digits [] = refl
 fits_digits (b ∷ w) = ap (λ (r : Bool). digit b && r) (fits_digits w)
 
-pub fits_stop : (t w : Word) (i : ℕ) → i < length t → i < length w → in_class (get_or t i 0) (get_or w i 0) ≡ false → fits (drop i t) (drop i w) ≡ false
-fits_stop t w i h k e = rw (drop_here t i h, drop_here w i k, e)
+-- byte by byte, as the library goes over both
+pub fits_listed : (t w : Word) → length t ≡ length w → list_all (λ p. in_class p.0 p.1) (zip t w) ≡ fits t w
+fits_listed [] [] e = refl
+fits_listed [] (b ∷ w) e = absurd (omega arith)
+fits_listed (t ∷ ts) [] e = absurd (omega arith)
+fits_listed (t ∷ ts) (b ∷ w) e = ap (λ (r : Bool). in_class t b && r) (fits_listed ts w (omega arith))
 
-pub fits_next : (t w : Word) (i : ℕ) → i < length t → i < length w → in_class (get_or t i 0) (get_or w i 0) ≡ true
-    → fits (drop i t) (drop i w) ≡ fits (drop (i + 1) t) (drop (i + 1) w)
-fits_next t w i h k e = rw (drop_here t i h, drop_here w i k, e)
+-- ONE OF A LIST OF SHAPES
 
-pub fits_end : (t w : Word) (i : ℕ) → length t ≤ i → length w ≤ i → fits (drop i t) (drop i w) ≡ true
-fits_end t w i h k = rw (drop_end t i h, drop_end w i k)
-
--- a shape among those of a list, one at an index
-
-module _ (w : Word) (s : List ℕ) (at e : ℕ) (end : e ≡ at + up_to 32 (drop at s)) where
-  pub any_found : fits (take (e - at) (drop at s)) w ≡ true → any (split 32 (drop at s)) w ≡ true
-  any_found h = rw (split_at 32 s at e end, h)
-
-  pub any_last : fits (take (e - at) (drop at s)) w ≡ false → length s ≤ e → any (split 32 (drop at s)) w ≡ false
-  any_last h l = rw (split_at 32 s at e end, h, after_end 32 s e l)
-
-  pub any_next : fits (take (e - at) (drop at s)) w ≡ false → e < length s → any (split 32 (drop at s)) w ≡ any (split 32 (drop (e + 1) s)) w
-  any_next h l = rw (split_at 32 s at e end, h, after_here 32 s e l)
+pub any_listed : (w : Word) (ts : List Word) → list_any (λ t. fits t w) ts ≡ any ts w
+any_listed w [] = refl
+any_listed w (t ∷ ts) = ap (λ (r : Bool). fits t w || r) (any_listed w ts) ∙ sym (either (fits t w) (any ts w))

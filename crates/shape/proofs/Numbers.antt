@@ -1,17 +1,19 @@
 -- Numbers as digits and back, for every width; and the bytes that the code reads them from. Assumes nothing.
 use Prim.Native.Nat.{ℕ, zero, suc, ◌+◌, ◌*◌, ◌-◌, ◌/◌, ◌%◌, ◌^◌, ◌<◌, ◌≤◌}
-use mathlib.Core.Path.{◌≡◌, refl, ap, ◌∙◌}
+use mathlib.Core.Path.{◌≡◌, refl, sym, ap, ◌∙◌}
 use mathlib.Core.Bool.{true}
 use mathlib.Core.List.{List, [], ◌∷◌}
 use native.Mathlib.Omega.{arith}
+use native.Mathlib.Numerals.{add-one}
+use native.Mathlib.Nat.{mul_comm, mul_assoc, pow-le-pow_right}
+use lib.Seq.{length-take-le}
 use native.Mathlib.Nat.{pow-succ', add-zero, mul-le-mul_right, mul-add-div_right, mul-add-mod_self_right}
 use native.Mathlib.Nat.{div-eq_of_lt, mod-eq_of_lt, div-add-mod', mod-lt, div-lt_iff_lt-mul}
 use lib.Dec.{leb}
-use lib.ListN.{length, take, drop, get_or}
+use lib.ListN.{length, take, get_or}
 use borrow.Author.Tests.{leb-true, le-leb}
 use Rattle.alphabet.specs.Alphabet.{digit}
 use Rattle.text.specs.Words.{Word, all}
-use Rattle.text.proofs.Index.{drop_here}
 use Rattle.text.proofs.Tests.{both}
 use Rattle.shape.specs.Numbers.{digits, value}
 
@@ -67,20 +69,24 @@ digits_digits (suc k) n h =
     let q : n / 10 ^ k < 10 = (div-lt_iff_lt-mul (ten k)).1 (omega (arith, pow-succ' 10 k)) in
     rw (range_digit (48 + n / 10 ^ k) (omega arith) (omega arith)) (digits_digits k (n % 10 ^ k) (mod-lt n (ten k)))
 
--- AT AN INDEX
+-- DIGIT BY DIGIT from the front
 
-pub two_at : (w : List ℕ) (i : ℕ) → i + 1 < length w → value (take 2 (drop i w)) ≡ (get_or w i 0 - 48) * 10 + (get_or w (i + 1) 0 - 48)
-two_at w i h = rw (drop_here w i (omega arith), drop_here w (i + 1) h) (omega arith)
+pub value_more : (w : List ℕ) (i : ℕ) → i < length w → value (take (i + 1) w) ≡ value (take i w) * 10 + (get_or w i 0 - 48)
+value_more w i h = rw add-one (go w i h)
+  where
+    go : (w : List ℕ) (i : ℕ) → i < length w → value (take (suc i) w) ≡ value (take i w) * 10 + (get_or w i 0 - 48)
+    go [] i h = absurd (omega arith)
+    go (c ∷ w) zero h = omega arith
+    go (c ∷ w) (suc i) h =
+        let l : length (take (suc i) w) ≡ suc i = length-take-le (suc i) w (omega arith) in
+        let k : length (take i w) ≡ i = length-take-le i w (omega arith) in
+        let q : (c - 48) * 10 ^ suc i ≡ (c - 48) * 10 ^ i * 10
+        = ap (λ (n : ℕ). (c - 48) * n) (pow-succ' 10 i ∙ mul_comm 10 (10 ^ i)) ∙ sym (mul_assoc (c - 48) (10 ^ i) 10) in
+        rw (l, k) (omega (arith, q, go w i (omega arith)))
 
-pub three_at : (w : List ℕ) (i : ℕ) → i + 2 < length w
-    → value (take 3 (drop i w)) ≡ (get_or w i 0 - 48) * 100 + (get_or w (i + 1) 0 - 48) * 10 + (get_or w (i + 2) 0 - 48)
-three_at w i h =
-    let e : i + 1 + 1 ≡ i + 2 = omega arith in
-    rw (drop_here w i (omega arith), drop_here w (i + 1) (omega arith), e, drop_here w (i + 2) h) (omega arith)
+-- what a number of i bytes is at most: 23 times i nines
+pub bound_more : (n d i : ℕ) → n + 23 ≤ 23 * 10 ^ i → d ≤ 207 → n * 10 + d + 23 ≤ 23 * 10 ^ (i + 1)
+bound_more n d i h k = rw (add-one, pow-succ') (omega arith)
 
-pub four_at : (w : List ℕ) (i : ℕ) → i + 3 < length w
-    → value (take 4 (drop i w)) ≡ (get_or w i 0 - 48) * 1000 + (get_or w (i + 1) 0 - 48) * 100 + (get_or w (i + 2) 0 - 48) * 10 + (get_or w (i + 3) 0 - 48)
-four_at w i h =
-    let e : i + 1 + 1 ≡ i + 2 = omega arith in
-    let f : i + 2 + 1 ≡ i + 3 = omega arith in
-    rw (drop_here w i (omega arith), drop_here w (i + 1) (omega arith), e, drop_here w (i + 2) (omega arith), f, drop_here w (i + 3) h) (omega arith)
+pub four_digits_pow : (i : ℕ) → i ≤ 4 → 10 ^ i ≤ 10000
+four_digits_pow i h = pow-le-pow_right {n = 10} (omega arith) h

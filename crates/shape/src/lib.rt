@@ -1,7 +1,7 @@
 // Numbers, times and forms of fixed length.
 #![tactic(auto)]
 
-ghost use Rattle.std.specs.Prelude.{◌≡◌, ℕ, ◌+◌, ◌-◌, ◌<◌, ◌≤◌, length, take, drop};
+ghost use Rattle.std.specs.Prelude.{◌≡◌, ℕ, ◌+◌, ◌-◌, ◌*◌, ◌^◌, ◌<◌, ◌≤◌, length, take, drop};
 ghost use Rattle.alphabet.specs.Alphabet.{one_of};
 ghost use Rattle.text.specs.Words.{split};
 ghost use Rattle.shape.specs.Numbers.{value};
@@ -12,88 +12,58 @@ ghost use Rattle.shape.specs.Time.{hours, minutes, time_fits, time_minutes, cloc
 pub fn one_of(b: u8, set: &[u8]) -> bool
     ensures { result ≡ one_of b set.now }
 {
-    let mut i = 0;
-    while i < set.len() {
-        if b == set[i] {
-            return true;
-        }
-        i += 1;
-    }
-    false
+    set.contains(&b)
 }
 
 // Whether b may stand where a shape has t.
+#[tactic(auto, unfolding(crate::specs::Shape::letters), using(alphabet::proofs::Classes::octal_digits))]
 fn in_class(t: u8, b: u8) -> bool
     ensures { result ≡ in_class t b }
 {
-    if alphabet::is_digit(t) {
-        return alphabet::is_digit(b);
+    match t {
+        b'0'..=b'9' => alphabet::is_digit(b),
+        b'n' => matches!(b, b'N' | b'S'),
+        b'e' => matches!(b, b'E' | b'W'),
+        b'k' => matches!(b, b'K' | b'N'),
+        b'f' => matches!(b, b'F' | b'A'),
+        b's' => matches!(b, b'S' | b'M'),
+        b'o' => alphabet::is_octal(b),
+        _ => b == t,
     }
-    if t == b'n' {
-        return one_of(b, b"NS");
-    }
-    if t == b'e' {
-        return one_of(b, b"EW");
-    }
-    if t == b'k' {
-        return one_of(b, b"KN");
-    }
-    if t == b'f' {
-        return one_of(b, b"FA");
-    }
-    if t == b's' {
-        return one_of(b, b"SM");
-    }
-    if t == b'o' {
-        return alphabet::is_octal(b);
-    }
-    if b == t { true } else { false }
 }
 
 // Whether w fits a shape, given byte for byte.
 pub fn fits(t: &[u8], w: &[u8]) -> bool
     ensures { result ≡ fitting t.now w.now }
 {
-    if t.len() != w.len() {
-        return false;
-    }
-    let mut i = 0;
-    while i < t.len() {
-        if !in_class(t[i], w[i]) {
-            return false;
-        }
-        i += 1;
-    }
-    true
+    t.len() == w.len() && t.iter().zip(w).all(|(&t, &b)| in_class(t, b))
 }
 
 // Whether w fits one of a list of shapes, which have one space between them.
 pub fn any(list: &[u8], w: &[u8]) -> bool
     ensures { result ≡ any_of (split 32 list.now) w.now }
 {
-    let mut at = 0;
-    loop {
-        let e = text::find(list, at, b' ');
-        if fits(&list[at..e], w) {
-            return true;
-        }
-        if e == list.len() {
-            return false;
-        }
-        at = e + 1;
-    }
+    list.split(|&b| b == b' ').any(|t| fits(t, w))
 }
 
 // The number of one digit; 0 for a byte below the digits.
 pub fn one(b: u8) -> usize
     ensures { (result ≡ b - 48) × (result < 256) }
 {
-    if b < b'0' {
-        0
-    } else {
-        let v = b - b'0';
-        v as usize
+    b.saturating_sub(b'0') as usize
+}
+
+// The number of a few digits.
+fn number(digits: &[u8]) -> usize
+    requires { length digits.now ≤ 4 }
+    ensures value { result ≡ value digits.now }
+    ensures bound { result + 23 ≤ 23 * 10 ^ length digits.now }
+{
+    let mut n = 0;
+    for &b in digits {
+        n = n * 10 + one(b);
     }
+    n
 }
 
 // The number of the two digits at i and behind.
@@ -101,9 +71,7 @@ pub fn two(w: &[u8], i: usize) -> usize
     requires { i + 1 < length w.now }
     ensures { (result ≡ value (take 2 (drop i w.now))) × (result < 4096) }
 {
-    let tens = one(w[i]);
-    let ones = one(w[i + 1]);
-    tens * 10 + ones
+    number(&w[i..i + 2])
 }
 
 // The number of the three digits at i and behind.
@@ -111,10 +79,7 @@ pub fn three(w: &[u8], i: usize) -> usize
     requires { i + 2 < length w.now }
     ensures { (result ≡ value (take 3 (drop i w.now))) × (result < 65536) }
 {
-    let hundreds = one(w[i]);
-    let tens = one(w[i + 1]);
-    let ones = one(w[i + 2]);
-    hundreds * 100 + tens * 10 + ones
+    number(&w[i..i + 3])
 }
 
 // The number of the four digits at i and behind.
@@ -122,11 +87,7 @@ pub fn four(w: &[u8], i: usize) -> usize
     requires { i + 3 < length w.now }
     ensures { (result ≡ value (take 4 (drop i w.now))) × (result < 1048576) }
 {
-    let thousands = one(w[i]);
-    let hundreds = one(w[i + 1]);
-    let tens = one(w[i + 2]);
-    let ones = one(w[i + 3]);
-    thousands * 1000 + hundreds * 100 + tens * 10 + ones
+    number(&w[i..i + 4])
 }
 
 // A time of day, as the minute of the day.
