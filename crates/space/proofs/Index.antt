@@ -3,7 +3,7 @@
 -- Assumes nothing.
 use Prim.Native.Nat.{ℕ, zero, suc, ◌+◌, ◌-◌, ◌≤◌, ◌<◌}
 use mathlib.Core.Path.{◌≡◌, refl, sym, ap, ◌∙◌}
-use mathlib.Core.Bool.{Bool, true, false, cond, not, ◌&&◌, ◌||◌}
+use mathlib.Core.Bool.{Bool, true, false, cond}
 use mathlib.Core.List.{List, [], ◌∷◌}
 use native.Mathlib.Numerals.{sub-one}
 use native.Mathlib.Omega.{arith}
@@ -14,8 +14,7 @@ use borrow.Author.Tests.{eq-eqb, ne_eqb}
 use Rattle.alphabet.specs.Alphabet.{one_of, white}
 use Rattle.text.specs.Words.{up_to}
 use Rattle.text.proofs.Index.{drop_here, drop_end, rest}
-use Rattle.space.specs.Reduced.{closes, stands_for_run}
-use Rattle.space.specs.Part.{last_of}
+use Rattle.space.specs.Reduced.{stands_for_run}
 use Rattle.space.specs.Hyphens.{one_more, hyphens, up_to_hyphen, place_of_hyphen}
 
 -- ONE OF TWO BYTES
@@ -32,34 +31,6 @@ second_of_two b x y e = rw (ne_eqb b x e) (same (eqb b y))
 
 -- THE BYTE THAT STANDS FOR A RUN
 
-stands_at : (m : List ℕ) (a : Bool) → 0 < length m → stands_for_run a m ≡ not (white (get_or m 0 0)) && (a || not (closes (get_or m 0 0)))
-unfolding stands_for_run
-stands_at [] a h = absurd (omega arith)
-stands_at (c ∷ m) a h = refl
-
-module _ (m : List ℕ) (a : Bool) (h : 0 < length m) where
-  pub stands_white : white (get_or m 0 0) ≡ true → false ≡ stands_for_run a m
-  stands_white w = rw (stands_at m a h, w)
-
-  pub stands_closed : (k : Bool) → white (get_or m 0 0) ≡ false → closes (get_or m 0 0) ≡ true → k ≡ a → k ≡ stands_for_run a m
-  stands_closed k w e d = d ∙ rw (stands_at m a h, w, e) (either a)
-    where
-      either : (t : Bool) → t ≡ t || false
-      either true = refl
-      either false = refl
-
-  pub stands_open : white (get_or m 0 0) ≡ false → closes (get_or m 0 0) ≡ false → true ≡ stands_for_run a m
-  stands_open w e = rw (stands_at m a h, w, e) (either a)
-    where
-      either : (t : Bool) → true ≡ t || true
-      either true = refl
-      either false = refl
-
-pub stands_end : (m : List ℕ) (a : Bool) → length m ≡ 0 → true ≡ stands_for_run a m
-unfolding stands_for_run
-stands_end [] a h = refl
-stands_end (c ∷ m) a h = absurd (omega arith)
-
 -- by what is behind the byte before i, read as a part of the message
 pub stands_behind : (m : List ℕ) (i : ℕ) (a r : Bool) → r ≡ stands_for_run a (take (length m - i) (drop i m)) → stands_for_run a (drop i m) ≡ r
 stands_behind m i a r t = sym (t ∙ rw (rest m i))
@@ -68,10 +39,6 @@ stands_behind m i a r t = sym (t ∙ rw (rest m i))
 pub not_before_white : (m : List ℕ) (a : Bool) (i : ℕ) → i < length m → white (get_or m i 0) ≡ true → stands_for_run a (drop i m) ≡ false
 unfolding stands_for_run
 not_before_white m a i h w = rw (drop_here m i h, w)
-
-pub last_none : (s : List ℕ) → length s ≡ 0 → 0 ≡ last_of s
-last_none [] e = refl
-last_none (b ∷ s) e = absurd (omega arith)
 
 -- HYPHENS
 

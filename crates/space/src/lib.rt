@@ -10,49 +10,36 @@ ghost use Rattle.space.specs.Stays.{stays, all_stay, regular, all_regular};
 ghost use Rattle.space.specs.Places.{counts_at, sent_from, sent_place};
 ghost use Rattle.space.specs.Hyphens.{hyphens, place_of_hyphen};
 
+#[tactic(auto, unfolding(crate::specs::Reduced::opens))]
 fn is_opening(b: u8) -> bool
     ensures { result ≡ opens b }
 {
-    if b == b'(' {
-        return true;
-    }
-    b == b'-'
+    matches!(b, b'(' | b'-')
 }
 
+#[tactic(auto, unfolding(crate::specs::Reduced::closes))]
 fn is_closing(b: u8) -> bool
     ensures { result ≡ closes b }
 {
-    if b == b'-' {
-        return true;
-    }
-    b == b')'
+    matches!(b, b'-' | b')')
 }
 
 // The last byte, or 0 where there is none.
 fn last_of(s: &[u8]) -> u8
     ensures { result ≡ last_of s.now }
 {
-    if s.len() == 0 {
-        return 0;
-    }
-    s[s.len() - 1]
+    s.last().copied().unwrap_or(0)
 }
 
 // Whether a byte of white space is the one that stands for its run, by what is behind it and by the last byte before the run.
+#[tactic(auto, unfolding(crate::specs::Reduced::stands_for_run))]
 fn stands_for_run(behind: &[u8], last: u8) -> bool
     ensures { result ≡ stands_for_run (opens last) behind.now }
 {
-    if behind.len() == 0 {
-        return true;
+    match behind.first() {
+        Some(&c) => !alphabet::is_white(c) && (is_opening(last) || !is_closing(c)),
+        None => true,
     }
-    let c = behind[0];
-    if alphabet::is_white(c) {
-        return false;
-    }
-    if is_closing(c) {
-        return is_opening(last);
-    }
-    true
 }
 
 // Writes into `buf`, from `at` on, what is left of the bytes of `msg` from `from` up to `to`, and returns where it ends; the bytes behind it stay.
@@ -63,12 +50,10 @@ fn reduce_part(msg: &[u8], from: usize, to: usize, buf: &mut [u8], at: usize) ->
 {
     let mut last = last_of(&buf[..at]);
     let mut n = at;
-    let mut i = from;
-    while i < to {
+    for i in from..to {
         let b = msg[i];
-        i += 1;
         if alphabet::is_white(b) {
-            if stands_for_run(&msg[i..], last) {
+            if stands_for_run(&msg[i + 1..], last) {
                 buf[n] = b' ';
                 n += 1;
             }
@@ -116,14 +101,11 @@ fn all_stay(ahead: u8, s: &[u8]) -> bool
     ensures { result ≡ all_stay ahead s.now }
 {
     let mut last = ahead;
-    let mut i = 0;
-    while i < s.len() {
-        let b = s[i];
-        i += 1;
-        if !byte_stays(last, b, &s[i..]) {
+    for i in 0..s.len() {
+        if !byte_stays(last, s[i], &s[i + 1..]) {
             return false;
         }
-        last = b;
+        last = s[i];
     }
     true
 }
@@ -141,10 +123,8 @@ fn all_regular(s: &[u8]) -> bool
     ensures { result ≡ all_regular s.now }
 {
     let mut fine = true;
-    let mut i = 1;
-    while i < s.len() {
+    for i in 1..s.len() {
         fine = fine & is_regular(s[i - 1], s[i]);
-        i += 1;
     }
     fine
 }
@@ -172,10 +152,7 @@ fn few_hyphens(s: &[u8]) -> u8
     ensures { result ≡ hyphens s.now }
 {
     let mut n = 0;
-    let mut i = 0;
-    while i < s.len() {
-        let b = s[i];
-        i += 1;
+    for &b in s {
         if b == b'-' {
             n += 1;
         }
@@ -205,18 +182,15 @@ pub fn place_of_hyphen(msg: &[u8], j: usize) -> usize
         return 0;
     }
     let mut left = j - 1;
-    let mut i = 0;
-    while i < msg.len() {
-        let at = i;
-        i += 1;
-        if msg[at] == b'-' {
+    for i in 0..msg.len() {
+        if msg[i] == b'-' {
             if left == 0 {
-                return at;
+                return i;
             }
             left -= 1;
         }
     }
-    i
+    msg.len()
 }
 
 // Whether the byte at i counts: white space directly behind white space does not. What stands before `at` plays no part.
@@ -224,13 +198,7 @@ fn counts(msg: &[u8], at: usize, i: usize) -> bool
     requires { (at ≤ i) × (i < length msg.now) }
     ensures { result ≡ counts_at msg.now at i }
 {
-    if i == at {
-        return true;
-    }
-    if !alphabet::is_white(msg[i - 1]) {
-        return true;
-    }
-    !alphabet::is_white(msg[i])
+    i == at || !alphabet::is_white(msg[i - 1]) || !alphabet::is_white(msg[i])
 }
 
 // The place from `at` on that has n bytes before it that count.
@@ -239,18 +207,15 @@ fn sent_from(msg: &[u8], at: usize, n: usize) -> usize
     ensures { result ≡ at + sent_from false n (drop at msg.now) }
 {
     let mut left = n;
-    let mut i = at;
-    while i < msg.len() {
-        let here = i;
-        i += 1;
-        if counts(msg, at, here) {
+    for i in at..msg.len() {
+        if counts(msg, at, i) {
             if left == 0 {
-                return here;
+                return i;
             }
             left -= 1;
         }
     }
-    i
+    msg.len()
 }
 
 // The place in a message as sent of place n in the content of its field j.
