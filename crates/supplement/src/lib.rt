@@ -119,6 +119,7 @@ fn taken(fits: bool, then: Stage) -> Stage
     if fits { then } else { Stage::Refused }
 }
 
+// That the dinghies are covered.
 const COVER: &[u8] = b"C";
 
 // The cover, or a colour.
