@@ -1,16 +1,15 @@
 -- What ties the definitions to code that walks an index. Assumes nothing.
-use Prim.Native.Nat.{ℕ, suc, ◌+◌, ◌-◌, ◌<◌, ◌≤◌}
+use Prim.Native.Nat.{ℕ, ◌+◌, ◌-◌, ◌<◌, ◌≤◌}
 use mathlib.Core.Path.{◌≡◌, refl, sym, ap, ◌∙◌}
 use mathlib.Core.Bool.{Bool, true, false, ◌&&◌}
 use mathlib.Core.List.{List, [], ◌∷◌}
 use native.Mathlib.Omega.{arith}
-use lib.Dec.{leb, eqb, leb-suc-zero, leb-suc-suc}
+use lib.Dec.{eqb}
 use lib.ListN.{length, take, drop, length-drop}
 use lib.Seq.{take_all}
-use borrow.Author.Tests.{le-leb, eqb-true, eqb-false}
+use borrow.Author.Tests.{eqb-true, eqb-false}
 use Rattle.text.specs.Words.{Word, all, null, same, split, up_to, text_word}
 use Rattle.text.proofs.Index.{split_at, after_here, after_end, drop_end, rest, null-split}
-use Rattle.text.proofs.Tests.{and_false}
 use Rattle.shape.specs.declared.ClockRead.TheVariants.{NoTimeOfDay}
 use Rattle.shape.specs.declared.ElapsedRead.TheVariants.{NoElapsedTime}
 use Rattle.shape.specs.Time.{time_fits, clock_hours, clock_fits, clock_read, elapsed_hours, elapsed_read}
@@ -26,11 +25,6 @@ use Rattle.aerodromes.proofs.Aerodromes.{four_length, joined_length}
 not_so : (b : Bool) → (b ≡ true → ⊥) → b ≡ false
 not_so true h = absurd (h refl)
 not_so false h = refl
-
--- the last of some tests in a row
-pub last_test : (r b : Bool) → r ≡ b → r ≡ (b && true)
-last_test r true e = e
-last_test r false e = e
 
 -- AN AERODROME AND A TIME
 
@@ -81,36 +75,6 @@ module _ (s : List ℕ) (h : length s < 8) where
 
   pub elapsed_short : elapsed_at s ≡ NoElapsedTime
   elapsed_short = rw (time_short elapsed_hours)
-
--- A TEST OF EVERY WORD, and aerodromes at most so many: at a word that ends at e
-
-module _ (p : Word → Bool) (s : List ℕ) (at e : ℕ) (end : e ≡ at + up_to 32 (drop at s)) where
-  pub each_stop : p (take (e - at) (drop at s)) ≡ false → all p (split 32 (drop at s)) ≡ false
-  each_stop h = rw (split_at 32 s at e end, h)
-
-  pub each_last : p (take (e - at) (drop at s)) ≡ true → length s ≤ e → all p (split 32 (drop at s)) ≡ true
-  each_last h l = rw (split_at 32 s at e end, h, after_end 32 s e l)
-
-  pub each_next : p (take (e - at) (drop at s)) ≡ true → e < length s → all p (split 32 (drop at s)) ≡ all p (split 32 (drop (e + 1) s))
-  each_next h l = rw (split_at 32 s at e end, h, after_here 32 s e l)
-
-pub few_none : (s : List ℕ) (at : ℕ) → few_aerodromes 0 (split 32 (drop at s)) ≡ false
-few_none s at = rw (split_at 32 s at (at + up_to 32 (drop at s)) refl, leb-suc-zero)
-
-module _ (n : ℕ) (s : List ℕ) (at e : ℕ) (end : e ≡ at + up_to 32 (drop at s)) where
-  pub few_stop : four_letters (take (e - at) (drop at s)) ≡ false → few_aerodromes n (split 32 (drop at s)) ≡ false
-  few_stop h = and_false (leb (length (split 32 (drop at s))) n) (all four_letters (split 32 (drop at s))) (each_stop four_letters s at e end h)
-
-  pub few_last : 0 < n → four_letters (take (e - at) (drop at s)) ≡ true → length s ≤ e → few_aerodromes n (split 32 (drop at s)) ≡ true
-  few_last z h l = rw (split_at 32 s at e end, h, after_end 32 s e l, le-leb 1 n z)
-
-  step : four_letters (take (e - at) (drop at s)) ≡ true → e < length s
-      → few_aerodromes (suc (n - 1)) (split 32 (drop at s)) ≡ few_aerodromes (n - 1) (split 32 (drop (e + 1) s))
-  step h l = rw (split_at 32 s at e end, h, after_here 32 s e l, leb-suc-suc (length (split 32 (drop (e + 1) s))) (n - 1))
-
-  pub few_next : 0 < n → four_letters (take (e - at) (drop at s)) ≡ true → e < length s
-      → few_aerodromes n (split 32 (drop at s)) ≡ few_aerodromes (n - 1) (split 32 (drop (e + 1) s))
-  few_next z h l = let q : n ≡ suc (n - 1) = omega arith in ap (λ (k : ℕ). few_aerodromes k (split 32 (drop at s))) q ∙ step h l
 
 -- THE WORDS OF A CONTENT, the first of which ends at e
 

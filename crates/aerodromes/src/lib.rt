@@ -73,22 +73,10 @@ const MOST_ALTERNATES: usize = 2;
 fn alternates(list: &[u8]) -> bool
     ensures { result ≡ few_aerodromes most_alternates (split 32 list.now) }
 {
-    let mut at = 0;
-    let mut left = MOST_ALTERNATES;
-    loop {
-        if left == 0 {
-            return false;
-        }
-        let e = text::find(list, at, b' ');
-        if !four_letters(&list[at..e]) {
-            return false;
-        }
-        if e == list.len() {
-            return true;
-        }
-        at = e + 1;
-        left -= 1;
+    if MOST_ALTERNATES < list.split(|&b| b == b' ').count() {
+        return false;
     }
+    list.split(|&b| b == b' ').all(|w| four_letters(w))
 }
 
 // Field 16 in FPL and SPL, with an elapsed time and alternates.
@@ -119,18 +107,11 @@ pub fn fits_field16_entry(s: &[u8]) -> bool
 fn text_words(list: &[u8]) -> bool
     ensures { result ≡ all text_word (split 32 list.now) }
 {
-    let mut at = 0;
-    loop {
-        let e = text::find(list, at, b' ');
-        if !text::is_text_word(&list[at..e]) {
-            return false;
-        }
-        if e == list.len() {
-            return true;
-        }
-        at = e + 1;
-    }
+    list.split(|&b| b == b' ').all(|w| text::is_text_word(w))
 }
+
+// For an aerodrome that has no four letters.
+const UNLISTED: &[u8] = b"ZZZZ";
 
 pub fn fits_field17(s: &[u8]) -> bool
     ensures { result ≡ fits17 s.now }
@@ -139,13 +120,13 @@ pub fn fits_field17(s: &[u8]) -> bool
     if !at_clock(&s[..e]).is_time_of_day() {
         return false;
     }
-    if !text::same_bytes(aerodrome_of(&s[..e]), b"ZZZZ") {
-        return e == s.len();
+    if aerodrome_of(&s[..e]) == UNLISTED {
+        if e == s.len() {
+            return false;
+        }
+        return text_words(&s[e + 1..]);
     }
-    if e == s.len() {
-        return false;
-    }
-    text_words(&s[e + 1..])
+    e == s.len()
 }
 
 // The first four bytes of a content, where its aerodrome stands; the whole where it is shorter.
@@ -197,7 +178,7 @@ pub struct Aerodrome(pub u8, pub u8, pub u8, pub u8);
 fn byte_at(s: &[u8], i: usize) -> u8
     ensures { result ≡ get_or s.now i 0 }
 {
-    if i < s.len() { s[i] } else { 0 }
+    s.get(i).copied().unwrap_or(0)
 }
 
 impl Aerodrome {
@@ -212,15 +193,9 @@ impl Aerodrome {
     pub fn is_letters(self) -> bool
         ensures { result ≡ is_letters self }
     {
-        if !alphabet::is_letter(self.0) {
-            return false;
-        }
-        if !alphabet::is_letter(self.1) {
-            return false;
-        }
-        if !alphabet::is_letter(self.2) {
-            return false;
-        }
-        alphabet::is_letter(self.3)
+        alphabet::is_letter(self.0)
+            && alphabet::is_letter(self.1)
+            && alphabet::is_letter(self.2)
+            && alphabet::is_letter(self.3)
     }
 }

@@ -1,24 +1,26 @@
--- Words at an index: the letters of a set that stand in a word, leading zeros, and how a word is rewritten. Assumes nothing.
-use Prim.Native.Nat.{ℕ, ◌+◌, ◌-◌, ◌<◌, ◌≤◌}
+-- The letters of a set that stand in a word, and how a word is rewritten. Assumes nothing.
+use Prim.Native.Nat.{ℕ, ◌+◌, ◌<◌, ◌≤◌}
 use mathlib.Core.Path.{◌≡◌, refl, sym, ap, ◌∙◌}
-use mathlib.Core.Bool.{true, false, false≢true}
+use mathlib.Core.Bool.{Bool, true, false, cond, false≢true}
+use Rattle.std.specs.List.{filter, position_or_len}
+use Rattle.std.specs.Prelude.{suc, Option, Some, None}
+use Rattle.std.proofs.lemmas.List.Recursion.{is_position_or_len}
 use mathlib.Core.List.{List, [], ◌∷◌, ◌++◌}
 use native.Mathlib.Omega.{arith}
-use lib.Dec.{eqb}
+use lib.Dec.{eqb, ltb}
 use lib.ListN.{length, take, drop, get_or, set, length-append, length-drop}
 use lib.Seq.{length-take-le}
-use borrow.Author.Tests.{lt-ltb, le-ltb, eqb-true, eq-eqb, ne_eqb}
-use types.Run.{OneOf}
+use borrow.Author.Rules.{rules}
+use borrow.Author.Tests.{ltb-true, eqb-true}
 use Rattle.alphabet.specs.Alphabet.{one_of}
-use Rattle.text.specs.Words.{Word, up_to}
+use Rattle.text.specs.Words.{Word, up_to, holds}
 use Rattle.text.specs.Lent.{front}
-use Rattle.text.proofs.Index.{drop_here, drop_end}
+use Rattle.text.proofs.Index.{drop_here}
 use Rattle.supplement.specs.declared.Stage.{Stage}
 use Rattle.supplement.specs.declared.Stage.TheVariants.{Start, Endurance, Persons, Radio, Survival, Lights, JacketRadio, Number, Capacity, Colours}
 use Rattle.supplement.specs.declared.Stage.TheVariants.{Aircraft, Remarks, Pilot, Refused}
-use Rattle.supplement.proofs.Stages.{number, each, among}
 use Rattle.canonical.specs.Canonical.{sorted}
-use Rattle.canonical.specs.Rewriting.{letters, stripped, changed, up_to_oblique, rewrite}
+use Rattle.canonical.specs.Rewriting.{letters, changed, up_to_oblique, rewrite}
 use Rattle.canonical.proofs.Orders.{sorted_shorter}
 use Rattle.canonical.proofs.Counts.{stripped_shorter}
 
@@ -31,53 +33,34 @@ module _ (set : List ℕ) (w : Word) (i : ℕ) (h : i < length set) where
   pub sorted_skip : one_of (get_or set i 0) w ≡ false → sorted (drop i set) w ≡ sorted (drop (i + 1) set) w
   sorted_skip e = rw (drop_here set i h, e)
 
--- LEADING ZEROS
-
-module _ (w : Word) (i : ℕ) where
-  pub stripped_last : i + 1 ≡ length w → stripped (drop i w) ≡ drop i w
-  stripped_last h = let l : i < length w = omega arith in let m : length w ≤ i + 1 = omega arith in rw (drop_here w i l, drop_end w (i + 1) m)
-
-  pub stripped_stop : i + 1 < length w → (get_or w i 0 ≡ 48 → ⊥) → stripped (drop i w) ≡ drop i w
-  stripped_stop h e = let l : i < length w = omega arith in rw (drop_here w i l, drop_here w (i + 1) h, ne_eqb (get_or w i 0) 48 e)
-
-  pub stripped_next : i + 1 < length w → get_or w i 0 ≡ 48 → stripped (drop i w) ≡ stripped (drop (i + 1) w)
-  stripped_next h e = let l : i < length w = omega arith in rw (drop_here w i l, drop_here w (i + 1) h, eq-eqb (get_or w i 0) 48 e)
-
-  pub stripped_end : length w ≤ i → stripped (drop i w) ≡ drop i w
-  stripped_end h = rw (drop_end w i h)
-
-pub stripped_length : (w : Word) (z : ℕ) → drop z w ≡ stripped w → length w - z ≡ length (stripped w)
-stripped_length w z e = sym (length-drop z w) ∙ ap length e
+pub sorted_filtered : (set : List ℕ) (w : Word) → sorted set w ≡ filter (λ b. one_of b w) set
+sorted_filtered [] w = refl
+sorted_filtered (b ∷ set) w = ap (λ (v : Word). cond (one_of b w) (b ∷ v) v) (sorted_filtered set w)
 
 -- REWRITING
 
-module _ (w : Word) (o : ℕ) (end : o ≡ 0 + up_to 47 w) where
-  pub oblique_none : length w ≤ o → 0 ≡ up_to_oblique w
-  oblique_none h = rw (le-ltb (up_to 47 w) (length w) (omega arith))
+-- r is where `position` found the first oblique
+module _ (w : Word) (r : Option ℕ)
+    (found : r ≡ cond (ltb (position_or_len (λ b. eqb b 47) w) (length w)) (Some (position_or_len (λ b. eqb b 47) w)) None) where
+  first : up_to 47 w ≡ position_or_len (λ b. eqb b 47) w
+  first = is_position_or_len (up_to 47) (λ b. eqb b 47) refl (λ b t. ap (λ (n : ℕ). cond (eqb b 47) 0 n) (omega arith)) w
 
-  pub oblique_some : o < length w → o + 1 ≡ up_to_oblique w
-  oblique_some h = rw (lt-ltb (up_to 47 w) (length w) (omega arith)) (omega arith)
+  placed : r ≡ cond (holds 47 w) (Some (up_to 47 w)) None
+  placed = rw first found
 
--- by its stage: letters are sorted, counts stripped, and any other word is as it was sent
+  pub oblique_some : (o : ℕ) → r ≡ Some o → (o + 1 ≡ up_to_oblique w) × (o < length w)
+  oblique_some o e = go (holds 47 w) refl (sym e ∙ placed)
+    where
+      go : (t : Bool) → holds 47 w ≡ t → Some o ≡ cond t (Some (up_to 47 w)) None → (o + 1 ≡ cond t (suc (up_to 47 w)) 0) × (o < length w)
+      go true h q = let p : o ≡ up_to 47 w = search rules in (omega arith, omega (arith, ltb-true (up_to 47 w) (length w) h))
+      go false h q = absurd (search rules)
 
-abbrev pub of_letters : List Stage
-of_letters = Radio ∷ (Survival ∷ (Lights ∷ (JacketRadio ∷ [])))
-
-abbrev pub of_counts : List Stage
-of_counts = Persons ∷ (Number ∷ (Capacity ∷ []))
-
-abbrev pub as_sent : List Stage
-as_sent = Start ∷ (Endurance ∷ (Colours ∷ (Aircraft ∷ (Remarks ∷ (Pilot ∷ (Refused ∷ []))))))
-
-module _ (stage : Stage) (w : Word) where
-  pub changed_letters : OneOf (each number of_letters) (number stage) → changed stage w ≡ sorted letters w
-  changed_letters o = among (λ s. changed s w) (λ s. sorted letters w) of_letters stage o refl
-
-  pub changed_count : OneOf (each number of_counts) (number stage) → changed stage w ≡ stripped w
-  changed_count o = among (λ s. changed s w) (λ s. stripped w) of_counts stage o refl
-
-  pub changed_not : OneOf (each number as_sent) (number stage) → changed stage w ≡ w
-  changed_not o = among (λ s. changed s w) (λ s. w) as_sent stage o refl
+  pub oblique_none : r ≡ None → 0 ≡ up_to_oblique w
+  oblique_none e = go (holds 47 w) (sym e ∙ placed)
+    where
+      go : (t : Bool) → None ≡ cond t (Some (up_to 47 w)) None → 0 ≡ cond t (suc (up_to 47 w)) 0
+      go true q = absurd (search rules)
+      go false q = refl
 
 pub changed_shorter : (stage : Stage) (w : Word) → length (changed stage w) ≤ length w
 changed_shorter Start w = omega arith

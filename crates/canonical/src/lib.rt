@@ -11,37 +11,25 @@ ghost use Rattle.canonical.specs.Rewriting.{stripped, changed, up_to_oblique, re
 
 use supplement::Stage;
 
-// How many leading zeros of w are left off: all but the last byte at most.
-fn zeros(w: &[u8]) -> usize
-    ensures { (result ≤ length w.now) × (drop result w.now ≡ stripped w.now) }
+// A count without its leading zeros; its last digit stays.
+fn stripped<'a>(w: &'a [u8]) -> &'a [u8]
+    ensures { result.now ≡ stripped w.now }
 {
-    let mut i = 0;
-    while i < w.len() {
-        if i + 1 == w.len() {
-            return i;
+    let mut rest = w;
+    while let [first, behind @ ..] = rest {
+        if behind.is_empty() || *first != b'0' {
+            return rest;
         }
-        if w[i] != b'0' {
-            return i;
-        }
-        i += 1;
+        rest = behind;
     }
-    i
+    rest
 }
 
 // How many letters of a set stand in w.
 fn sorted_length(set: &[u8], w: &[u8]) -> usize
     ensures { result ≡ length (sorted set.now w.now) }
 {
-    let mut i = 0;
-    let mut n = 0;
-    while i < set.len() {
-        let b = set[i];
-        i += 1;
-        if shape::one_of(b, w) {
-            n += 1;
-        }
-    }
-    n
+    set.iter().filter(|b| shape::one_of(**b, w)).count()
 }
 
 // Writes the letters of a set that stand in w, in the set's order.
@@ -50,26 +38,14 @@ fn put_sorted(set: &[u8], w: &[u8], out: &mut [u8]) -> usize
     ensures { (result ≡ length (sorted set.now w.now))
         × (out.new ≡ front (sorted set.now w.now) out.old) }
 {
-    let mut i = 0;
     let mut o = 0;
-    while i < set.len() {
-        let b = set[i];
-        i += 1;
-        if shape::one_of(b, w) {
-            out[o] = b;
+    for b in set {
+        if shape::one_of(*b, w) {
+            out[o] = *b;
             o += 1;
         }
     }
     o
-}
-
-// Writes a count without its leading zeros.
-fn put_stripped(w: &[u8], out: &mut [u8]) -> usize
-    requires { length (stripped w.now) ≤ length out.old }
-    ensures { (result ≡ length (stripped w.now)) × (out.new ≡ front (stripped w.now) out.old) }
-{
-    let z = zeros(w);
-    text::put(&w[z..], out)
 }
 
 // How many bytes are written of w, what stands behind an oblique or a whole word, by what it was read as.
@@ -81,7 +57,7 @@ fn changed_length(stage: Stage, w: &[u8]) -> usize
             b"UVEPDMJLF",
             w,
         ),
-        Stage::Persons | Stage::Number | Stage::Capacity => w.len() - zeros(w),
+        Stage::Persons | Stage::Number | Stage::Capacity => stripped(w).len(),
         _ => w.len(),
     }
 }
@@ -97,28 +73,19 @@ fn put_changed(stage: Stage, w: &[u8], out: &mut [u8]) -> usize
             w,
             out,
         ),
-        Stage::Persons | Stage::Number | Stage::Capacity => put_stripped(w, out),
+        Stage::Persons | Stage::Number | Stage::Capacity => text::put(stripped(w), out),
         _ => text::put(w, out),
     }
-}
-
-// How many bytes stand up to the oblique, and it; none where there is none.
-fn up_to_oblique(w: &[u8]) -> usize
-    ensures { (result ≡ up_to_oblique w.now) × (result ≤ length w.now) }
-{
-    let o = text::find(w, 0, b'/');
-    if o == w.len() {
-        return 0;
-    }
-    o + 1
 }
 
 // How many bytes a word has as it is written.
 fn word_length(stage: Stage, w: &[u8]) -> usize
     ensures { (result ≡ length (rewrite stage w.now)) × (result ≤ length w.now) }
 {
-    let o = up_to_oblique(w);
-    o + changed_length(stage, &w[o..])
+    match w.iter().position(|&b| b == b'/') {
+        Some(o) => o + 1 + changed_length(stage, &w[o + 1..]),
+        None => changed_length(stage, w),
+    }
 }
 
 // Writes a word: its key and the oblique as they are, if it has them.
@@ -135,6 +102,7 @@ fn put_word(stage: Stage, w: &[u8], out: &mut [u8]) -> usize
 }
 
 // How many bytes the words have as they are written, with one space between them.
+// A loop over places, as in put_words, which writes what is counted here: the place reached bounds the sum.
 fn words_length(s: &[u8]) -> usize
     ensures { result ≡ length (rewritten_text s.now) }
 {
@@ -202,13 +170,14 @@ fn read_as(stage: Stage, w: &[u8]) -> Stage
 fn is_settled(stage: Stage) -> bool
     ensures { result ≡ settled stage }
 {
-    match stage {
-        Stage::Colours | Stage::Aircraft | Stage::Remarks | Stage::Pilot => true,
-        _ => false,
-    }
+    matches!(
+        stage,
+        Stage::Colours | Stage::Aircraft | Stage::Remarks | Stage::Pilot
+    )
 }
 
 // Writes the words of a content that fits, with one space between them; from a settled word on the content as it is.
+// A loop over places: the place of a settled word says what is left, and an iterator over the words does not give it.
 fn put_words(s: &[u8], out: &mut [u8]) -> usize
     requires { (fits19 s.now ≡ true) × (length (rewritten_text s.now) ≤ length out.old) }
     ensures { (result ≡ length (rewritten_text s.now)) × (out.new ≡ front (rewritten_text s.now) out.old) }

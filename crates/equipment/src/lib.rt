@@ -6,12 +6,15 @@ ghost use Rattle.text.specs.Words.{cells};
 ghost use Rattle.codes.specs.Codes.{codes, is_index};
 ghost use Rattle.equipment.specs.Field10.{present, side_fits, fits10};
 
+// The side of an aircraft that carries none of its list.
+const NOTHING: &[u8] = b"N";
+
 // Whether a side fits: N alone, or one or more codes of the list, none twice, in at most so many bytes. `first` is the list's index.
 pub fn side_by(first: &[u8; 26], list: &[u8], most: usize, s: &[u8]) -> bool
     requires { is_index first.now (cells 2 list.now) ≡ true }
     ensures { result ≡ side_fits (cells 2 list.now) most (codes s.now) }
 {
-    if text::same_bytes(s, b"N") {
+    if s == NOTHING {
         return true;
     }
     if s.len() < 1 {

@@ -1,5 +1,5 @@
--- What ties the definitions to the code: runs at an index, and contents that are too short. Assumes nothing.
-use Prim.Native.Nat.{ℕ, suc, ◌+◌, ◌-◌, ◌<◌, ◌≤◌}
+-- What ties the definitions to the code: numbers, counts and contents by their length, and a run cut from what follows it. Assumes nothing.
+use Prim.Native.Nat.{ℕ, suc, ◌+◌, ◌<◌, ◌≤◌}
 use mathlib.Core.Path.{◌≡◌, refl, ap}
 use mathlib.Core.Bool.{Bool, true, false, cond, ◌&&◌, not, beq, and-true}
 use mathlib.Core.List.{List, [], ◌∷◌, ◌++◌}
@@ -10,28 +10,11 @@ use lib.Seq.{take_all}
 use borrow.Author.Tests.{not-true, leb-true, lt-leb}
 use Rattle.alphabet.specs.Alphabet.{letter, digit}
 use Rattle.text.specs.Words.{Word, all, null, elem}
-use Rattle.text.proofs.Index.{drop_here, drop_end}
 use Rattle.text.proofs.Tests.{both, some_length, of_elem, elem-length}
 use Rattle.head.specs.Runs.{lead}
-use Rattle.head.specs.Field3.{types, unit, receiver, serial, first, others, number_fits, numbers_fit, fits3}
+use Rattle.head.specs.Field3.{types, first, others, number_fits, numbers_fit, fits3}
 use Rattle.head.specs.Field8.{rules_fit, flight_fits, fits8}
 use Rattle.head.specs.Field9.{count_fits}
-
--- A RUN AT AN INDEX
-
-module _ (d : Bool) (s : List ℕ) (i : ℕ) where
-  pub lead_stop : i < length s → beq (digit (get_or s i 0)) d ≡ false → lead d (drop i s) ≡ 0
-  lead_stop h e = rw (drop_here s i h, e)
-
-  pub lead_next : i < length s → beq (digit (get_or s i 0)) d ≡ true → lead d (drop i s) ≡ suc (lead d (drop (i + 1) s))
-  lead_next h e = rw (drop_here s i h, e)
-
-  pub lead_end : length s ≤ i → lead d (drop i s) ≡ 0
-  lead_end h = rw (drop_end s i h)
-
--- TOO SHORT: what has no room for three digits has no unit before them
-pub receiver_short : (w : Word) → length w < 3 → (unit (receiver w) && all digit (serial w)) ≡ false
-receiver_short w h = let z : length w - 3 ≡ 0 = omega arith in rw z
 
 -- NUMBERS, by where the first one ends
 
@@ -72,12 +55,12 @@ count_two (a ∷ []) h = absurd (omega arith)
 count_two (a ∷ (b ∷ [])) h = refl
 count_two (a ∷ (b ∷ (c ∷ w))) h = absurd (omega arith)
 
-pub count_more : (w : Word) → (length w ≡ 0 → ⊥) → (length w ≡ 1 → ⊥) → (length w ≡ 2 → ⊥) → count_fits w ≡ false
+pub count_more : (w : Word) → 3 ≤ length w → count_fits w ≡ false
 unfolding count_fits
-count_more [] h k l = absurd (h refl)
-count_more (a ∷ []) h k l = absurd (k refl)
-count_more (a ∷ (b ∷ [])) h k l = absurd (l refl)
-count_more (a ∷ (b ∷ (c ∷ w))) h k l = refl
+count_more [] h = absurd (omega arith)
+count_more (a ∷ []) h = absurd (omega arith)
+count_more (a ∷ (b ∷ [])) h = absurd (omega arith)
+count_more (a ∷ (b ∷ (c ∷ w))) h = refl
 
 pub rules_one : (s : List ℕ) → length s ≡ 1 → fits8 s ≡ rules_fit (get_or s 0 0)
 unfolding fits8

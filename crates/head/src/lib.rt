@@ -1,13 +1,14 @@
 // Fields 3, 7, 8 and 9: type and number, identification, rules, aircraft.
 #![tactic(auto)]
 
-ghost use Rattle.std.specs.Prelude.{◌≡◌, ◌≤◌, ◌&&◌, length};
+ghost use Rattle.std.specs.Prelude.{◌≡◌, ◌≤◌, ◌&&◌, length, leb};
 ghost use Rattle.alphabet.specs.Alphabet.{digit};
 ghost use Rattle.text.specs.Words.{before, all};
+ghost use Rattle.text.specs.Kinds.{of_kind};
 ghost use Rattle.head.specs.Runs.{lead};
 ghost use Rattle.head.specs.Field3.{unit, receiver, serial, number_fits, numbers_fit, fits3};
 ghost use Rattle.head.specs.Field7.{identification_fits, fits7};
-ghost use Rattle.head.specs.Field8.{fits8};
+ghost use Rattle.head.specs.Field8.{rules_fit, fits8};
 ghost use Rattle.head.specs.Field9.{count_fits, type_fits, is_wake, aircraft, aircraft_fits, fits9};
 
 use text::Kind;
@@ -16,27 +17,29 @@ use text::Kind;
 pub fn run(digits: bool, s: &[u8]) -> usize
     ensures { (result ≡ lead digits s.now) × (result ≤ length s.now) }
 {
-    let mut i = 0;
-    while i < s.len() {
-        if alphabet::is_digit(s[i]) != digits {
-            return i;
-        }
-        i += 1;
+    s.iter()
+        .position(|&b| alphabet::is_digit(b) != digits)
+        .unwrap_or(s.len())
+}
+
+// Bytes of a kind, at least and at most so many.
+fn some_of(kind: Kind, least: usize, most: usize, w: &[u8]) -> bool
+    ensures { result ≡ (leb least (length w.now) && (leb (length w.now) most && all (of_kind kind) w.now)) }
+{
+    if w.len() < least {
+        return false;
     }
-    i
+    if most < w.len() {
+        return false;
+    }
+    text::all_of(kind, w)
 }
 
 // 1 to 4 letters.
 pub fn is_unit(w: &[u8]) -> bool
     ensures { result ≡ unit w.now }
 {
-    if w.len() < 1 {
-        return false;
-    }
-    if 4 < w.len() {
-        return false;
-    }
-    text::all_of(Kind::Letter, w)
+    some_of(Kind::Letter, 1, 4, w)
 }
 
 // A message's number: a unit, the oblique, a unit and 3 digits.
@@ -106,13 +109,7 @@ pub fn fits_field3(s: &[u8]) -> bool
 pub fn is_identification(w: &[u8]) -> bool
     ensures { result ≡ identification_fits w.now }
 {
-    if w.len() < 2 {
-        return false;
-    }
-    if 7 < w.len() {
-        return false;
-    }
-    text::all_of(Kind::Sign, w)
+    some_of(Kind::Sign, 2, 7, w)
 }
 
 // Whether a content fits field 7's form.
@@ -137,61 +134,53 @@ pub fn identification<'a>(s: &'a [u8]) -> &'a [u8]
     &s[..o]
 }
 
+// The rules: one of four letters.
+fn is_rules(b: u8) -> bool
+    ensures { result ≡ rules_fit b }
+{
+    shape::one_of(b, b"IVYZ")
+}
+
 // Whether a content fits field 8's form.
 pub fn fits_field8(s: &[u8]) -> bool
     ensures { result ≡ fits8 s.now }
 {
-    if s.len() == 1 {
-        return shape::one_of(s[0], b"IVYZ");
+    match s {
+        [rules] => is_rules(*rules),
+        [rules, flight] => is_rules(*rules) && shape::one_of(*flight, b"SNGMX"),
+        _ => false,
     }
-    if s.len() != 2 {
-        return false;
-    }
-    if !shape::one_of(s[0], b"IVYZ") {
-        return false;
-    }
-    shape::one_of(s[1], b"SNGMX")
 }
 
 // Of digits: none, or 2 to 99 without leading zero.
 pub fn is_count(w: &[u8]) -> bool
     ensures { result ≡ count_fits w.now }
 {
-    if w.len() == 0 {
-        return true;
+    match w {
+        [] => true,
+        [ones] => b'2' <= *ones,
+        [tens, _] => b'1' <= *tens,
+        _ => false,
     }
-    if w.len() == 1 {
-        return b'2' <= w[0];
-    }
-    if w.len() == 2 {
-        return b'1' <= w[0];
-    }
-    false
 }
 
 // 2 to 4 signs, the first a letter.
 pub fn is_type(w: &[u8]) -> bool
     ensures { result ≡ type_fits w.now }
 {
-    if w.len() < 2 {
-        return false;
+    match w.first() {
+        Some(b) => alphabet::is_letter(*b) && some_of(Kind::Sign, 2, 4, w),
+        None => false,
     }
-    if 4 < w.len() {
-        return false;
-    }
-    if !alphabet::is_letter(w[0]) {
-        return false;
-    }
-    text::all_of(Kind::Sign, w)
 }
 
 fn is_wake(w: &[u8]) -> bool
     ensures { result ≡ is_wake w.now }
 {
-    if w.len() != 1 {
-        return false;
+    match w {
+        [b] => shape::one_of(*b, b"HML"),
+        _ => false,
     }
-    shape::one_of(w[0], b"HML")
 }
 
 // A type of aircraft, the oblique and the wake category.
@@ -209,6 +198,7 @@ fn is_aircraft(t: &[u8]) -> bool
 }
 
 // Whether a content fits field 9's form.
+#[tactic(auto, unfolding(crate::specs::Field9::fits9))]
 pub fn fits_field9(s: &[u8]) -> bool
     ensures { result ≡ fits9 s.now }
 {

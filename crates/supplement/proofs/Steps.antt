@@ -1,48 +1,28 @@
--- Words at an index: letters of a set, and a step over a word. Assumes nothing.
+-- A step over a word, by where its oblique stands. Assumes nothing.
 use Prim.Native.Nat.{ℕ, suc, ◌+◌, ◌<◌, ◌≤◌}
 use mathlib.Core.Path.{◌≡◌, refl, sym, ap, ◌∙◌}
-use mathlib.Core.Bool.{Bool, true, false, cond, and-true, false≢true}
+use mathlib.Core.Bool.{Bool, true, false, cond, false≢true}
 use mathlib.Core.List.{List, [], ◌∷◌}
 use native.Mathlib.Omega.{arith}
 use native.Mathlib.Numerals.{add-one}
 use lib.ListN.{length, take, drop, get_or}
 use lib.Seq.{length-take-le}
-use lib.Dec.{leb, ltb, eqb}
+use lib.Dec.{ltb, eqb}
 use borrow.Author.Tests.{ltb-true, ltb-false, lt-ltb, le-ltb, eqb-true, ne_eqb}
 use Rattle.alphabet.specs.Text.{bytes}
-use Rattle.alphabet.specs.Alphabet.{one_of, text, in_alphabet, white}
+use Rattle.alphabet.specs.Alphabet.{text, in_alphabet, white}
 use Rattle.text.specs.Words.{Word, up_to, holds, same, text_word}
-use Rattle.text.proofs.Tests.{and_false, same-eq}
-use Rattle.text.proofs.Index.{drop_here, drop_end}
+use Rattle.text.proofs.Tests.{same-eq}
 use Rattle.text.proofs.Joined.{holds-free}
 use Rattle.text.proofs.Tidy.{text_word_free}
 use Rattle.supplement.specs.Field19.{Key, E, P, R, S, J, D, A, N, C, Other, spell_key, by_letter}
 use Rattle.supplement.specs.declared.Stage.{Stage}
 use Rattle.supplement.specs.declared.Stage.TheVariants.{Start, Endurance, Persons, Radio, Survival, Lights, JacketRadio, Number, Capacity, Colours}
 use Rattle.supplement.specs.declared.Stage.TheVariants.{Aircraft, Remarks, Pilot, Refused}
-use Rattle.supplement.specs.Field19.{keyed, place, count, letters_fit, some_of, colour, jacket_radio_letters, capacity_digits, cover}
+use Rattle.supplement.specs.Field19.{keyed, place, count, some_of, colour, jacket_radio_letters, capacity_digits, cover}
 use Rattle.supplement.specs.Walk.{past, shaded, first, further, opens, step}
 use Rattle.supplement.proofs.Words.{count_text, some_text, colour_text}
 use Rattle.supplement.proofs.Items.{key_spelled}
-
--- LETTERS OF A SET, from an index on
-
-module _ (set : List ℕ) (w : Word) (i : ℕ) (passed : letters_fit set w ≡ letters_fit set (drop i w)) where
-  pub some_other : i < length w → one_of (get_or w i 0) set ≡ false → false ≡ some_of set w
-  some_other h e = sym (and_false (leb 1 (length w)) _ (passed ∙ rw (drop_here w i h, e)))
-
-  pub some_twice : i < length w → one_of (get_or w i 0) (drop (i + 1) w) ≡ true → false ≡ some_of set w
-  some_twice h e = sym (and_false (leb 1 (length w)) _ (passed ∙ rw (drop_here w i h, e) (and_false (one_of (get_or w i 0) set) false refl)))
-
-  pub some_next : i < length w → one_of (get_or w i 0) set ≡ true → one_of (get_or w i 0) (drop (i + 1) w) ≡ false
-      → letters_fit set w ≡ letters_fit set (drop (i + 1) w)
-  some_next h e f = passed ∙ rw (drop_here w i h, e, f)
-
-  pub some_all : i ≡ length w → ltb 0 i ≡ some_of set w
-  some_all e =
-      let h : length w ≤ i = omega arith in
-      let f : letters_fit set w ≡ true = passed ∙ rw (drop_end w i h) in
-      rw (e, f) (sym (and-true (leb 1 (length w))))
 
 -- KEYS BY THEIR LETTERS
 
@@ -91,10 +71,6 @@ first_letter [] h = absurd (omega arith)
 first_letter (b ∷ w) h = refl
 
 -- A STEP
-
--- a test that decides for a stage
-pub as_taken : {r : Stage} {b p : Bool} (stage : Stage) → r ≡ cond b stage Refused → b ≡ p → r ≡ cond p stage Refused
-as_taken stage e f = e ∙ ap (λ (x : Bool). cond x stage Refused) f
 
 module _ (stage : Stage) (w : Word) (o : ℕ) (end : o ≡ 0 + up_to 47 w) where
   at : o ≡ up_to 47 w
@@ -151,11 +127,6 @@ module _ (w : Word) (held : holds 47 w ≡ true) where
   no_further Refused = refl
 
 -- an oblique behind the first byte
-
-pub second_none : (w : Word) → length w < 2 → eqb (get_or w 1 0) 47 ≡ false
-second_none [] h = refl
-second_none (b ∷ []) h = refl
-second_none (b ∷ (c ∷ w)) h = absurd (omega arith)
 
 pub second_inside : (w : Word) → eqb (get_or w 1 0) 47 ≡ true → 1 < length w
 second_inside [] e = absurd (false≢true e)

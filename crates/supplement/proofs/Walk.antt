@@ -1,12 +1,13 @@
 -- Walking word by word comes out as the items do: whether a content fits is what the code's steps find. Assumes nothing.
-use Prim.Native.Nat.{ℕ, ◌+◌, ◌-◌, ◌<◌, ◌≤◌}
+use Prim.Native.Nat.{ℕ, ◌+◌, ◌-◌, ◌<◌}
 use mathlib.Core.Path.{◌≡◌, refl, ◌∙◌}
 use mathlib.Core.Bool.{Bool, true, false, cond, ◌&&◌, ◌||◌}
 use mathlib.Core.List.{List, [], ◌∷◌}
 use lib.ListN.{length, take, drop}
 use lib.Dec.{ltb}
+use Rattle.std.specs.List.{fold}
 use Rattle.text.specs.Words.{Word, split, holds, before, behind, all, null, same, up_to, text_word}
-use Rattle.text.proofs.Index.{split_at, after_here, after_end}
+use Rattle.text.proofs.Index.{split_at, after_here}
 use Rattle.shape.specs.Time.{elapsed_fits}
 use Rattle.supplement.specs.Field19.{Key, E, P, R, S, J, D, A, N, C, Other}
 use Rattle.supplement.specs.declared.Stage.{Stage}
@@ -235,13 +236,15 @@ pub walk_fits : (s : List ℕ) → walked Start (split 32 s) ≡ fits19 s
 unfolding fits19
 walk_fits s = walked_goes Start (split 32 s)
 
+-- word by word, as a fold
+pub walked_folded : (stage : Stage) (ws : List Word) → walked stage ws ≡ complete (fold step stage ws)
+walked_folded stage [] = refl
+walked_folded stage (w ∷ ws) = walked_folded (step stage w) ws
+
 -- word by word at an index, where the next word ends at e
 module _ (stage : Stage) (s : List ℕ) (at e : ℕ) (end : e ≡ at + up_to 32 (drop at s)) where
   abbrev word : Word
   word = take (e - at) (drop at s)
-
-  pub walked_last : length s ≤ e → walked stage (split 32 (drop at s)) ≡ complete (step stage word)
-  walked_last h = rw (split_at 32 s at e end, after_end 32 s e h)
 
   pub walked_next : e < length s → walked stage (split 32 (drop at s)) ≡ walked (step stage word) (split 32 (drop (e + 1) s))
   walked_next h = rw (split_at 32 s at e end, after_here 32 s e h)

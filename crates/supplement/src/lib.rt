@@ -26,6 +26,7 @@ pub enum Stage {
 }
 
 // The place of an item in their order, by its key's letter, from 1; 0 for any other byte.
+#[tactic(auto, unfolding(crate::specs::Field19::keyed))]
 pub fn place(key: u8) -> usize
     ensures { result ≡ place_of (by_letter key) }
 {
@@ -88,18 +89,17 @@ fn is_count(most: usize, w: &[u8]) -> bool
 pub fn is_some_of(set: &[u8], w: &[u8]) -> bool
     ensures { result ≡ some_of set.now w.now }
 {
-    let mut i = 0;
-    while i < w.len() {
-        let b = w[i];
-        i += 1;
-        if !shape::one_of(b, set) {
+    let mut rest = w;
+    while let [b, behind @ ..] = rest {
+        if !shape::one_of(*b, set) {
             return false;
         }
-        if shape::one_of(b, &w[i..]) {
+        if shape::one_of(*b, behind) {
             return false;
         }
+        rest = behind;
     }
-    0 < i
+    !w.is_empty()
 }
 
 // Whether w is a colour: two letters or more.
@@ -119,11 +119,14 @@ fn taken(fits: bool, then: Stage) -> Stage
     if fits { then } else { Stage::Refused }
 }
 
+// That the dinghies are covered.
+const COVER: &[u8] = b"C";
+
 // The cover, or a colour.
 fn shade(w: &[u8]) -> Stage
     ensures { result ≡ shaded w.now }
 {
-    if text::same_bytes(w, b"C") {
+    if w == COVER {
         return Stage::Colours;
     }
     taken(is_colour(w), Stage::Colours)
@@ -140,6 +143,7 @@ pub fn first_of_dinghies(w: &[u8]) -> Stage
 }
 
 // The first word of an item, behind its oblique.
+#[tactic(auto, unfolding(crate::specs::Field19::keyed))]
 fn first(key: u8, w: &[u8]) -> Stage
     ensures { result ≡ first_of (by_letter key) w.now }
 {
@@ -175,10 +179,7 @@ fn further(stage: Stage, w: &[u8]) -> Stage
 pub fn has_key(w: &[u8]) -> bool
     ensures { result ≡ eqb (get_or w.now 1 0) 47 }
 {
-    if w.len() < 2 {
-        return false;
-    }
-    w[1] == b'/'
+    matches!(w, [_, b'/', ..])
 }
 
 // A word: it begins an item where it holds an oblique, behind a key of one letter. An oblique elsewhere is in no word.
@@ -199,14 +200,8 @@ pub fn step(stage: Stage, w: &[u8]) -> Stage
 pub fn fits_field19(s: &[u8]) -> bool
     ensures { result ≡ fits19 s.now }
 {
-    let mut at = 0;
-    let mut stage = Stage::Start;
-    loop {
-        let e = text::find(s, at, b' ');
-        stage = step(stage, &s[at..e]);
-        if e == s.len() {
-            return complete(stage);
-        }
-        at = e + 1;
-    }
+    let stage = s
+        .split(|&b| b == b' ')
+        .fold(Stage::Start, |stage, w| step(stage, w));
+    complete(stage)
 }

@@ -1,34 +1,37 @@
 -- `aerodromes::alternates` meets its contract. Assumes nothing.
-use Prim.Native.Nat.{ℕ}
-use mathlib.Core.Path.{sym, ap, ◌∙◌}
-use lib.ListN.{drop}
-use Rattle.text.specs.Words.{split}
-use Rattle.aerodromes.specs.Field16.{few_aerodromes}
-use Rattle.aerodromes.proofs.Index.{few_none, few_stop, few_last, few_next}
-use borrow.Author.Rules.{rules}
-use native.Mathlib.Omega.{arith}
+use Rattle.std.proofs.Common.{rules}
+use mathlib.Core.Path.{ap, ◌∙◌}
+use mathlib.Core.List.{List}
+use lib.ListN.{length}
+use Rattle.std.specs.Prelude.{eqb}
+use borrow.Author.Tests.{tests, le-leb, lt-leb}
+use Rattle.std.proofs.lemmas.Iterator.Consumers.{count_from_yields_List}
+use Rattle.std.proofs.lemmas.Iterator.Search.{all_from_yields_List}
+use Rattle.std.proofs.lemmas.Iterator.Splits.{YieldsList-from_slice_split}
+use Rattle.text.specs.Words.{Word, all}
+use Rattle.text.proofs.Iterated.{all_listed, split_listed}
+use Rattle.aerodromes.specs.Aerodromes.{four_letters}
 use Rattle.aerodromes.proofs.alternates.Goals as goal
 
-pub returns-then-left-eq0 : goal.returns-then-left-eq0
-returns-then-left-eq0 c =
-    let l = c.loop-left in
+pub returns-then-count-gt-MOST_ALTERNATES : goal.returns-then-count-gt-MOST_ALTERNATES
+returns-then-count-gt-MOST_ALTERNATES c =
     let s = c.args.list.now in
-    sym (l.invariant.1 ∙ ap (λ (k : ℕ). few_aerodromes k (split 32 (drop l.at s))) c.if-left-eq0.true ∙ few_none s l.at)
+    let counted =
+    count_from_yields_List _ c.count.result c.count.ensures.ran
+    (YieldsList-from_slice_split _ (λ b. eqb b 32) s c.split.ensures.rest c.split.ensures.done c.split.ensures.closure (λ x b q k. search (rules, tests)))
+    ∙ ap (λ (ws : List Word). length ws) (split_listed 32 s) in
+    rw (← counted, lt-leb _ _ c.if-count-gt-MOST_ALTERNATES.true)
 
-pub returns-then-not-four_letters : goal.returns-then-not-four_letters
-returns-then-not-four_letters c =
-    let l = c.loop-left in
-    let four = sym c.four_letters.ensures ∙ c.if-not-four_letters.true in
-    sym (l.invariant.1 ∙ few_stop l.left c.args.list.now l.at _ c.find-e.ensures.value four)
-
-pub returns-then-e-list : goal.returns-then-e-list
-returns-then-e-list c =
-    let l = c.loop-left in
-    let four = sym c.four_letters.ensures ∙ c.if-not-four_letters.false in
-    sym (l.invariant.1 ∙ few_last l.left c.args.list.now l.at _ c.find-e.ensures.value (omega arith) four (omega arith))
-
-pub loop-left-preserved : goal.loop-left-preserved
-loop-left-preserved c =
-    let l = c.loop-left in
-    let four = sym c.four_letters.ensures ∙ c.if-not-four_letters.false in
-    (search rules, l.invariant.1 ∙ few_next l.left c.args.list.now l.at _ c.find-e.ensures.value (omega arith) four (omega arith))
+pub returns : goal.returns
+returns c =
+    let s = c.args.list.now in
+    let counted =
+    count_from_yields_List _ c.count.result c.count.ensures.ran
+    (YieldsList-from_slice_split _ (λ b. eqb b 32) s c.split.ensures.rest c.split.ensures.done c.split.ensures.closure (λ x b q k. search (rules, tests)))
+    ∙ ap (λ (ws : List Word). length ws) (split_listed 32 s) in
+    let again = c.split-2.ensures in
+    rw (← counted, le-leb _ 2 c.if-count-gt-MOST_ALTERNATES.false)
+    (all_from_yields_List four_letters _ _ _ c.all.ensures.ran
+    (YieldsList-from_slice_split _ (λ b. eqb b 32) s again.rest again.done again.closure (λ x b q k. search (rules, tests)))
+    (λ x b q k. search (rules, tests))
+    ∙ (all_listed four_letters _ ∙ ap (all four_letters) (split_listed 32 s)))

@@ -3,7 +3,6 @@ use Prim.Native.Nat.{ℕ, ◌+◌}
 use mathlib.Core.Path.{◌≡◌, sym, ap, ◌∙◌}
 use mathlib.Core.List.{List}
 use lib.ListN.{take}
-use lib.Seq.{length-take-le}
 use Rattle.text.specs.Words.{split}
 use Rattle.text.proofs.Index.{rest}
 use Rattle.shape.specs.Time.{elapsed_hours}
@@ -18,10 +17,6 @@ use Rattle.aerodromes.proofs.fits_field16_plan.Goals as goal
 tried : (c : After-is_elapsed) → c.is_elapsed.result ≡ joined elapsed_hours (take c.find-e.result c.args.s.now)
 tried c =
     by_elapsed _ c.at_elapsed.ensures c.is_elapsed.ensures
-
-pub slice_bounds-at_elapsed-end : goal.slice_bounds-at_elapsed-end
-slice_bounds-at_elapsed-end c =
-    sym (length-take-le _ _ c.find-e.ensures.lower_bound.1)
 
 pub returns-then-not-is_elapsed : goal.returns-then-not-is_elapsed
 returns-then-not-is_elapsed c =

@@ -4,7 +4,6 @@ use mathlib.Core.Path.{◌≡◌, sym, ap, ◌∙◌}
 use mathlib.Core.Bool.{true}
 use mathlib.Core.List.{List}
 use lib.ListN.{take}
-use lib.Seq.{length-take-le}
 use Rattle.text.specs.Words.{Word, all, same, split, text_word}
 use Rattle.text.proofs.Index.{rest}
 use Rattle.shape.specs.Time.{clock_hours}
@@ -13,50 +12,42 @@ use Rattle.aerodromes.specs.Aerodromes.{joined}
 use Rattle.aerodromes.specs.Field17.{unlisted}
 use Rattle.aerodromes.proofs.Index.{landed_stop, landed_other, landed_bare, landed_place_lem}
 use native.Mathlib.Omega.{arith}
-use Rattle.aerodromes.proofs.fits_field17.Goals.{After-is_time_of_day, After-same_bytes}
+use Rattle.aerodromes.proofs.fits_field17.Goals.{After-is_time_of_day, After-eq}
 use Rattle.aerodromes.proofs.fits_field17.Goals as goal
 
 tried : (c : After-is_time_of_day) → c.is_time_of_day.result ≡ joined clock_hours (take c.find-e.result c.args.s.now)
 tried c =
     by_clock _ c.at_clock.ensures c.is_time_of_day.ensures
 
-first : (c : After-same_bytes) → joined clock_hours (take c.find-e.result c.args.s.now) ≡ true
+first : (c : After-eq) → joined clock_hours (take c.find-e.result c.args.s.now) ≡ true
 first c =
     let tried : c.is_time_of_day.result ≡ joined clock_hours (take c.find-e.result c.args.s.now) = by_clock _ c.at_clock.ensures c.is_time_of_day.ensures in
     sym tried ∙ c.if-not-is_time_of_day.false
 
-compared : (c : After-same_bytes) → same (take 4 (take c.find-e.result c.args.s.now)) unlisted ≡ c.same_bytes.result
+compared : (c : After-eq) → same (take 4 (take c.find-e.result c.args.s.now)) unlisted ≡ c.eq.result
 unfolding unlisted
 compared c =
-    ap (λ (w : Word). same w unlisted) (sym c.aerodrome_of.ensures) ∙ sym c.same_bytes.ensures
-
-pub slice_bounds-at_clock-end : goal.slice_bounds-at_clock-end
-slice_bounds-at_clock-end c =
-    sym (length-take-le _ _ c.find-e.ensures.lower_bound.1)
+    ap (λ (w : Word). same w unlisted) (sym c.aerodrome_of.ensures) ∙ sym c.eq.ensures
 
 pub returns-then-not-is_time_of_day : goal.returns-then-not-is_time_of_day
 returns-then-not-is_time_of_day c =
     sym (landed_stop c.args.s.now c.find-e.result c.find-e.ensures.value (sym (tried (goal.at.returns-then-not-is_time_of_day c).After-is_time_of_day)
     ∙ c.if-not-is_time_of_day.true))
 
-pub slice_bounds-aerodrome_of-end : goal.slice_bounds-aerodrome_of-end
-slice_bounds-aerodrome_of-end c =
-    sym (length-take-le _ _ c.find-e.ensures.lower_bound.1)
-
-pub returns-then-not-same_bytes : goal.returns-then-not-same_bytes
-returns-then-not-same_bytes c =
-    let f = c.find-e in
-    sym (landed_other c.args.s.now c.find-e.result f.ensures.value f.ensures.lower_bound.1 (first (goal.at.returns-then-not-same_bytes c).After-same_bytes)
-    (compared (goal.at.returns-then-not-same_bytes c).After-same_bytes ∙ c.if-not-same_bytes.true))
-
 pub returns-then-e-s : goal.returns-then-e-s
 returns-then-e-s c =
-    sym (landed_bare c.args.s.now c.find-e.result c.find-e.ensures.value (first (goal.at.returns-then-e-s c).After-same_bytes)
-    (compared (goal.at.returns-then-e-s c).After-same_bytes ∙ c.if-not-same_bytes.false) (omega arith))
+    sym (landed_bare c.args.s.now c.find-e.result c.find-e.ensures.value (first (goal.at.returns-then-e-s c).After-eq)
+    (compared (goal.at.returns-then-e-s c).After-eq ∙ c.if-eq.true) (omega arith))
+
+pub returns-then-eq : goal.returns-then-eq
+returns-then-eq c =
+    c.text_words.ensures
+    ∙ ap (λ (t : List ℕ). all text_word (split 32 t)) (rest c.args.s.now (c.find-e.result + 1))
+    ∙ sym (landed_place_lem c.args.s.now c.find-e.result c.find-e.ensures.value (first (goal.at.returns-then-eq c).After-eq)
+    (compared (goal.at.returns-then-eq c).After-eq ∙ c.if-eq.true) (omega arith))
 
 pub returns : goal.returns
 returns c =
-    c.text_words.ensures
-    ∙ ap (λ (t : List ℕ). all text_word (split 32 t)) (rest c.args.s.now (c.find-e.result + 1))
-    ∙ sym (landed_place_lem c.args.s.now c.find-e.result c.find-e.ensures.value (first (goal.at.returns c).After-same_bytes)
-    (compared (goal.at.returns c).After-same_bytes ∙ c.if-not-same_bytes.false) (omega arith))
+    let f = c.find-e in
+    sym (landed_other c.args.s.now c.find-e.result f.ensures.value f.ensures.lower_bound.1 (first (goal.at.returns c).After-eq)
+    (compared (goal.at.returns c).After-eq ∙ c.if-eq.false))

@@ -44,14 +44,6 @@ pub bounds-w-0 : goal.bounds-w-0
 bounds-w-0 c =
     omega (arith, inside (goal.at.bounds-w-0 c).Else-not-has_key)
 
-pub slice_bounds-opened_as-count : goal.slice_bounds-opened_as-count
-slice_bounds-opened_as-count c =
-    omega (arith, inside (goal.at.slice_bounds-opened_as-count c).Else-not-has_key)
-
-pub slice_bounds-opened_as-start : goal.slice_bounds-opened_as-start
-slice_bounds-opened_as-start c =
-    omega (arith, inside (goal.at.slice_bounds-opened_as-start c).Else-not-has_key)
-
 pub opened_as-requires : goal.opened_as-requires
 opened_as-requires c =
     λ q. c.requires (opening (goal.at.opened_as-requires c).Else-not-has_key ∙ q)

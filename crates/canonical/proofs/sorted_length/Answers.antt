@@ -1,31 +1,18 @@
 -- `canonical::sorted_length` meets its contract. Assumes nothing.
-use Prim.Native.Nat.{ℕ}
+use Rattle.std.proofs.Common.{rules}
 use mathlib.Core.Path.{sym, ap, ◌∙◌}
-use mathlib.Core.List.{List}
-use native.Mathlib.Omega.{arith}
 use lib.ListN.{length}
-use Rattle.text.proofs.Index.{drop_end}
-use Rattle.canonical.specs.Canonical.{sorted}
-use Rattle.canonical.proofs.Steps.{sorted_take, sorted_skip}
+use borrow.Author.Tests.{tests}
+use Rattle.std.proofs.lemmas.Iterator.{YieldsList-from_slice}
+use Rattle.std.proofs.lemmas.Iterator.Consumers.{YieldsList-from_filter, count_from_yields_List}
+use Rattle.alphabet.specs.Alphabet.{one_of}
+use Rattle.canonical.proofs.Steps.{sorted_filtered}
 use Rattle.canonical.proofs.sorted_length.Goals as goal
-
-pub loop-i-preserved-then-one_of : goal.loop-i-preserved-then-one_of
-loop-i-preserved-then-one_of c =
-    let a = c.args in
-    let l = c.loop-i in
-    let t = sorted_take a.set.now a.w.now l.i c.loop-i-test.true (sym c.one_of.ensures ∙ c.if-one_of.true) in
-    (omega arith, omega arith, omega (arith, l.invariant.2, ap length t))
-
-pub loop-i-preserved : goal.loop-i-preserved
-loop-i-preserved c =
-    let a = c.args in
-    let l = c.loop-i in
-    let t = sorted_skip a.set.now a.w.now l.i c.loop-i-test.true (sym c.one_of.ensures ∙ c.if-one_of.false) in
-    (omega arith, omega arith, omega (arith, l.invariant.2, ap length t))
 
 pub returns : goal.returns
 returns c =
-    let a = c.args in
-    let l = c.loop-i in
-    let t = ap (λ (s : List ℕ). sorted s a.w.now) (drop_end a.set.now l.i c.loop-i-test.false) in
-    omega (arith, l.invariant.2, ap length t)
+    let s = c.args.set.now in
+    let w = c.args.w.now in
+    count_from_yields_List _ c.count.result c.count.ensures.ran
+    (YieldsList-from_filter _ (λ b. one_of b w) (YieldsList-from_slice s (search rules)) c.filter.ensures.closure (λ x b q k. search (rules, tests)))
+    ∙ sym (ap length (sorted_filtered s w))

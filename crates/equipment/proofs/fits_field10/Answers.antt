@@ -1,6 +1,5 @@
 -- `equipment::fits_field10` meets its contract. Assumes nothing.
 use mathlib.Core.Path.{sym, ◌∙◌}
-use lib.Seq.{length-take-le}
 use Rattle.text.proofs.Index.{rest}
 use Rattle.equipment.specs.Field10.{present}
 use Rattle.equipment.proofs.Laws.{no_oblique, at_oblique}
@@ -10,10 +9,6 @@ pub returns-then-o-s : goal.returns-then-o-s
 returns-then-o-s c =
     let f = c.find_far-o in
     sym (no_oblique present c.args.s.now f.result f.ensures.value c.if-o-s.true)
-
-pub slice_bounds-equipment_fits-end : goal.slice_bounds-equipment_fits-end
-slice_bounds-equipment_fits-end c =
-    sym (length-take-le _ _ c.find_far-o.ensures.lower_bound.1)
 
 pub returns-then-not-equipment_fits : goal.returns-then-not-equipment_fits
 returns-then-not-equipment_fits c =

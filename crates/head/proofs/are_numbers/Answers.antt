@@ -2,7 +2,6 @@
 use Prim.Native.Nat.{◌+◌, ◌≤◌, ◌<◌}
 use mathlib.Core.Path.{sym, ◌∙◌}
 use lib.ListN.{length}
-use lib.Seq.{length-take-le}
 use Rattle.text.proofs.Index.{rest}
 use Rattle.head.specs.Runs.{lead}
 use mathlib.Core.Bool.{false}
@@ -18,10 +17,6 @@ pub returns-then-w-e-le3 : goal.returns-then-w-e-le3
 returns-then-w-e-le3 c =
     let h : length c.args.w.now ≤ lead false c.args.w.now + 3 = omega (arith, c.run-e.ensures.0) in
     c.is_number.ensures ∙ sym (numbers_one c.args.w.now c.if-w-eq0.false h)
-
-pub slice_bounds-is_number-end : goal.slice_bounds-is_number-end
-slice_bounds-is_number-end c =
-    sym (length-take-le _ _ (omega arith))
 
 pub returns-then-not-is_number : goal.returns-then-not-is_number
 returns-then-not-is_number c =

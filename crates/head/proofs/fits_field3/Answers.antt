@@ -1,19 +1,13 @@
 -- `head::fits_field3` meets its contract. Assumes nothing.
 use mathlib.Core.Path.{sym, ◌∙◌}
-use lib.Seq.{length-take-le}
 use Rattle.text.proofs.Index.{rest}
 use Rattle.head.specs.Field3.{types}
 use Rattle.head.proofs.Laws.{type_not, type_is, no_type_content}
-use native.Mathlib.Omega.{arith}
 use Rattle.head.proofs.fits_field3.Goals as goal
 
 pub returns-then-s-lt3 : goal.returns-then-s-lt3
 returns-then-s-lt3 c =
     sym (no_type_content c.args.s.now c.if-s-lt3.true)
-
-pub slice_bounds-in_cells-end : goal.slice_bounds-in_cells-end
-slice_bounds-in_cells-end c =
-    sym (length-take-le 3 c.args.s.now (omega arith))
 
 pub returns-then-not-in_cells : goal.returns-then-not-in_cells
 unfolding types

@@ -1,6 +1,5 @@
 -- `head::fits_field7` meets its contract. Assumes nothing.
 use mathlib.Core.Path.{sym, ◌∙◌}
-use lib.Seq.{length-take-le}
 use Rattle.text.proofs.Index.{found, found_none, found_before, found_behind, rest}
 use Rattle.head.specs.Field7.{fits7}
 use Rattle.head.proofs.fits_field7.Goals as goal
@@ -9,10 +8,6 @@ pub returns-then-o-s : goal.returns-then-o-s
 unfolding fits7
 returns-then-o-s c =
     rw (found_none 47 c.args.s.now _ c.find-o.ensures.value c.if-o-s.true) c.is_identification.ensures
-
-pub slice_bounds-is_identification-end : goal.slice_bounds-is_identification-end
-slice_bounds-is_identification-end c =
-    sym (length-take-le _ _ c.find-o.ensures.lower_bound.1)
 
 pub returns-then-not-is_identification : goal.returns-then-not-is_identification
 unfolding fits7

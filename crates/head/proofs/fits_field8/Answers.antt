@@ -1,21 +1,25 @@
 -- `head::fits_field8` meets its contract. Assumes nothing.
 use mathlib.Core.Path.{sym, ◌∙◌}
+use native.Mathlib.Omega.{arith}
 use Rattle.head.proofs.Laws.{rules_one, rules_two, rules_other}
 use Rattle.head.proofs.fits_field8.Goals as goal
 
-pub returns-then-s-eq1 : goal.returns-then-s-eq1
-returns-then-s-eq1 c =
-    c.one_of.ensures ∙ sym (rules_one _ c.if-s-eq1.true)
+pub returns-in-len1 : goal.returns-in-len1
+returns-in-len1 c =
+    c.is_rules.ensures ∙ sym (rules_one c.args.s.now (omega arith))
 
-pub returns-then-s-ne2 : goal.returns-then-s-ne2
-returns-then-s-ne2 c =
-    sym (rules_other c.args.s.now c.if-s-eq1.false c.if-s-ne2.true)
+pub returns-then-is_rules : goal.returns-then-is_rules
+returns-then-is_rules c =
+    rw (rules_two c.args.s.now (omega arith), sym c.is_rules-in-len2.ensures ∙ c.if-is_rules.true) c.one_of.ensures
 
-pub returns-then-not-one_of : goal.returns-then-not-one_of
-returns-then-not-one_of c =
-    rw (rules_two c.args.s.now c.if-s-ne2.false, sym c.one_of-2.ensures ∙ c.if-not-one_of.true)
+pub returns-else-is_rules : goal.returns-else-is_rules
+returns-else-is_rules c =
+    rw (rules_two c.args.s.now (omega arith), sym c.is_rules-in-len2.ensures ∙ c.if-is_rules.false) c.if-is_rules.false
 
-pub returns : goal.returns
-returns c =
-    rw (rules_two c.args.s.now c.if-s-ne2.false, sym c.one_of-2.ensures ∙ c.if-not-one_of.false)
-    c.one_of-3.ensures
+pub returns-in_default : goal.returns-in_default
+returns-in_default c =
+    sym (rules_other c.args.s.now (λ e. omega arith) (λ e. omega arith))
+
+pub returns-in_default-2 : goal.returns-in_default-2
+returns-in_default-2 c =
+    sym (rules_other c.args.s.now (λ e. omega arith) (λ e. omega arith))

@@ -1,6 +1,5 @@
 -- `head::is_aircraft` meets its contract. Assumes nothing.
 use mathlib.Core.Path.{sym, ◌∙◌}
-use lib.Seq.{length-take-le}
 use Rattle.text.proofs.Index.{found, found_none, found_before, found_behind, rest}
 use Rattle.head.specs.Field9.{aircraft_fits}
 use Rattle.head.proofs.is_aircraft.Goals as goal
@@ -9,10 +8,6 @@ pub returns-then-o-t : goal.returns-then-o-t
 unfolding aircraft_fits
 returns-then-o-t c =
     let a = c.args in rw (found_none 47 a.t.now _ c.find-o.ensures.value c.if-o-t.true)
-
-pub slice_bounds-is_type-end : goal.slice_bounds-is_type-end
-slice_bounds-is_type-end c =
-    sym (length-take-le _ _ c.find-o.ensures.lower_bound.1)
 
 pub returns-then-not-is_type : goal.returns-then-not-is_type
 unfolding aircraft_fits

@@ -1,6 +1,5 @@
 -- `head::is_number` meets its contract. Assumes nothing.
 use mathlib.Core.Path.{sym, ◌∙◌}
-use lib.Seq.{length-take-le}
 use Rattle.text.proofs.Index.{found, found_none, found_before, found_behind, rest}
 use Rattle.head.specs.Field3.{number_fits}
 use Rattle.head.proofs.is_number.Goals as goal
@@ -9,10 +8,6 @@ pub returns-then-o-w : goal.returns-then-o-w
 unfolding number_fits
 returns-then-o-w c =
     let a = c.args in rw (found_none 47 a.w.now _ c.find-o.ensures.value c.if-o-w.true)
-
-pub slice_bounds-is_unit-end : goal.slice_bounds-is_unit-end
-slice_bounds-is_unit-end c =
-    sym (length-take-le _ _ c.find-o.ensures.lower_bound.1)
 
 pub returns-then-not-is_unit : goal.returns-then-not-is_unit
 unfolding number_fits

@@ -1,27 +1,22 @@
 -- `supplement::fits_field19` meets its contract. Assumes nothing.
-use Prim.Native.Nat.{◌+◌}
+use Rattle.std.proofs.Common.{rules}
 use mathlib.Core.Path.{sym, ap, ◌∙◌}
-use native.Mathlib.Omega.{arith}
-use lib.ListN.{drop}
-use Rattle.text.specs.Words.{split}
-use Rattle.supplement.specs.declared.Stage.{Stage}
-use Rattle.supplement.specs.Walk.{walked, complete as complete_at}
-use Rattle.supplement.proofs.Walk.{walk_fits, walked_last, walked_next}
-use borrow.Author.Rules.{rules}
+use Rattle.std.specs.Prelude.{eqb}
+use Rattle.std.specs.List.{slice_split}
+use borrow.Author.Tests.{tests}
+use Rattle.std.proofs.lemmas.Iterator.Consumers.{fold_from_yields_List}
+use Rattle.std.proofs.lemmas.Iterator.Splits.{YieldsList-from_slice_split}
+use Rattle.text.proofs.Iterated.{split_listed}
+use Rattle.supplement.specs.declared.Stage.TheVariants.{Start}
+use Rattle.supplement.specs.Walk.{complete as complete_at, step, walked}
+use Rattle.supplement.proofs.Walk.{walk_fits, walked_folded}
 use Rattle.supplement.proofs.fits_field19.Goals as goal
 
-pub returns-then-e-s : goal.returns-then-e-s
-returns-then-e-s c =
+pub returns : goal.returns
+returns c =
     let s = c.args.s.now in
-    let l = c.loop-stage in
-    let e = c.find-e in
-    let t = walked_last l.stage s l.at e.result e.ensures.value (omega arith) in
-    c.complete.ensures ∙ ap complete_at c.step-stage.ensures ∙ sym (sym (walk_fits s) ∙ l.invariant.1 ∙ t)
-
-pub loop-stage-preserved : goal.loop-stage-preserved
-loop-stage-preserved c =
-    let s = c.args.s.now in
-    let l = c.loop-stage in
-    let e = c.find-e in
-    let t = walked_next l.stage s l.at e.result e.ensures.value (omega arith) in
-    (search rules, l.invariant.1 ∙ t ∙ sym (ap (λ (x : Stage). walked x (split 32 (drop (e.result + 1) s))) c.step-stage.ensures))
+    let folded =
+    fold_from_yields_List _ step Start c.fold-stage.result c.fold-stage.ensures.ran
+    (YieldsList-from_slice_split _ (λ b. eqb b 32) s c.split.ensures.rest c.split.ensures.done c.split.ensures.closure (λ x b q k. search (rules, tests)))
+    (λ a x b q k. search (rules, tests)) in
+    c.complete.ensures ∙ (ap complete_at folded ∙ sym (walked_folded Start (slice_split (λ b. eqb b 32) s))) ∙ (ap (walked Start) (split_listed 32 s) ∙ walk_fits s)

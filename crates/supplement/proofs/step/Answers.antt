@@ -35,14 +35,6 @@ returns-then-place-past c =
     (step_late c.args.stage c.args.w.now (second (goal.at.returns-then-place-past c).Else-not-has_key)
     (omega (arith, c.if-place-past.true, c.place.ensures, c.past.ensures)))
 
-pub slice_bounds-first-count : goal.slice_bounds-first-count
-slice_bounds-first-count c =
-    omega (arith, inside (goal.at.slice_bounds-first-count c).Else-not-has_key)
-
-pub slice_bounds-first-start : goal.slice_bounds-first-start
-slice_bounds-first-start c =
-    omega (arith, inside (goal.at.slice_bounds-first-start c).Else-not-has_key)
-
 pub returns : goal.returns
 returns c =
     c.first.ensures ∙ ap (first_of (by_letter (get_or c.args.w.now 0 0))) (rest c.args.w.now 2)
