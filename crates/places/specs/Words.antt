@@ -10,6 +10,10 @@ pub record Words : Type 1 where
   pub final : K → Bool
   pub goes : K → Bool
 
+-- one by its parts
+abbrev pub form : (K : Type 0) → (K → Word → Option K) → (final goes : K → Bool) → Words
+form K after final goes = record { K = K; after = after; final = final; goes = goes }
+
 abbrev pub ended : {A : Type 0} → Option A → Bool
 ended None = false
 ended (Some k) = true

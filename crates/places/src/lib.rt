@@ -1,10 +1,11 @@
 // The place of a content that does not fit: the parts that the forms share.
 #![tactic(auto)]
 
-ghost use Rattle.std.specs.Prelude.{◌≡◌, ◌≤◌, ℕ, Bool, [], length};
+ghost use Rattle.std.specs.Prelude.{◌≡◌, ◌≤◌, ℕ, Bool, Option, [], length};
 ghost use Rattle.text.specs.Words.{Word, leading, split};
 ghost use Rattle.text.specs.Kinds.{of_kind};
-ghost use Rattle.places.specs.Parts.{run_place, along_by, along, largest, passes, between, two_digits, tens, units, time_place};
+ghost use Rattle.places.specs.Parts.{run_place, along_by, along, largest, passes, cut_place, between, two_digits, tens, units, time_place};
+ghost use Rattle.places.specs.Words.{form, words_place};
 
 use text::Kind;
 
@@ -58,6 +59,64 @@ pub fn along_shape(t: &[u8], w: &[u8]) -> usize
     ensures { result ≡ along t.now w.now }
 {
     along(t, w, |a, b| shape::fits(&[a], &[b]))
+}
+
+// The place in what is cut at the first c, which belongs to neither part: behind it where the part before it fits, and else in that part.
+pub fn cut_place<F: Fn(&[u8]) -> bool, B: Fn(&[u8]) -> usize, H: Fn(&[u8]) -> usize>(
+    c: u8,
+    fits: F,
+    before: B,
+    behind: H,
+    s: &[u8],
+) -> usize
+    requires callable { F.IsAlwaysCallable fits × B.IsAlwaysCallable before × H.IsAlwaysCallable behind }
+    requires within { (w : _) (r : ℕ) → H.post behind w r → r ≤ length w.now }
+    ensures { (f : Word → Bool) (pf pg : Word → ℕ)
+        → ((w : _) (r : Bool) → F.post fits w r → r ≡ f w.now)
+        → ((w : _) (r : ℕ) → B.post before w r → r ≡ pf w.now)
+        → ((w : _) (r : ℕ) → H.post behind w r → r ≡ pg w.now)
+        → result ≡ cut_place c f pf pg s.now }
+{
+    let o = text::find(s, 0, c);
+    if o < s.len() && fits(&s[..o]) {
+        return o + 1 + behind(&s[o + 1..]);
+    }
+    before(&s[..o])
+}
+
+// The place in words with one space between them, where something is known behind some words: `after` says what is known behind one word more, if it may stand
+// there, `goes` whether a further word may follow, and `place` where a word goes wrong.
+pub fn words_place<
+    K: Copy,
+    A: Fn(K, &[u8]) -> Option<K>,
+    G: Fn(K) -> bool,
+    P: Fn(K, &[u8]) -> usize,
+>(start: K, after: A, goes: G, place: P, s: &[u8]) -> usize
+    requires callable { A.IsAlwaysCallable after × G.IsAlwaysCallable goes × P.IsAlwaysCallable place }
+    requires within { (k : K) (w : _) (r : ℕ) → P.post place k w r → r ≤ length w.now }
+    ensures { (a : K → Word → Option K) (f g : K → Bool) (p : K → Word → ℕ)
+        → ((k : K) (w : _) (r : Option K) → A.post after k w r → r ≡ a k w.now)
+        → ((k : K) (r : Bool) → G.post goes k r → r ≡ g k)
+        → ((k : K) (w : _) (r : ℕ) → P.post place k w r → r ≡ p k w.now)
+        → result ≡ words_place (form K a f g) p start (split 32 s.now) }
+{
+    let mut at = 0;
+    let mut known = start;
+    loop {
+        let e = text::find(s, at, b' ');
+        let w = &s[at..e];
+        if e == s.len() {
+            return at + place(known, w);
+        }
+        match after(known, w) {
+            None => return at + place(known, w),
+            Some(next) => known = next,
+        }
+        if !goes(known) {
+            return e;
+        }
+        at = e + 1;
+    }
 }
 
 fn between(lo: u8, hi: u8, b: u8) -> bool
