@@ -1,19 +1,17 @@
 -- The places of codes at an index, for the code. Assumes nothing.
 use Prim.Native.Nat.{ℕ, suc, ◌+◌, ◌<◌, ◌≤◌}
 use mathlib.Core.Path.{◌≡◌, refl, ap}
-use mathlib.Core.Bool.{Bool, true, false, ◌&&◌}
+use mathlib.Core.Bool.{false, ◌&&◌}
 use mathlib.Core.List.{List, [], ◌∷◌, ◌++◌}
 use native.Mathlib.Omega.{arith}
 use lib.Dec.{leb}
-use lib.ListN.{length, take, drop, get_or, set, length-append}
+use lib.ListN.{length, take, drop, set, length-append}
 use borrow.Author.Tests.{lt-leb}
-use Rattle.alphabet.specs.Text.{bytes}
 use Rattle.text.specs.Words.{Word}
 use Rattle.text.specs.Lent.{front as put}
-use Rattle.text.proofs.Index.{drop_here, drop_end}
 use Rattle.text.proofs.Tests.{and_false}
 use Rattle.codes.specs.Codes.{codes, codes_fit}
-use Rattle.code_places.specs.Codes.{some_codes, with_digit, goes_on}
+use Rattle.code_places.specs.Codes.{some_codes}
 
 module _ (list : List Word) (most : ℕ) where
   -- where there is no room for a byte more
@@ -23,31 +21,6 @@ module _ (list : List Word) (most : ℕ) where
       let n : length s ≡ length p + 1 = length-append p (d ∷ []) in
       let m : most < length s = omega arith in
       and_false (leb 1 (length s)) (leb (length s) most && codes_fit list (codes s)) (rw (lt-leb (length s) most m))
-
-  pub go_none : (p : List ℕ) → length p ≡ 0 → true ≡ goes_on list most p
-  go_none [] h = refl
-  go_none (b ∷ p) h = absurd (omega arith)
-
-  pub go_fits : (p : List ℕ) → some_codes list most p ≡ true → true ≡ goes_on list most p
-  go_fits [] e = refl
-  go_fits (b ∷ p) e = rw e
-
-  pub go_digit : (p : List ℕ) → (length p ≡ 0 → ⊥) → some_codes list most p ≡ false
-      → with_digit (some_codes list most) p (bytes "0123456789") ≡ goes_on list most p
-  go_digit [] h e = absurd (h refl)
-  go_digit (b ∷ p) h e = rw e
-
--- DIGITS
-
-module _ (f : List ℕ → Bool) (p ds : List ℕ) (i : ℕ) where
-  pub digit_here : i < length ds → f (p ++ (get_or ds i 0 ∷ [])) ≡ true → with_digit f p (drop i ds) ≡ true
-  digit_here h e = rw (drop_here ds i h, e)
-
-  pub digit_next : i < length ds → f (p ++ (get_or ds i 0 ∷ [])) ≡ false → with_digit f p (drop i ds) ≡ with_digit f p (drop (i + 1) ds)
-  digit_next h e = rw (drop_here ds i h, e)
-
-  pub digit_end : length ds ≤ i → with_digit f p (drop i ds) ≡ false
-  digit_end h = rw (drop_end ds i h)
 
 -- what a list holds with w written to its front, and one byte behind it
 one_behind : (w out : List ℕ) (d : ℕ) → length w < length out → take (length w + 1) (set (w ++ drop (length w) out) (length w) d) ≡ w ++ (d ∷ [])

@@ -1,6 +1,7 @@
 -- The place of codes joined without spaces, as in field 10 and under PBN. A digit belongs to the byte before it, so some bytes can go on where
 -- they fit, or fit with one digit more. Assumes nothing.
-use Rattle.std.specs.Prelude.{ℕ, ◌≡◌, refl, Bool, false, ◌&&◌, ◌||◌, List, [], ◌∷◌, ◌++◌, leb, length}
+use Rattle.std.specs.Prelude.{ℕ, ◌≡◌, refl, Bool, ◌&&◌, ◌||◌, List, [], ◌∷◌, ◌++◌, leb, length}
+use Rattle.std.specs.List.{list_any}
 use Rattle.alphabet.specs.Text.{bytes}
 use Rattle.text.specs.Words.{Word, null, split}
 use Rattle.codes.specs.Codes.{codes, codes_fit}
@@ -12,8 +13,7 @@ some_codes list most s = leb 1 (length s) && (leb (length s) most && codes_fit l
 
 -- whether some bytes fit with one of these digits behind them
 abbrev pub with_digit : (List ℕ → Bool) → List ℕ → List ℕ → Bool
-with_digit f p [] = false
-with_digit f p (d ∷ ds) = f (p ++ (d ∷ [])) || with_digit f p ds
+with_digit f p ds = list_any (λ d. f (p ++ (d ∷ []))) ds
 
 -- there are none so far, or they fit, or they fit with one digit more
 abbrev pub goes_on : List Word → ℕ → List ℕ → Bool

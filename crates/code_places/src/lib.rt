@@ -11,13 +11,7 @@ fn some_codes(first: &[u8; 26], list: &[u8], most: u8, s: &[u8]) -> bool
     requires { is_index first.now (cells 2 list.now) ≡ true }
     ensures { result ≡ some_codes (cells 2 list.now) most s.now }
 {
-    if s.len() < 1 {
-        return false;
-    }
-    if (most as usize) < s.len() {
-        return false;
-    }
-    codes::codes_fit_by(first, list, s)
+    (1..=most as usize).contains(&s.len()) && codes::codes_fit_by(first, list, s)
 }
 
 // Whether they fit with one byte more.
@@ -39,14 +33,7 @@ fn with_digit(first: &[u8; 26], list: &[u8], most: u8, p: &[u8], ds: &[u8]) -> b
     requires { is_index first.now (cells 2 list.now) ≡ true }
     ensures { result ≡ with_digit (some_codes (cells 2 list.now) most) p.now ds.now }
 {
-    let mut i = 0;
-    while i < ds.len() {
-        if with_byte(first, list, most, p, ds[i]) {
-            return true;
-        }
-        i += 1;
-    }
-    false
+    ds.iter().any(|&d| with_byte(first, list, most, p, d))
 }
 
 // Whether some bytes can go on as codes.
@@ -54,27 +41,16 @@ fn goes_on(first: &[u8; 26], list: &[u8], most: u8, p: &[u8]) -> bool
     requires { is_index first.now (cells 2 list.now) ≡ true }
     ensures { result ≡ goes_on (cells 2 list.now) most p.now }
 {
-    if p.len() == 0 {
-        return true;
-    }
-    if some_codes(first, list, most, p) {
-        return true;
-    }
-    with_digit(first, list, most, p, b"0123456789")
+    p.is_empty()
+        || some_codes(first, list, most, p)
+        || with_digit(first, list, most, p, b"0123456789")
 }
 
 // The place of codes that do not fit, whatever the bytes and however many. `first` is the list's index.
+#[tactic(auto, unfolding(crate::specs::Codes::codes_place))]
 pub fn codes_place_by(first: &[u8; 26], list: &[u8], most: u8, s: &[u8]) -> usize
     requires { is_index first.now (cells 2 list.now) ≡ true }
     ensures { result ≡ codes_place (cells 2 list.now) most s.now }
 {
-    let mut i = 0;
-    while i < s.len() {
-        let e = i + 1;
-        if !goes_on(first, list, most, &s[..e]) {
-            return i;
-        }
-        i = e;
-    }
-    i
+    places::passes(s, |p| goes_on(first, list, most, p))
 }

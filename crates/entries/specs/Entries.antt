@@ -1,8 +1,8 @@
 -- One of some labels, an oblique, and a content whose form goes by the label: an entry of field 22, an item of field 18. Assumes nothing.
-use Rattle.std.specs.Prelude.{ℕ, suc, ◌≡◌, refl, Bool, false, ◌&&◌, ◌||◌, cond, List, [], ◌∷◌, eqb}
+use Rattle.std.specs.Prelude.{ℕ, ◌≡◌, refl, Bool, false, ◌&&◌, ◌||◌, List, [], ◌∷◌, eqb}
 use Rattle.alphabet.specs.Text.{bytes}
 use Rattle.text.specs.Words.{Word, holds, before, behind, same, null}
-use Rattle.places.specs.Parts.{larger, no_more, cut_place}
+use Rattle.places.specs.Parts.{larger, no_more, cut_place, along_by, largest}
 
 -- a label, which contents may stand behind it, and the place of one that may not
 pub record Entry : Type 0 where
@@ -19,14 +19,11 @@ any_entry (e ∷ es) s = entry_fits e s || any_entry es s
 
 -- how far the bytes follow a label
 abbrev pub matched : Word → List ℕ → ℕ
-matched [] s = 0
-matched (x ∷ l) [] = 0
-matched (x ∷ l) (b ∷ s) = cond (eqb x b) (suc (matched l s)) 0
+matched l s = along_by eqb l s
 
 -- one of some words: how far the bytes follow the one that they follow farthest
 abbrev pub any_of : List Word → List ℕ → ℕ
-any_of [] s = 0
-any_of (v ∷ vs) s = larger (matched v s) (any_of vs s)
+any_of vs s = largest (λ v. matched v s) vs
 
 abbrev pub entry_place : Entry → List ℕ → ℕ
 entry_place e s = cut_place 47 (same e.label) (matched e.label) e.place s

@@ -9,31 +9,12 @@ ghost use Rattle.entries.specs.Entries.{matched, any_of};
 pub fn matched_of(l: &[u8], s: &[u8]) -> usize
     ensures { result ≡ matched l.now s.now }
 {
-    let mut i = 0;
-    while i < l.len() {
-        if i == s.len() {
-            return i;
-        }
-        if l[i] != s[i] {
-            return i;
-        }
-        i += 1;
-    }
-    i
+    places::along(l, s, |a, b| a == b)
 }
 
 // How far the bytes follow the word, of a list with one space between them, that they follow farthest.
 pub fn any_of(list: &[u8], s: &[u8]) -> usize
     ensures { result ≡ any_of (split 32 list.now) s.now }
 {
-    let mut at = 0;
-    let mut best = 0;
-    loop {
-        let e = text::find(list, at, b' ');
-        best = places::larger_of(best, matched_of(&list[at..e], s));
-        if e == list.len() {
-            return best;
-        }
-        at = e + 1;
-    }
+    places::largest(list, |v| matched_of(v, s))
 }

@@ -26,7 +26,7 @@ use Rattle.entries.proofs.Labels.{labels_place}
 use Rattle.head.specs.Runs.{lead}
 use Rattle.head.specs.Field3.{types, unit, first, others, serial, receiver, number_fits, numbers_fit, fits3}
 use Rattle.head_places.specs.Places.{unit_then, oblique_then, number_then, numbers_place, place3}
-use Rattle.head.proofs.Laws.{within, lead_seam, letter_no_digit}
+use Rattle.head.proofs.Laws.{lead_seam, letter_no_digit}
 use Rattle.head.proofs.Field3.{unit_of, number_of_lem}
 
 -- A NUMBER, and what may follow it

@@ -1,5 +1,5 @@
 -- The place of a content of field 3, 7, 8 or 9 that does not fit (document 02, request 4). Assumes nothing.
-use Rattle.std.specs.Prelude.{ℕ, ◌+◌, ◌≡◌, refl, Bool, cond, List, eqb, take, drop}
+use Rattle.std.specs.Prelude.{ℕ, ◌+◌, ◌≤◌, ◌≡◌, refl, cond, List, eqb, length, take, drop, Result, Ok, Err}
 use Rattle.alphabet.specs.Text.{bytes}
 use Rattle.alphabet.specs.Alphabet.{letter, digit, sign}
 use Rattle.text.specs.Words.{Word, elem}
@@ -29,8 +29,9 @@ abbrev pub numbers_place : Word → ℕ
 numbers_place w = number_then (number_then no_more) w
 
 -- whatever follows: its place is counted from `at`, or, where the bytes do not go on, is `at`
-abbrev pub Reaches : ((List ℕ → ℕ) → Word → ℕ) → Word → ℕ → Bool → Type 0
-Reaches f w at on = (pg : List ℕ → ℕ) → f pg w ≡ cond on (at + pg (drop at w)) at
+abbrev pub Reaches : ((List ℕ → ℕ) → Word → ℕ) → Word → Result ℕ ℕ → Type 0
+Reaches f w (Ok at) = (at ≤ length w) × ((pg : List ℕ → ℕ) → f pg w ≡ at + pg (drop at w))
+Reaches f w (Err at) = (at ≤ length w) × ((pg : List ℕ → ℕ) → f pg w ≡ at)
 
 unfoldable pub place3 : List ℕ → ℕ
 place3 s = cond (elem (take 3 s) types) (3 + numbers_place (drop 3 s)) (any_of types s)

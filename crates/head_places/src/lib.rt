@@ -11,53 +11,31 @@ use text::Kind;
 // The standard types.
 pub const TYPES: [u8; 63] = *b"FPL CHG CNL DLA DEP ARR RQP RQS SPL ALR RCF CPL EST CDN ACP LAM";
 
-// How far some bytes go: to where what follows them begins, or, not on, to where they are stuck.
-#[derive(Clone, Copy)]
-struct Reach {
-    at: usize,
-    on: bool,
-}
-
-// Of 1 to 4 letters.
-fn past_unit(w: &[u8]) -> Reach
-    ensures { (result.at ≤ length w.now) × Reaches unit_then w.now result.at result.on }
+// How far 1 to 4 letters go: Ok to where what follows them begins, or Err to where they are stuck.
+fn past_unit(w: &[u8]) -> Result<usize, usize>
+    ensures { Reaches unit_then w.now result }
 {
     let n = places::front_of(Kind::Letter, w);
-    let stuck = places::run_place(4, Kind::Letter, &w[..n]);
-    if n == w.len() {
-        return Reach {
-            at: stuck,
-            on: false,
-        };
+    if n < w.len() && head::is_unit(&w[..n]) {
+        return Ok(n);
     }
-    if !head::is_unit(&w[..n]) {
-        return Reach {
-            at: stuck,
-            on: false,
-        };
-    }
-    Reach { at: n, on: true }
+    Err(places::run_place(4, Kind::Letter, &w[..n]))
 }
 
-// Of a number, to its digits.
-fn to_digits(w: &[u8]) -> Reach
-    ensures { (result.at ≤ length w.now) × Reaches to_digits w.now result.at result.on }
+// The same of a number, to its digits.
+fn to_digits(w: &[u8]) -> Result<usize, usize>
+    ensures { Reaches to_digits w.now result }
 {
-    let first = past_unit(w);
-    let n = first.at;
-    if !first.on {
-        return Reach { at: n, on: false };
-    }
+    let n = past_unit(w)?;
     if n == w.len() {
-        return Reach { at: n, on: false };
+        return Err(n);
     }
     if w[n] != b'/' {
-        return Reach { at: n, on: false };
+        return Err(n);
     }
-    let second = past_unit(&w[n + 1..]);
-    Reach {
-        at: n + 1 + second.at,
-        on: second.on,
+    match past_unit(&w[n + 1..]) {
+        Ok(m) => Ok(n + 1 + m),
+        Err(m) => Err(n + 1 + m),
     }
 }
 
@@ -65,23 +43,20 @@ fn to_digits(w: &[u8]) -> Reach
 fn place_number(w: &[u8]) -> usize
     ensures { result ≡ number_then no_more w.now }
 {
-    let letters = to_digits(w);
-    let n = letters.at;
-    if !letters.on {
-        return n;
+    match to_digits(w) {
+        Ok(n) => n + places::run_place(3, Kind::Digit, &w[n..]),
+        Err(n) => n,
     }
-    n + places::run_place(3, Kind::Digit, &w[n..])
 }
 
 // The place of a number that another may follow.
 fn place_numbers(w: &[u8]) -> usize
     ensures { result ≡ numbers_place w.now }
 {
-    let letters = to_digits(w);
-    let n = letters.at;
-    if !letters.on {
-        return n;
-    }
+    let n = match to_digits(w) {
+        Ok(n) => n,
+        Err(n) => return n,
+    };
     let digits = places::front_of(Kind::Digit, &w[n..]);
     if digits < 3 {
         return n + digits;
@@ -103,73 +78,54 @@ pub fn place_field3(s: &[u8]) -> usize
 }
 
 // The place of a content of field 7 that does not fit.
+
 pub fn place_field7(s: &[u8]) -> usize
     ensures { result ≡ place7 s.now }
 {
-    let o = text::find(s, 0, b'/');
-    if o == s.len() {
-        return places::run_place(7, Kind::Sign, &s[..o]);
-    }
-    if !head::is_identification(&s[..o]) {
-        return places::run_place(7, Kind::Sign, &s[..o]);
-    }
-    o + 1 + places::along_shape(b"Aoooo", &s[o + 1..])
+    places::cut_place(
+        b'/',
+        head::is_identification,
+        |w| places::run_place(7, Kind::Sign, w),
+        |w| places::along_shape(b"Aoooo", w),
+        s,
+    )
 }
 
 // The place of a content of field 8 that does not fit.
+#[tactic(auto, unfolding(crate::specs::Places::place8))]
 pub fn place_field8(s: &[u8]) -> usize
     ensures { result ≡ place8 s.now }
 {
-    if s.len() == 0 {
-        return 0;
+    match s {
+        [a, b, ..] if shape::one_of(*a, b"IVYZ") && shape::one_of(*b, b"SNGMX") => 2,
+        [a, ..] if shape::one_of(*a, b"IVYZ") => 1,
+        _ => 0,
     }
-    if !shape::one_of(s[0], b"IVYZ") {
-        return 0;
-    }
-    if s.len() == 1 {
-        return 1;
-    }
-    if !shape::one_of(s[1], b"SNGMX") {
-        return 1;
-    }
-    2
 }
 
 fn place_type(w: &[u8]) -> usize
     ensures { result ≡ type_place w.now }
 {
-    if w.len() == 0 {
-        return 0;
+    match w {
+        [a, rest @ ..] if alphabet::is_letter(*a) => 1 + places::run_place(3, Kind::Sign, rest),
+        _ => 0,
     }
-    if !alphabet::is_letter(w[0]) {
-        return 0;
-    }
-    1 + places::run_place(3, Kind::Sign, &w[1..])
 }
 
 fn place_wake(w: &[u8]) -> usize
     ensures { result ≡ wake_place w.now }
 {
-    if w.len() == 0 {
-        return 0;
+    match w {
+        [b'H' | b'M' | b'L', ..] => 1,
+        _ => 0,
     }
-    if !shape::one_of(w[0], b"HML") {
-        return 0;
-    }
-    1
 }
 
+#[tactic(auto, unfolding(crate::specs::Places::aircraft_place))]
 fn place_aircraft(t: &[u8]) -> usize
     ensures { result ≡ aircraft_place t.now }
 {
-    let o = text::find(t, 0, b'/');
-    if o == t.len() {
-        return place_type(&t[..o]);
-    }
-    if !head::is_type(&t[..o]) {
-        return place_type(&t[..o]);
-    }
-    o + 1 + place_wake(&t[o + 1..])
+    places::cut_place(b'/', head::is_type, place_type, place_wake, t)
 }
 
 // The place of a content of field 9 that does not fit.

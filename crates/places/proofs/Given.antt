@@ -2,7 +2,7 @@
 use Prim.Native.Nat.{ℕ}
 use mathlib.Core.Path.{◌≡◌, refl, sym, ap}
 use mathlib.Core.Bool.{Bool, true, false, ◌||◌, cond, false≢true}
-use mathlib.Core.Option.{Option, none, some}
+use Rattle.std.specs.Prelude.{Option, Some, None}
 use mathlib.Core.List.{List}
 use Rattle.places.specs.Place.{IsPlace}
 use Rattle.places.specs.Words.{ended}
@@ -22,7 +22,7 @@ pub given_ended : {A : Type 0} (b : Bool) (k : A) → ended (given b k) ≡ b
 given_ended true k = refl
 given_ended false k = refl
 
-pub given_some : {A : Type 0} (b : Bool) (k j : A) → given b k ≡ some j → (b ≡ true) × (k ≡ j)
+pub given_some : {A : Type 0} (b : Bool) (k j : A) → given b k ≡ Some j → (b ≡ true) × (k ≡ j)
 given_some true k j e = (refl, cc)
 given_some false k j e = absurd (false≢true (ap ended e))
 
@@ -33,6 +33,6 @@ given_zero false k = refl
 pub given_place : {A : Type 0} (f : List ℕ → Bool) (k : List ℕ → A) (s : List ℕ) (p : ℕ) → IsPlace f s p → IsPlace (λ w. ended (given (f w) (k w))) s p
 given_place f k s p a = place_of_language f (λ w. ended (given (f w) (k w))) (λ w. sym (given_ended (f w) (k w))) s p a
 
-pub or_some : (o : Option ℕ) (j : ℕ) → j ≡ or_zero o → (j ≡ 0 → ⊥) → o ≡ some j
-or_some none j e n = absurd (n e)
-or_some (some i) j e n = ap some (sym e)
+pub or_some : (o : Option ℕ) (j : ℕ) → j ≡ or_zero o → (j ≡ 0 → ⊥) → o ≡ Some j
+or_some None j e n = absurd (n e)
+or_some (Some i) j e n = ap Some (sym e)

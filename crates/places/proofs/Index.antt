@@ -1,8 +1,8 @@
 -- The places of parts, one byte at an index. Assumes nothing.
 use Prim.Native.Nat.{ℕ, zero, suc, ◌+◌, ◌-◌, ◌<◌, ◌≤◌}
 use mathlib.Core.Path.{◌≡◌, refl, sym, ap, ◌∙◌}
-use mathlib.Core.Bool.{Bool, true, false, and-true, and-false, true≢false}
-use mathlib.Core.Option.{none, some}
+use mathlib.Core.Bool.{Bool, true, false, cond, and-false, true≢false}
+use Rattle.std.specs.Prelude.{Some, None}
 use mathlib.Core.List.{List, [], ◌∷◌, ◌++◌}
 use lib.Dec.{ltb}
 use lib.ListN.{length, take, drop, get_or, length-drop}
@@ -12,34 +12,20 @@ use Rattle.text.specs.Words.{Word, null, split, up_to, holds, behind, leading}
 use native.Mathlib.Nat.{not-suc-le-zero}
 use borrow.Author.Tests.{lt-ltb, le-ltb, lt-leb, le-leb}
 use Rattle.text.proofs.Index.{drop_here, drop_end, rest, split_at, after_here, after_end, null-split, found, found_none, found_before, found_behind}
-use Rattle.shape.specs.Shape.{in_class, fits}
 use Rattle.places.specs.Words.{Words, onward, words_place}
-use Rattle.places.specs.Parts.{along, first_place, no_more, fixed_place, tens, units, minutes_place, time_place, cut_place, then_place, passes}
+use Rattle.std.specs.List.{prefix_len, zip}
+use Rattle.places.specs.Parts.{along_by, first_place, no_more, fixed_place, tens, units, minutes_place, time_place, cut_place, then_place, passes}
 
-module _ (t w : Word) (i : ℕ) where
-  pub along_stop : i < length t → i < length w → in_class (get_or t i 0) (get_or w i 0) ≡ false → along (drop i t) (drop i w) ≡ 0
-  along_stop h k e = rw (drop_here t i h, drop_here w i k, e)
-
-  pub along_next : i < length t → i < length w → in_class (get_or t i 0) (get_or w i 0) ≡ true
-      → along (drop i t) (drop i w) ≡ suc (along (drop (i + 1) t) (drop (i + 1) w))
-  along_next h k e = rw (drop_here t i h, drop_here w i k, e)
-
-  pub along_over : length t ≤ i → along (drop i t) (drop i w) ≡ 0
-  along_over h = rw (drop_end t i h)
-
-  pub along_short : i < length t → length w ≤ i → along (drop i t) (drop i w) ≡ 0
-  along_short h k = rw (drop_here t i h, drop_end w i k)
-
--- a shape of one byte
-one_class : (t b : ℕ) → fits (t ∷ []) (b ∷ []) ≡ in_class t b
-one_class t b = and-true (in_class t b)
-
-one_byte : (s : List ℕ) (i : ℕ) → i < length s → take (i + 1 - i) (drop i s) ≡ get_or s i 0 ∷ []
-one_byte s i h = let e : i + 1 - i ≡ 1 = omega arith in rw (e, drop_here s i h)
-
-pub class_here : (t w : Word) (i : ℕ) → i < length t → i < length w
-    → fits (take (i + 1 - i) (drop i t)) (take (i + 1 - i) (drop i w)) ≡ in_class (get_or t i 0) (get_or w i 0)
-class_here t w i h k = rw (one_byte t i h, one_byte w i k) (one_class (get_or t i 0) (get_or w i 0))
+-- FOLLOWING, over the pairs of bytes at one place
+pub along_zipped : (m : ℕ → ℕ → Bool) (t w : Word) → prefix_len (λ (p : ℕ × ℕ). m p.0 p.1) (zip t w) ≡ along_by m t w
+along_zipped m [] w = refl
+along_zipped m (x ∷ t) [] = refl
+along_zipped m (x ∷ t) (b ∷ w) = go (m x b) (along_zipped m t w)
+  where
+    go : (c : Bool) → prefix_len (λ (p : ℕ × ℕ). m p.0 p.1) (zip t w) ≡ along_by m t w
+        → cond c (1 + prefix_len (λ (p : ℕ × ℕ). m p.0 p.1) (zip t w)) 0 ≡ cond c (suc (along_by m t w)) 0
+    go true e = omega arith
+    go false e = refl
 
 -- A FIRST BYTE
 
@@ -150,13 +136,13 @@ module _ (W : Words) (pw : W.K → Word → ℕ) (k : W.K) (s : List ℕ) (at e 
   pub words_last : length s ≤ e → place ≡ pw k word
   words_last l = rw (split_at 32 s at e end, after_end 32 s e l)
 
-  pub words_stuck : e < length s → W.after k word ≡ none → place ≡ pw k word
+  pub words_stuck : e < length s → W.after k word ≡ None → place ≡ pw k word
   words_stuck l h = cut_here l ∙ rw h
 
-  pub words_end : (j : W.K) → e < length s → W.after k word ≡ some j → W.goes j ≡ false → place ≡ length word
+  pub words_end : (j : W.K) → e < length s → W.after k word ≡ Some j → W.goes j ≡ false → place ≡ length word
   words_end j l h g = cut_here l ∙ rw (h, g)
 
-  pub words_next : (j : W.K) → e < length s → W.after k word ≡ some j → W.goes j ≡ true
+  pub words_next : (j : W.K) → e < length s → W.after k word ≡ Some j → W.goes j ≡ true
       → place ≡ suc (length word) + words_place W pw j (split 32 (drop (e + 1) s))
   words_next j l h g = cut_here l ∙ rw (h, g)
 

@@ -15,7 +15,7 @@ use Rattle.shape.specs.Shape.{in_class, fits, any}
 use Rattle.places.specs.Place.{IsPlace, Hopeful, Hopeless}
 use Rattle.places.specs.Parts.{larger, first_fits, first_place, no_more, run_fits, run_place, along, farthest, sample, sampled, passes}
 use Rattle.places.proofs.Given.{or_cond}
-use Rattle.places.proofs.Larger.{larger_first, larger_under}
+use Rattle.places.proofs.Larger.{larger_first, larger_under, smaller_by}
 use Rattle.places.proofs.Place.{place_of_language, no_place, either_place}
 
 -- NOTHING MORE
@@ -133,7 +133,7 @@ module _ (least most : ℕ) (p : ℕ → Bool) (l : least ≤ most) (b : ℕ) (e
       and_false (leb least (length w)) (leb (length w) most && all p w) (rw (lt-leb (length w) most n))
 
   pub run_place_lem : (s : List ℕ) → IsPlace (run_fits least most p) s (run_place most p s)
-  run_place_lem s = go (leb most (leading p s)) refl
+  run_place_lem s = subst (IsPlace (run_fits least most p) s) (smaller_by most (leading p s)) (go (leb most (leading p s)) refl)
     where
       go : (c : Bool) → leb most (leading p s) ≡ c → IsPlace (run_fits least most p) s (cond c most (leading p s))
       go true q =
@@ -146,18 +146,10 @@ module _ (least most : ℕ) (p : ℕ → Bool) (l : least ≤ most) (b : ℕ) (e
 -- a place before that of a run is before the greatest length and before the first byte that is not of the set
 module _ (p : ℕ → Bool) (s : List ℕ) (most k : ℕ) where
   pub run_below : k < run_place most p s → (k < most) × (k < leading p s)
-  run_below = go (leb most (leading p s)) refl
-    where
-      go : (c : Bool) → leb most (leading p s) ≡ c → k < cond c most (leading p s) → (k < most) × (k < leading p s)
-      go true e h = let l = leb-true most (leading p s) e in (h, omega arith)
-      go false e h = let l = leb-false most (leading p s) e in (omega arith, h)
+  run_below h = (omega arith, omega arith)
 
   pub run_above : k < most → k < leading p s → k < run_place most p s
-  run_above h i = go (leb most (leading p s))
-    where
-      go : (c : Bool) → k < cond c most (leading p s)
-      go true = h
-      go false = i
+  run_above h i = omega arith
 
 -- A SHAPE, AND A LIST OF SHAPES
 

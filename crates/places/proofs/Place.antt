@@ -10,6 +10,7 @@ use lib.ListN.{length, take, drop}
 use borrow.Author.Tests.{leb-true, leb-false}
 use Rattle.places.specs.Place.{IsPlace, Hopeful, Hopeless}
 use Rattle.places.specs.Parts.{larger}
+use Rattle.places.proofs.Larger.{larger_by}
 
 no_both : (fits : List ℕ → Bool) (s : List ℕ) (k : ℕ) → Hopeful fits s k → Hopeless fits s k → ⊥
 no_both fits s k h n = false≢true (sym (n h.0) ∙ h.1)
@@ -48,7 +49,7 @@ later f s p k h n t = ap f (cut s p k h t) ∙ n (drop (suc p) (take (suc k) s) 
     cut (x ∷ s) (suc p) (suc k) h t = ap (λ (l : List ℕ). x ∷ l) (cut s p k (omega arith) t)
 
 pub either_place : (f g : List ℕ → Bool) (s : List ℕ) (p q : ℕ) → IsPlace f s p → IsPlace g s q → IsPlace (λ t. f t || g t) s (larger p q)
-either_place f g s p q a b = go (leb p q) refl
+either_place f g s p q a b = subst (IsPlace (λ t. f t || g t) s) (larger_by p q) (go (leb p q) refl)
   where
     left : (k : ℕ) → Hopeful f s k → Hopeful (λ t. f t || g t) s k
     left k h = (h.0, rw h.1)

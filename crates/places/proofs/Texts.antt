@@ -1,13 +1,13 @@
 -- The place of so many bytes of a set at least, and so of a text word; how long a word at an index is. Assumes nothing.
 use Prim.Native.Nat.{ℕ, suc, ◌+◌, ◌-◌, ◌≤◌}
 use mathlib.Core.Path.{◌≡◌, refl, sym, ◌∙◌, subst}
-use mathlib.Core.Bool.{Bool, true, false, ◌&&◌, not, cond}
+use mathlib.Core.Bool.{Bool, true, false, ◌&&◌, not}
 use mathlib.Core.List.{List, [], ◌∷◌, ◌++◌}
 use native.Mathlib.Omega.{arith}
 use lib.Dec.{leb}
 use lib.ListN.{length, take, drop, length-drop}
 use lib.Seq.{length-take-le}
-use borrow.Author.Tests.{leb-true, le-leb}
+use borrow.Author.Tests.{le-leb}
 use Rattle.alphabet.specs.Alphabet.{text, in_alphabet, white}
 use Rattle.text.specs.Words.{all, null, free, text_word, leading}
 use Rattle.text.proofs.Tests.{both, and_both}
@@ -33,11 +33,7 @@ module _ (least : ℕ) (p : ℕ → Bool) (b : ℕ) (e : p b ≡ true) where
       and_both (leb least (length w)) (all p w) g.0 (both (leb (length w) most) (all p w) g.1).1
 
   front_run : (most : ℕ) (s : List ℕ) → length s ≤ most → run_place most p s ≡ leading p s
-  front_run most s h = go (leb most (leading p s)) refl
-    where
-      go : (x : Bool) → leb most (leading p s) ≡ x → cond x most (leading p s) ≡ leading p s
-      go true q = let m = leb-true most (leading p s) q in let l = front_le p s in omega arith
-      go false q = refl
+  front_run most s h = let l = front_le p s in omega arith
 
   bounded : (most : ℕ) (s : List ℕ) → least + length s ≤ most → IsPlace (run_fits least most p) s (leading p s)
   bounded most s h = subst (IsPlace (run_fits least most p) s) (front_run most s (omega arith)) (run_place_lem least most p (omega arith) b e s)

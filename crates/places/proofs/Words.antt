@@ -3,7 +3,7 @@ use Prim.Native.Nat.{ℕ, suc, ◌+◌, ◌-◌, ◌<◌, ◌≤◌}
 use mathlib.Core.Path.{◌≡◌, refl, sym, ap, ◌∙◌, subst}
 use mathlib.Core.Bool.{Bool, true, false, ◌||◌, not, cond, false≢true, true≢false}
 use mathlib.Core.List.{List, [], ◌∷◌, ◌++◌, append_assoc, append-nil}
-use mathlib.Core.Option.{Option, none, some}
+use Rattle.std.specs.Prelude.{Option, Some, None}
 use native.Mathlib.Omega.{arith}
 use lib.Dec.{ltb, eqb}
 use lib.ListN.{length, take, drop, length-append}
@@ -28,24 +28,24 @@ free-split (b ∷ s) = go (eqb b 32) refl (split 32 s) (free-split s)
     go false e [] h = rw e
     go false e (w ∷ ws) h = let q = both (free 32 w) (all (free 32) ws) h in rw (e, q.0, q.1)
 
-pub some_of_lem : {A : Type 0} (o : Option A) → ended o ≡ true → (k : A) × (o ≡ some k)
-some_of_lem none e = absurd (false≢true e)
-some_of_lem (some k) e = (k, refl)
+pub some_of_lem : {A : Type 0} (o : Option A) → ended o ≡ true → (k : A) × (o ≡ Some k)
+some_of_lem None e = absurd (false≢true e)
+some_of_lem (Some k) e = (k, refl)
 
-pub none_of : {A : Type 0} (o : Option A) → ended o ≡ false → o ≡ none
-none_of none e = refl
-none_of (some k) e = absurd (true≢false e)
+pub none_of : {A : Type 0} (o : Option A) → ended o ≡ false → o ≡ None
+none_of None e = refl
+none_of (Some k) e = absurd (true≢false e)
 
-pub none_fits : (W : Words) (ws : List Word) → words_fit W ws none ≡ false
+pub none_fits : (W : Words) (ws : List Word) → words_fit W ws None ≡ false
 none_fits W [] = refl
 none_fits W (w ∷ ws) = refl
 
 module _ (W : Words) (pw : W.K → Word → ℕ)
     (right : (k : W.K) (w : Word) → IsPlace (λ v. ended (W.after k v)) w (pw k w))
     (no_space : (k : W.K) (w : Word) → ended (W.after k w) ≡ true → free 32 w ≡ true)
-    (alive : (k j : W.K) (w : Word) → W.after k w ≡ some j → (W.final j || W.goes j) ≡ true)
-    (more : (k : W.K) → W.goes k ≡ true → (w : Word) × (j : W.K) × (W.after k w ≡ some j) × (W.final j ≡ true))
-    (closed : (k : W.K) → W.goes k ≡ false → (w : Word) → W.after k w ≡ none) where
+    (alive : (k j : W.K) (w : Word) → W.after k w ≡ Some j → (W.final j || W.goes j) ≡ true)
+    (more : (k : W.K) → W.goes k ≡ true → (w : Word) × (j : W.K) × (W.after k w ≡ Some j) × (W.final j ≡ true))
+    (closed : (k : W.K) → W.goes k ≡ false → (w : Word) → W.after k w ≡ None) where
   -- one word, and a word with others behind it
   one : (k : W.K) (w : Word) → free 32 w ≡ true → content_fits W k w ≡ words_fit W [] (W.after k w)
   one k w f = rw (split_one 32 w f)
@@ -54,7 +54,7 @@ module _ (W : Words) (pw : W.K → Word → ℕ)
   first k w y f = rw (split_first 32 w y f)
 
   -- a word that fits is completed by nothing, or by a space and a word
-  finish : (k j : W.K) (w : Word) → W.after k w ≡ some j → (t : List ℕ) × (content_fits W k (w ++ t) ≡ true)
+  finish : (k j : W.K) (w : Word) → W.after k w ≡ Some j → (t : List ℕ) × (content_fits W k (w ++ t) ≡ true)
   finish k j w e = go (W.final j) refl (alive k j w e)
     where
       go : (x : Bool) → W.final j ≡ x → (x || W.goes j) ≡ true → (t : List ℕ) × (content_fits W k (w ++ t) ≡ true)
@@ -64,7 +64,7 @@ module _ (W : Words) (pw : W.K → Word → ℕ)
             32 ∷ m.0,
             first k w m.0 (no_space k w (rw e))
                 ∙ ap (words_fit W (split 32 m.0)) e
-                ∙ ap (λ (ws : List Word). words_fit W ws (some j)) (split_one 32 m.0 (no_space j m.0 (ap ended m.2)))
+                ∙ ap (λ (ws : List Word). words_fit W ws (Some j)) (split_one 32 m.0 (no_space j m.0 (ap ended m.2)))
                 ∙ ap (words_fit W []) m.2
                 ∙ m.3,
           )
@@ -81,7 +81,7 @@ module _ (W : Words) (pw : W.K → Word → ℕ)
       )
 
   -- a word that is not one, whatever stands behind it
-  dead : (k : W.K) (w : Word) (r : List ℕ) → free 32 w ≡ true → stops (but 32) r ≡ true → W.after k w ≡ none → content_fits W k (w ++ r) ≡ false
+  dead : (k : W.K) (w : Word) (r : List ℕ) → free 32 w ≡ true → stops (but 32) r ≡ true → W.after k w ≡ None → content_fits W k (w ++ r) ≡ false
   dead k w [] f st e = ap (content_fits W k) (append-nil w) ∙ one k w f ∙ rw e
   dead k w (b ∷ r) f st e =
       ap (λ (c : ℕ). content_fits W k (w ++ (c ∷ r))) (is_space (eqb b 32) refl st) ∙ first k w r f ∙ rw e (none_fits W (split 32 r))
@@ -122,7 +122,7 @@ module _ (W : Words) (pw : W.K → Word → ℕ)
         let z : length w ≡ length w + 0 = omega arith in
         ap (λ (n : ℕ). take (suc n) (w ++ (32 ∷ y)) ++ t) z ∙ ap (λ (v : List ℕ). v ++ t) (take_beyond 0 w (32 ∷ y)) ∙ append_assoc w (32 ∷ []) t
 
-    stuck : W.after k w ≡ none → IsPlace (content_fits W k) (w ++ (32 ∷ y)) (pw k w)
+    stuck : W.after k w ≡ None → IsPlace (content_fits W k) (w ++ (32 ∷ y)) (pw k w)
     stuck e =
         let r = right k w in
         let p = r.within in
@@ -144,7 +144,7 @@ module _ (W : Words) (pw : W.K → Word → ℕ)
             subst (Hopeless (content_fits W k) (w ++ (32 ∷ y))) (sym same)
             (λ t. ap (content_fits W k) (at_space t) ∙ first k w t f ∙ rw e (none_fits W (split 32 t)))
 
-    module _ (j : W.K) (e : W.after k w ≡ some j) where
+    module _ (j : W.K) (e : W.after k w ≡ Some j) where
       inside : (i : ℕ) → i < length w → Hopeful (content_fits W k) (w ++ (32 ∷ y)) i
       inside i l =
           let t = finish k j w e in (
@@ -167,7 +167,7 @@ module _ (W : Words) (pw : W.K → Word → ℕ)
           some_word : (t : List ℕ) → (split 32 t ≡ [] → ⊥)
           some_word t q = let z : ◌≡◌ {A = Bool} true false = sym (ap null q) ∙ null-split 32 t in true≢false z
 
-          none_more : (ws : List Word) → (ws ≡ [] → ⊥) → words_fit W ws (some j) ≡ false
+          none_more : (ws : List Word) → (ws ≡ [] → ⊥) → words_fit W ws (Some j) ≡ false
           none_more [] n = absurd (n refl)
           none_more (v ∷ ws) n = rw (closed j o v) (none_fits W ws)
 
@@ -201,7 +201,7 @@ module _ (W : Words) (pw : W.K → Word → ℕ)
                 ap (λ (x : ℕ). content_fits W k (take (suc x) (w ++ (32 ∷ y)) ++ u.0)) z
                     ∙ ap (content_fits W k) (at_space u.0) ∙ first k w u.0 f
                     ∙ ap (words_fit W (split 32 u.0)) e
-                    ∙ ap (λ (ws : List Word). words_fit W ws (some j)) (split_one 32 u.0 (no_space j u.0 (ap ended u.2)))
+                    ∙ ap (λ (ws : List Word). words_fit W ws (Some j)) (split_one 32 u.0 (no_space j u.0 (ap ended u.2)))
                     ∙ ap (words_fit W []) u.2
                     ∙ u.3,
               )
@@ -219,8 +219,8 @@ module _ (W : Words) (pw : W.K → Word → ℕ)
 
     step : (q : W.K → ℕ) → ((j : W.K) → IsPlace (content_fits W j) y (q j)) → (o : Option W.K) → W.after k w ≡ o
         → IsPlace (content_fits W k) (w ++ (32 ∷ y)) (onward W o (pw k w) (length w) q)
-    step q ih none e = stuck e
-    step q ih (some j) e = go (W.goes j) refl
+    step q ih None e = stuck e
+    step q ih (Some j) e = go (W.goes j) refl
       where
         go : (x : Bool) → W.goes j ≡ x → IsPlace (content_fits W k) (w ++ (32 ∷ y)) (cond x (suc (length w) + q j) (length w))
         go true o = goes j e o (q j) (ih j)

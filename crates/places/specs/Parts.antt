@@ -1,15 +1,15 @@
 -- The place of a form from the places of its parts. Assumes nothing.
-use Rattle.std.specs.Prelude.{ℕ, zero, suc, ◌+◌, ◌*◌, ◌-◌, Bool, false, ◌&&◌, cond, List, [], ◌∷◌, ◌++◌, leb, ltb, length, take, drop, get_or}
+use Rattle.std.specs.Prelude.{ℕ, zero, suc, ◌+◌, ◌*◌, ◌-◌, Bool, false, ◌&&◌, cond, List, [], ◌∷◌, ◌++◌, leb, ltb, min, max, length, take, drop, get_or}
 use Rattle.text.specs.Words.{Word, all, up_to, holds, before, behind, leading}
 use Rattle.alphabet.specs.Alphabet.{digit}
 use Rattle.shape.specs.Shape.{in_class, letters, fits}
 
 -- the larger and the smaller of two places
 abbrev pub larger : ℕ → ℕ → ℕ
-larger p q = cond (leb p q) q p
+larger p q = max p q
 
 abbrev pub smaller : ℕ → ℕ → ℕ
-smaller p q = cond (leb p q) p q
+smaller p q = min p q
 
 -- ONE PART BEHIND ANOTHER, cut at the first byte that is not of a set: f before it, g from it on
 
@@ -89,16 +89,25 @@ run_fits least most p w = leb least (length w) && (leb (length w) most && all p 
 abbrev pub run_place : ℕ → (ℕ → Bool) → List ℕ → ℕ
 run_place most p w = smaller most (leading p w)
 
+-- FOLLOWING: how far the bytes of w go along with those of t, by a test of what stands where t has a byte
+
+abbrev pub along_by : (ℕ → ℕ → Bool) → Word → Word → ℕ
+along_by m [] w = 0
+along_by m (t ∷ ts) [] = 0
+along_by m (t ∷ ts) (b ∷ w) = cond (m t b) (suc (along_by m ts w)) 0
+
+-- the largest of what f gives to the words of a list
+abbrev pub largest : (Word → ℕ) → List Word → ℕ
+largest f [] = 0
+largest f (v ∷ vs) = larger (f v) (largest f vs)
+
 -- A SHAPE, AND A LIST OF SHAPES: how far the bytes follow the shape, and how far they follow the one that they follow farthest
 
 abbrev pub along : Word → Word → ℕ
-along [] w = 0
-along (t ∷ ts) [] = 0
-along (t ∷ ts) (b ∷ w) = cond (in_class t b) (suc (along ts w)) 0
+along t w = along_by in_class t w
 
 abbrev pub farthest : List Word → Word → ℕ
-farthest [] w = 0
-farthest (t ∷ ts) w = larger (along t w) (farthest ts w)
+farthest ts w = largest (λ t. along t w) ts
 
 -- PREFIXES, by a test that says which of them can be completed: how many more bytes pass it, the ones before being p
 

@@ -1,18 +1,15 @@
 -- The places of points where the code stands: a row byte by byte, the rows of a list one by one. Assumes nothing.
-use Prim.Native.Nat.{ℕ, suc, ◌+◌, ◌<◌, ◌≤◌}
-use mathlib.Core.Path.{◌≡◌, refl, ap, ◌∙◌}
-use mathlib.Core.Bool.{Bool, true, false, ◌&&◌, cond}
-use mathlib.Core.List.{List, ◌++◌}
+use Prim.Native.Nat.{ℕ, suc, ◌<◌}
+use mathlib.Core.Path.{◌≡◌, refl, ap}
+use mathlib.Core.Bool.{false, cond}
+use mathlib.Core.List.{List, [], ◌∷◌, ◌++◌}
+use Rattle.places.specs.Parts.{along_by}
 use native.Mathlib.Omega.{arith}
-use lib.Dec.{leb}
-use lib.ListN.{length, take, drop, get_or}
+use lib.ListN.{length, take}
 use lib.Seq.{take_all}
-use borrow.Author.Tests.{eq-eqb, ne_eqb}
 use Rattle.alphabet.specs.Text.{bytes}
-use Rattle.alphabet.specs.Alphabet.{digit, sign}
 use Rattle.text.specs.Words.{Word, split}
-use Rattle.text.proofs.Index.{drop_here, drop_end}
-use Rattle.shape.specs.Shape.{in_class, wide}
+use Rattle.shape.specs.Shape.{wide}
 use Rattle.shape.proofs.Index.{fits_other}
 use Rattle.route.specs.Points.{short, out_of_range}
 use Rattle.point_places.specs.Rows.{meets, row_place, rows_place}
@@ -20,34 +17,10 @@ use Rattle.point_places.specs.Points.{short_rows, long_rows, bearing_rows, beyon
 
 -- A ROW, byte by byte
 
-module _ (t b : ℕ) where
-  pub meets_sign : t ≡ 120 → meets t b ≡ sign b
-  meets_sign e = rw (eq-eqb t 120 e)
-
-  pub meets_off : (t ≡ 120 → ⊥) → in_class t b ≡ false → meets t b ≡ false
-  meets_off n e = rw (ne_eqb t 120 n, e)
-
-  pub meets_digit : (t ≡ 120 → ⊥) → in_class t b ≡ true → digit t ≡ true → meets t b ≡ leb b t
-  meets_digit n e f = ap (λ (x : Bool). cond x (sign b) (in_class t b && cond (digit t) (leb b t) true)) (ne_eqb t 120 n)
-      ∙ ap (λ (x : Bool). x && cond (digit t) (leb b t) true) e ∙ ap (λ (x : Bool). cond x (leb b t) true) f
-
-  pub meets_other : (t ≡ 120 → ⊥) → in_class t b ≡ true → digit t ≡ false → meets t b ≡ true
-  meets_other n e f = ap (λ (x : Bool). cond x (sign b) (in_class t b && cond (digit t) (leb b t) true)) (ne_eqb t 120 n)
-      ∙ ap (λ (x : Bool). x && cond (digit t) (leb b t) true) e ∙ ap (λ (x : Bool). cond x (leb b t) true) f
-
-module _ (t w : Word) (i : ℕ) where
-  pub row_stop : i < length t → i < length w → meets (get_or t i 0) (get_or w i 0) ≡ false → row_place (drop i t) (drop i w) ≡ 0
-  row_stop h k e = rw (drop_here t i h, drop_here w i k, e)
-
-  pub row_next : i < length t → i < length w → meets (get_or t i 0) (get_or w i 0) ≡ true
-      → row_place (drop i t) (drop i w) ≡ suc (row_place (drop (i + 1) t) (drop (i + 1) w))
-  row_next h k e = rw (drop_here t i h, drop_here w i k, e)
-
-  pub row_over : length t ≤ i → row_place (drop i t) (drop i w) ≡ 0
-  row_over h = rw (drop_end t i h)
-
-  pub row_short : i < length t → length w ≤ i → row_place (drop i t) (drop i w) ≡ 0
-  row_short h k = rw (drop_here t i h, drop_end w i k)
+pub row_along : (t w : Word) → along_by meets t w ≡ row_place t w
+row_along [] w = refl
+row_along (x ∷ t) [] = refl
+row_along (x ∷ t) (b ∷ w) = ap (λ (n : ℕ). cond (meets x b) (suc n) 0) (row_along t w)
 
 -- THE LISTS OF ROWS, byte for byte as the code has them
 

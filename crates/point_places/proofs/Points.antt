@@ -20,7 +20,7 @@ use Rattle.places.specs.Parts.{larger, run_fits, run_place}
 use Rattle.places.proofs.Given.{iff}
 use Rattle.places.proofs.Place.{place_of_language, either_place, sandwich, absorbed}
 use Rattle.places.proofs.Leaves.{run_place_lem, run_below, run_above, front_le, front_all, all_front}
-use Rattle.route.specs.Points.{short, long, polar, degrees_in_range, degrees_of, within, minutes_in_range, minutes_of, signs_of, polar_of, radial_fits}
+use Rattle.route.specs.Points.{short, long, polar, degrees_in_range, degrees_of, minutes_in_range, minutes_of, signs_of, polar_of, radial_fits}
 use Rattle.route.specs.Points.{indicators}
 use Rattle.route.specs.Points.{name_fits, point_fits}
 use Rattle.route.specs.Levels.{number_at}

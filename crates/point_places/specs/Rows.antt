@@ -4,7 +4,7 @@ use Rattle.alphabet.specs.Text.{bytes}
 use Rattle.alphabet.specs.Alphabet.{digit, sign}
 use Rattle.text.specs.Words.{Word, split, null, all}
 use Rattle.shape.specs.Shape.{letters, in_class}
-use Rattle.places.specs.Parts.{larger, first_fits, first_place}
+use Rattle.places.specs.Parts.{largest, first_fits, first_place}
 
 -- A ROW is read as a shape, byte for byte, but a digit stands for every digit up to it, and x for a sign. So `179` is the numbers from 000 to 079
 -- and from 100 to 179, and `099`, `179` and `180` together are the numbers up to 180.
@@ -25,8 +25,7 @@ row_place [] w = 0
 row_place (t ∷ ts) w = first_place (meets t) (λ b. row_place ts) w
 
 abbrev pub rows_place : List Word → Word → ℕ
-rows_place [] w = 0
-rows_place (t ∷ ts) w = larger (row_place t w) (rows_place ts w)
+rows_place ts w = largest (λ t. row_place t w) ts
 
 -- a word of each row
 abbrev pub row_sample : Word → Word

@@ -1,60 +1,33 @@
 // The places of field 15's points and of its words with no oblique.
 #![tactic(auto)]
 
-ghost use Rattle.std.specs.Prelude.{◌≡◌, ℕ, ◌<◌, length, get_or};
+ghost use Rattle.std.specs.Prelude.{◌≡◌};
 ghost use Rattle.text.specs.Words.{split};
 ghost use Rattle.point_places.specs.Rows.{meets as may_meet, row_place, rows_place};
 ghost use Rattle.point_places.specs.Points.{short_rows, beyond_rows, point_place, name_place, plain_place};
 
-// Whether the byte at i of a word may stand where a row has its byte at i.
-fn meets(t: &[u8], w: &[u8], i: usize) -> bool
-    requires { (i < length t.now) × (i < length w.now) }
-    ensures { result ≡ may_meet (get_or t.now i 0) (get_or w.now i 0) }
+// Whether a byte of a word may stand where a row has t.
+fn meets(t: u8, b: u8) -> bool
+    ensures { result ≡ may_meet t b }
 {
-    if t[i] == b'x' {
-        return alphabet::is_sign(w[i]);
+    if t == b'x' {
+        return alphabet::is_sign(b);
     }
-    if !shape::fits(&t[i..i + 1], &w[i..i + 1]) {
-        return false;
-    }
-    if alphabet::is_digit(t[i]) {
-        return w[i] <= t[i];
-    }
-    true
+    shape::fits(&[t], &[b]) && (!alphabet::is_digit(t) || b <= t)
 }
 
 // How far a word follows a row.
 fn along_row(t: &[u8], w: &[u8]) -> usize
     ensures { result ≡ row_place t.now w.now }
 {
-    let mut i = 0;
-    while i < t.len() {
-        if i == w.len() {
-            return i;
-        }
-        if !meets(t, w, i) {
-            return i;
-        }
-        i += 1;
-    }
-    i
+    places::along(t, w, meets)
 }
 
 // How far a word follows the row of a list that it follows farthest.
 fn farthest_row(list: &[u8], w: &[u8]) -> usize
     ensures { result ≡ rows_place (split 32 list.now) w.now }
 {
-    let mut at = 0;
-    let mut best = 0;
-    loop {
-        let e = text::find(list, at, b' ');
-        let n = along_row(&list[at..e], w);
-        best = places::larger_of(best, n);
-        if e == list.len() {
-            return best;
-        }
-        at = e + 1;
-    }
+    places::largest(list, |t| along_row(t, w))
 }
 
 // The place in a coordinate in degrees.
@@ -76,13 +49,13 @@ fn place_beyond(w: &[u8]) -> usize
 }
 
 // The place in a point before an oblique.
+#[tactic(auto, unfolding(crate::specs::Points::point_place))]
 pub fn place_point(w: &[u8]) -> usize
     ensures { result ≡ point_place w.now }
 {
-    places::larger_of(
-        places::run_place(5, text::Kind::Sign, w),
-        places::larger_of(place_short(w), place_beyond(w)),
-    )
+    places::run_place(5, text::Kind::Sign, w)
+        .max(place_short(w))
+        .max(place_beyond(w))
 }
 
 // The place in a name.
@@ -99,8 +72,9 @@ fn place_name(w: &[u8]) -> usize
 }
 
 // The place in a word with no oblique.
+#[tactic(auto, unfolding(crate::specs::Points::plain_place))]
 pub fn place_plain(w: &[u8]) -> usize
     ensures { result ≡ plain_place w.now }
 {
-    places::larger_of(place_name(w), place_beyond(w))
+    place_name(w).max(place_beyond(w))
 }

@@ -3,7 +3,7 @@ use Prim.Native.Nat.{ℕ, ◌+◌, ◌≤◌}
 use mathlib.Core.Path.{◌≡◌, refl, sym, ap, ◌∙◌}
 use mathlib.Core.Bool.{Bool, true, false, ◌&&◌, ◌||◌, not, cond, false≢true, true≢false, or-false}
 use mathlib.Core.List.{List, [], ◌∷◌}
-use mathlib.Core.Option.{none, some}
+use Rattle.std.specs.Prelude.{None, Some}
 use native.Mathlib.Numerals.{add-one}
 use lib.Dec.{eqb}
 use lib.ListN.{length, drop}
@@ -167,17 +167,17 @@ other_fits last w s = rw s
 next_ended : (w : Word) → ended (next_word w) ≡ element_fits true w
 next_ended w = go (same w (bytes "T")) refl
   where
-    yes : (b : Bool) → ended (cond b (some false) none) ≡ b
+    yes : (b : Bool) → ended (cond b (Some false) None) ≡ b
     yes true = refl
     yes false = refl
 
-    go : (x : Bool) → same w (bytes "T") ≡ x → ended (cond x (some true) (cond (element_fits false w) (some false) none)) ≡ element_fits true w
+    go : (x : Bool) → same w (bytes "T") ≡ x → ended (cond x (Some true) (cond (element_fits false w) (Some false) None)) ≡ element_fits true w
     go true e = sym (t_fits true w e)
     go false e = yes (element_fits false w) ∙ sym (other_fits true w e)
 
 -- THE WORDS
 
-word_right : (k : Bool) (w : Word) → IsPlace (λ v. ended (route.after k v)) w (word_place k w)
+pub word_right : (k : Bool) (w : Word) → IsPlace (λ v. ended (route.after k v)) w (word_place k w)
 word_right true w = no_place w
 word_right false w = place_of_language (element_fits true) (λ v. ended (next_word v)) (λ v. sym (next_ended v)) w (element_place w) (element_right w)
 
@@ -185,15 +185,15 @@ route_free : (k : Bool) (w : Word) → ended (route.after k w) ≡ true → free
 route_free true w e = absurd (false≢true e)
 route_free false w e = word_free w (element_tidy true w (sym (next_ended w) ∙ e))
 
-a_word : next_word (bytes "AA") ≡ some false
+a_word : next_word (bytes "AA") ≡ Some false
 unfolding element_fits point_fits name_fits indicators letters
 a_word = refl
 
-route_more : (k : Bool) → route.goes k ≡ true → (w : Word) × (j : Bool) × (route.after k w ≡ some j) × (route.final j ≡ true)
+route_more : (k : Bool) → route.goes k ≡ true → (w : Word) × (j : Bool) × (route.after k w ≡ Some j) × (route.final j ≡ true)
 route_more true e = absurd (false≢true e)
 route_more false e = (bytes "AA", false, a_word, refl)
 
-route_closed : (k : Bool) → route.goes k ≡ false → (w : Word) → route.after k w ≡ none
+route_closed : (k : Bool) → route.goes k ≡ false → (w : Word) → route.after k w ≡ None
 route_closed true e w = refl
 route_closed false e w = absurd (true≢false e)
 
@@ -203,20 +203,20 @@ words_right = words_place_lem route word_place word_right route_free (λ k j w e
 
 -- as field 15 has them
 
-closed_fits : (ws : List Word) → fit_words route ws (some true) ≡ (null ws && route_fits ws)
+closed_fits : (ws : List Word) → fit_words route ws (Some true) ≡ (null ws && route_fits ws)
 closed_fits [] = refl
 closed_fits (w ∷ ws) = none_fits route ws
 
-words_is : (ws : List Word) → fit_words route ws (some false) ≡ route_fits ws
+words_is : (ws : List Word) → fit_words route ws (Some false) ≡ route_fits ws
 words_is [] = refl
 words_is (w ∷ ws) = first (same w (bytes "T")) refl (words_is ws)
   where
-    second : (x : Bool) → fit_words route ws (some false) ≡ route_fits ws → fit_words route ws (cond x (some false) none) ≡ (x && route_fits ws)
+    second : (x : Bool) → fit_words route ws (Some false) ≡ route_fits ws → fit_words route ws (cond x (Some false) None) ≡ (x && route_fits ws)
     second true ih = ih
     second false ih = none_fits route ws
 
-    first : (x : Bool) → same w (bytes "T") ≡ x → fit_words route ws (some false) ≡ route_fits ws
-        → fit_words route ws (cond x (some true) (cond (element_fits false w) (some false) none)) ≡ (element_fits (null ws) w && route_fits ws)
+    first : (x : Bool) → same w (bytes "T") ≡ x → fit_words route ws (Some false) ≡ route_fits ws
+        → fit_words route ws (cond x (Some true) (cond (element_fits false w) (Some false) None)) ≡ (element_fits (null ws) w && route_fits ws)
     first true e ih = closed_fits ws ∙ ap (λ (b : Bool). b && route_fits ws) (sym (t_fits (null ws) w e))
     first false e ih = second (element_fits false w) ih ∙ ap (λ (b : Bool). b && route_fits ws) (sym (other_fits (null ws) w e))
 

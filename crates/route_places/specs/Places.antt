@@ -1,6 +1,6 @@
 -- The place of a content of field 15 that does not fit (document 02, request 4). Assumes nothing.
 use Rattle.std.specs.Prelude.{ℕ, ◌≡◌, refl, Bool, true, false, not, cond, List, []}
-use Rattle.std.proofs.Math.Option.{Option, none, some}
+use Rattle.std.specs.Prelude.{Option, None, Some}
 use Rattle.alphabet.specs.Text.{bytes}
 use Rattle.text.specs.Words.{Word, split, same}
 use Rattle.shape.specs.Shape.{letters, wides, any}
@@ -28,13 +28,13 @@ element_place w = larger (plain_place w) (larger (pair_place (wides changes) w) 
 -- FIELD 15: speed and level, a space, and words; what is known behind some words is whether the last was T, behind which none may follow
 
 abbrev pub next_word : Word → Option Bool
-next_word w = cond (same w (bytes "T")) (some true) (cond (element_fits false w) (some false) none)
+next_word w = cond (same w (bytes "T")) (Some true) (cond (element_fits false w) (Some false) None)
 
 abbrev pub route : Words
 route =
     record {
       K = Bool;
-      after = λ k w. cond k none (next_word w);
+      after = λ k w. cond k None (next_word w);
       final = λ k. true;
       goes = λ k. not k;
     }

@@ -1,42 +1,31 @@
 // The place of a content of field 15 that does not fit.
 #![tactic(auto)]
 
-ghost use Rattle.std.specs.Prelude.{◌≡◌, ℕ, ◌≤◌, length};
+ghost use Rattle.std.specs.Prelude.{◌≡◌};
 ghost use Rattle.text.specs.Words.{split};
 ghost use Rattle.shape.specs.Shape.{wides};
 ghost use Rattle.places.specs.Parts.{farthest};
 ghost use Rattle.route.specs.Levels.{starts, changes, climbs};
-ghost use Rattle.route_places.specs.Places.{pair_place, climb_place, element_place, route_place, place15};
+ghost use Rattle.route_places.specs.Places.{pair_place, climb_place, element_place, route, word_place, route_place, place15};
 
 // How far a word follows the shape of a list that it follows farthest.
 fn farthest_of(list: &[u8], w: &[u8]) -> usize
     ensures { result ≡ farthest (split 32 list.now) w.now }
 {
-    let mut at = 0;
-    let mut best = 0;
-    loop {
-        let e = text::find(list, at, b' ');
-        let n = places::along_shape(&list[at..e], w);
-        best = places::larger_of(best, n);
-        if e == list.len() {
-            return best;
-        }
-        at = e + 1;
-    }
+    places::largest(list, |t| places::along_shape(t, w))
 }
 
 // The place in a point, '/', and one of a list of shapes.
 fn place_pair(list: &[u8], w: &[u8]) -> usize
     ensures { result ≡ pair_place (split 32 list.now) w.now }
 {
-    let o = text::find(w, 0, b'/');
-    if o == w.len() {
-        return point_places::place_point(&w[..o]);
-    }
-    if !route::point(5, &w[..o]) {
-        return point_places::place_point(&w[..o]);
-    }
-    o + 1 + farthest_of(list, &w[o + 1..])
+    places::cut_place(
+        b'/',
+        |p| route::point(5, p),
+        point_places::place_point,
+        |f| farthest_of(list, f),
+        w,
+    )
 }
 
 // The place in a change of speed and level.
@@ -57,47 +46,56 @@ fn place_climbing(w: &[u8]) -> usize
 fn place_climb(w: &[u8]) -> usize
     ensures { result ≡ climb_place w.now }
 {
-    let o = text::find(w, 0, b'/');
-    if o == w.len() {
-        return places::along_shape(b"C", &w[..o]);
-    }
-    if !text::same_bytes(&w[..o], b"C") {
-        return places::along_shape(b"C", &w[..o]);
-    }
-    o + 1 + place_climbing(&w[o + 1..])
+    places::cut_place(
+        b'/',
+        |c| text::same_bytes(c, b"C"),
+        |c| places::along_shape(b"C", c),
+        place_climbing,
+        w,
+    )
 }
 
 // The place in a word.
+#[tactic(auto, unfolding(crate::specs::Places::element_place))]
 fn place_element(w: &[u8]) -> usize
     ensures { result ≡ element_place w.now }
 {
-    places::larger_of(
-        point_places::place_plain(w),
-        places::larger_of(place_change(w), place_climb(w)),
-    )
+    point_places::place_plain(w)
+        .max(place_change(w))
+        .max(place_climb(w))
+}
+
+// What is known behind one word more, that is whether it was T: behind T none may stand.
+fn next_word(ended: bool, w: &[u8]) -> Option<bool>
+    ensures { result ≡ route.after ended w.now }
+{
+    if ended {
+        return None;
+    }
+    if text::same_bytes(w, b"T") {
+        return Some(true);
+    }
+    if route::element(false, w) {
+        return Some(false);
+    }
+    None
+}
+
+// The place in such a word.
+fn word_place(ended: bool, w: &[u8]) -> usize
+    ensures { result ≡ word_place ended w.now }
+{
+    if ended { 0 } else { place_element(w) }
 }
 
 // The place in the words behind speed and level.
 fn place_words(t: &[u8]) -> usize
     ensures { result ≡ route_place t.now }
 {
-    let mut at = 0;
-    loop {
-        let e = text::find(t, at, b' ');
-        if e == t.len() {
-            return at + place_element(&t[at..e]);
-        }
-        if text::same_bytes(&t[at..e], b"T") {
-            return e;
-        }
-        if !route::element(false, &t[at..e]) {
-            return at + place_element(&t[at..e]);
-        }
-        at = e + 1;
-    }
+    places::words_place(false, next_word, |ended| !ended, word_place, t)
 }
 
-// The place in it.
+// The place in speed and level.
 fn place_start(w: &[u8]) -> usize
     ensures { result ≡ farthest (wides starts) w.now }
 {
@@ -108,12 +106,5 @@ fn place_start(w: &[u8]) -> usize
 pub fn place_field15(s: &[u8]) -> usize
     ensures { result ≡ place15 s.now }
 {
-    let e = text::find(s, 0, b' ');
-    if e == s.len() {
-        return place_start(&s[..e]);
-    }
-    if !route::start(&s[..e]) {
-        return place_start(&s[..e]);
-    }
-    e + 1 + place_words(&s[e + 1..])
+    places::cut_place(b' ', route::start, place_start, place_words, s)
 }

@@ -1,51 +1,27 @@
 -- `head_places::to_digits` meets its contract. Assumes nothing.
-use native.Mathlib.Omega.{arith}
-use borrow.Author.Tests.{not-true, not-false}
-use Prim.Native.Nat.{◌+◌, ◌≤◌}
-use lib.ListN.{length}
-use Rattle.places.proofs.Texts.{word_length}
-use Rattle.head_places.proofs.Reached.{letters_stuck, oblique_none, oblique_off, oblique_on}
-use Rattle.head_places.proofs.to_digits.Goals.{After-past_unit-second}
+use Rattle.std.proofs.Common.{rules, arith}
+use Rattle.head_places.proofs.Reached.{letters_stuck, oblique_none, oblique_off, oblique_on, oblique_stuck}
 use Rattle.head_places.proofs.to_digits.Goals as goal
 
-inside : (c : After-past_unit-second) → c.past_unit-first.result.at + 1 + c.past_unit-second.result.at ≤ length c.args.w.now
-inside c =
-    let l = word_length c.args.w.now (c.past_unit-first.result.at + 1) (length c.args.w.now) (omega arith) (omega arith) in
-    omega (arith, c.past_unit-second.ensures.0, l)
-
-pub returns-then-not-first : goal.returns-then-not-first
-returns-then-not-first c = (
-  c.past_unit-first.ensures.0,
-  letters_stuck c.args.w.now c.past_unit-first.result.at c.past_unit-first.result.on c.past_unit-first.ensures.1
-      (not-true _ c.if-not-first.true),
-)
+pub returns-in_err-n : goal.returns-in_err-n
+returns-in_err-n c =
+    let r = letters_stuck c.args.w.now c.in_err-n.field-0.0 c.in_err-n.ensures in search (rules, r)
 
 pub returns-then-n-w : goal.returns-then-n-w
-returns-then-n-w c = (
-  c.past_unit-first.ensures.0,
-  oblique_none c.args.w.now c.past_unit-first.result.at c.past_unit-first.result.on c.past_unit-first.ensures.1 (not-false _ c.if-not-first.false)
-      (omega arith),
-)
+returns-then-n-w c =
+    oblique_none c.args.w.now c.in_ok-n.n c.in_ok-n.ensures (omega arith)
 
 pub returns-then-w-n-ne47 : goal.returns-then-w-n-ne47
-returns-then-w-n-ne47 c = (
-  c.past_unit-first.ensures.0,
-  oblique_off c.args.w.now c.past_unit-first.result.at c.past_unit-first.result.on c.past_unit-first.ensures.1 (not-false _ c.if-not-first.false)
-      (omega arith) c.if-w-n-ne47.true,
-)
+returns-then-w-n-ne47 c =
+    let r = c.in_ok-n.ensures in
+    oblique_off c.args.w.now c.in_ok-n.n r (omega (arith, r.0)) c.if-w-n-ne47.true
 
-pub overflow_add-result : goal.overflow_add-result
-overflow_add-result c =
-    omega (arith, inside (goal.at.overflow_add-result c).After-past_unit-second)
+pub returns-in-Ok : goal.returns-in-Ok
+returns-in-Ok c =
+    let r = c.in_ok-n.ensures in
+    oblique_on c.args.w.now c.in_ok-n.n r (omega (arith, r.0)) c.if-w-n-ne47.false c.in-Ok.m c.in-Ok.ensures
 
-pub overflow_add-result-2 : goal.overflow_add-result-2
-overflow_add-result-2 c =
-    omega (arith, inside (goal.at.overflow_add-result-2 c).After-past_unit-second)
-
-pub returns : goal.returns
-returns c = (
-  inside (goal.at.returns c).After-past_unit-second,
-  oblique_on c.args.w.now c.past_unit-first.result.at c.past_unit-first.result.on c.past_unit-first.ensures.1 (not-false _ c.if-not-first.false)
-      (omega arith) c.if-w-n-ne47.false
-      c.past_unit-second.result.at c.past_unit-second.result.on c.past_unit-second.ensures.1,
-)
+pub returns-in-Err : goal.returns-in-Err
+returns-in-Err c =
+    let r = c.in_ok-n.ensures in
+    oblique_stuck c.args.w.now c.in_ok-n.n r (omega (arith, r.0)) c.if-w-n-ne47.false c.in-Err.m c.in-Err.ensures
