@@ -1,9 +1,21 @@
 // The lines of the program `handlers` as calls: a firm, what it asks for, a slot; one space between. A message is the rest of its line.
 #![tactic(auto)]
 
-ghost use Rattle.std.specs.Prelude.{◌≡◌, ◌-◌, drop, length};
-ghost use Rattle.text.specs.Words.{before, behind, holds};
-ghost use Rattle.calls.specs.Lines.{is_number, number_in, place_as, slot_as, verb_as, asked};
+ghost use Rattle.std.specs.Prelude.{◌≡◌, drop};
+ghost use Rattle.std.specs.Option.{option_copied};
+ghost use Rattle.text.specs.Words.{before};
+ghost use Rattle.calls.specs.Lines.{number_in, rest_of, place_as, slot_as, verb_as, asked};
+
+// What a firm can ask for.
+const FILE: &[u8] = b"FILE";
+
+const UPDATE: &[u8] = b"UPDATE";
+
+const CLEAR: &[u8] = b"CLEAR";
+
+const LOOK: &[u8] = b"LOOK";
+
+const LIST: &[u8] = b"LIST";
 
 // A call on the board. A message is the line from a place on.
 #[derive(Clone, Copy)]
@@ -19,142 +31,85 @@ pub enum Ask {
     Calls(Call),
     Look { firm: u8, slot: usize },
     List(u8),
-    NoCall,
 }
 
-fn is_number(w: &[u8]) -> bool
-    ensures { result ≡ is_number w.now }
-{
-    if w.len() < 1 {
-        return false;
-    }
-    text::all_of(text::Kind::Digit, w)
-}
-
-// The number of one digit; 10 for any other.
-fn number_in(w: &[u8]) -> u8
+// The number of a word of digits: that of one digit; 10 for any other. None where it is no such word.
+fn number_in(w: &[u8]) -> Option<u8>
     ensures { result ≡ number_in w.now }
 {
-    if w.len() != 1 {
-        return 10;
+    if !w.iter().all(|b| b.is_ascii_digit()) {
+        return None;
     }
-    if w[0] < b'0' {
-        return 0;
+    match w {
+        [] => None,
+        [digit] => Some(*digit - b'0'),
+        _ => Some(10),
     }
-    w[0] - b'0'
 }
 
-// What stands before the first space.
-fn first_word<'a>(s: &'a [u8]) -> &'a [u8]
-    ensures { result.now ≡ before 32 s.now }
+// What stands before the first space, and what stands behind it.
+fn cut<'a>(s: &'a [u8]) -> (&'a [u8], Option<&'a [u8]>)
+    ensures first { result.0.now ≡ before 32 s.now }
+    ensures rest { option_copied result.1 ≡ rest_of s.now }
 {
-    let e = text::find(s, 0, b' ');
-    &s[..e]
+    match s.iter().position(|&b| b == b' ') {
+        Some(e) => (&s[..e], Some(&s[e + 1..])),
+        None => (s, None),
+    }
 }
 
-// What stands behind it.
-fn rest_of<'a>(s: &'a [u8]) -> &'a [u8]
-    ensures { result.now ≡ behind 32 s.now }
+// A call that names a slot, from its verb and what stands behind the slot.
+fn place_as(firm: u8, slot: usize, long: usize, verb: &[u8], more: Option<&[u8]>) -> Option<Ask>
+    ensures { result ≡ place_as firm slot long verb.now (option_copied more.entry) }
 {
-    let e = text::find(s, 0, b' ');
-    if e == s.len() {
-        return &s[e..];
+    match more {
+        Some(message) if verb == UPDATE => Some(Ask::Calls(Call::Update {
+            firm,
+            slot,
+            from: long.saturating_sub(message.len()),
+        })),
+        None if verb == CLEAR => Some(Ask::Calls(Call::Clear { firm, slot })),
+        None if verb == LOOK => Some(Ask::Look { firm, slot }),
+        _ => None,
     }
-    &s[e + 1..]
 }
 
-fn has_more(s: &[u8]) -> bool
-    ensures { result ≡ holds 32 s.now }
-{
-    text::find(s, 0, b' ') < s.len()
-}
-
-// A call that names a slot, from what stands from the slot on.
-fn place_as(firm: u8, slot: usize, long: usize, verb: &[u8], s: &[u8]) -> Ask
-    ensures { result ≡ place_as firm slot long verb.now s.now }
-{
-    if text::same_bytes(verb, b"UPDATE") {
-        if has_more(s) {
-            return Ask::Calls(Call::Update {
-                firm,
-                slot,
-                from: from_end(long, rest_of(s)),
-            });
-        }
-        return Ask::NoCall;
-    }
-    if has_more(s) {
-        return Ask::NoCall;
-    }
-    if text::same_bytes(verb, b"CLEAR") {
-        return Ask::Calls(Call::Clear { firm, slot });
-    }
-    if text::same_bytes(verb, b"LOOK") {
-        return Ask::Look { firm, slot };
-    }
-    Ask::NoCall
-}
-
-// Where a rest of a line of so many bytes begins.
-fn from_end(long: usize, rest: &[u8]) -> usize
-    ensures { result ≡ long - length rest.now }
-{
-    if long < rest.len() {
-        return 0;
-    }
-    long - rest.len()
-}
-
-fn slot_as(firm: u8, long: usize, verb: &[u8], s: &[u8]) -> Ask
+// What stands from the slot on, behind a verb.
+fn slot_as(firm: u8, long: usize, verb: &[u8], s: &[u8]) -> Option<Ask>
     ensures { result ≡ slot_as firm long verb.now s.now }
 {
-    let w = first_word(s);
-    if !is_number(w) {
-        return Ask::NoCall;
-    }
-    place_as(firm, number_in(w) as usize, long, verb, s)
+    let (slot, more) = cut(s);
+    place_as(firm, number_in(slot)? as usize, long, verb, more)
 }
 
-// A call, from what stands behind the firm.
-fn verb_as(firm: u8, long: usize, s: &[u8]) -> Ask
-    ensures { result ≡ verb_as firm long s.now }
+// A call, from its verb and what stands behind it.
+fn verb_as(firm: u8, long: usize, verb: &[u8], more: Option<&[u8]>) -> Option<Ask>
+    ensures { result ≡ verb_as firm long verb.now (option_copied more.entry) }
 {
-    let verb = first_word(s);
-    if text::same_bytes(verb, b"FILE") {
-        if has_more(s) {
-            return Ask::Calls(Call::File {
-                firm,
-                from: from_end(long, rest_of(s)),
-            });
-        }
-        return Ask::NoCall;
+    match more {
+        Some(message) if verb == FILE => Some(Ask::Calls(Call::File {
+            firm,
+            from: long.saturating_sub(message.len()),
+        })),
+        Some(place) => slot_as(firm, long, verb, place),
+        None if verb == LIST => Some(Ask::List(firm)),
+        None => None,
     }
-    if text::same_bytes(verb, b"LIST") {
-        if has_more(s) {
-            return Ask::NoCall;
-        }
-        return Ask::List(firm);
-    }
-    slot_as(firm, long, verb, rest_of(s))
 }
 
 // What a line asks for.
-pub fn ask_in(line: &[u8]) -> Ask
+pub fn ask_in(line: &[u8]) -> Option<Ask>
     ensures { result ≡ asked line.now }
 {
-    let w = first_word(line);
-    if !is_number(w) {
-        return Ask::NoCall;
-    }
-    verb_as(number_in(w), line.len(), rest_of(line))
+    let (number, more) = cut(line);
+    let firm = number_in(number)?;
+    let (verb, more) = cut(more?);
+    verb_as(firm, line.len(), verb, more)
 }
 
 // The message of a call: its line from a place on.
 pub fn message_of<'a>(line: &'a [u8], from: usize) -> &'a [u8]
     ensures { result.now ≡ drop from line.now }
 {
-    if line.len() < from {
-        return &line[line.len()..];
-    }
-    &line[from..]
+    line.get(from..).unwrap_or(&[])
 }

@@ -2,6 +2,7 @@
 use Prim.Native.Nat.{ℕ}
 use mathlib.Core.Path.{◌≡◌, refl, sym, ap, subst, fun_ext, ◌∙◌}
 use mathlib.Core.Bool.{Bool, true, false, ◌&&◌, cond, false≢true, and-true, and_assoc}
+use Rattle.std.specs.Prelude.{Option, Some}
 use mathlib.Core.List.{List, [], ◌∷◌, ◌++◌}
 use native.Mathlib.Omega.{arith}
 use lib.ListN.{length, take, drop, replicate}
@@ -65,18 +66,18 @@ module _ (j : Journal) (line : List ℕ) (ps : List Place) (lent : List ℕ) (z 
   pub makes_not : (call : Call) → keeps j ≡ true → Makes j call line ps lent ps lent
   makes_not call e = record { board_is = not_kept e refl; sized = z }
 
-  pub takes_call : (a : Ask) (call : Call) (qs : List Place) (left : List ℕ) → a ≡ asked line → a ≡ Calls call → Makes j call line ps lent qs left
+  pub takes_call : (a : Option Ask) (call : Call) (qs : List Place) (left : List ℕ) → a ≡ asked line → a ≡ Some (Calls call) → Makes j call line ps lent qs left
       → Takes j line ps lent qs left
   takes_call a call qs left e q m =
       record {
         board_is =
-            subst (λ (x : Ask). Kept (keeps j) (board_in ps lent) (after_ask x line (board_in ps lent)) (board_in qs left)) (sym q ∙ e) m.board_is;
+            subst (λ (x : Option Ask). Kept (keeps j) (board_in ps lent) (after_ask x line (board_in ps lent)) (board_in qs left)) (sym q ∙ e) m.board_is;
         sized = m.sized;
       }
 
-  pub takes_other : (a b : Ask) → a ≡ asked line → a ≡ b → after_ask b line (board_in ps lent) ≡ board_in ps lent → Takes j line ps lent ps lent
+  pub takes_other : (a b : Option Ask) → a ≡ asked line → a ≡ b → after_ask b line (board_in ps lent) ≡ board_in ps lent → Takes j line ps lent ps lent
   takes_other a b e q s =
-      record { board_is = done (sym (ap (λ (x : Ask). after_ask x line (board_in ps lent)) (sym e ∙ q) ∙ s)); sized = z }
+      record { board_is = done (sym (ap (λ (x : Option Ask). after_ask x line (board_in ps lent)) (sym e ∙ q) ∙ s)); sized = z }
 
 module _ (j : Journal) (w : Waiting) (line : List ℕ) (ps : List Place) (lent : List ℕ) where
   pub ends_long : Sized ps lent → w.over ≡ true → Ends j (waits_in w line) ps lent ps lent
@@ -88,10 +89,10 @@ module _ (j : Journal) (w : Waiting) (line : List ℕ) (ps : List Place) (lent :
 
 -- A LINE OF THE JOURNAL
 
-pub goes_on_lem : (line : List ℕ) (ps : List Place) (lent : List ℕ) (a : Ask) (call : Call) (t : Turn) (left : List ℕ) (g : Bool) → a ≡ asked line
-    → a ≡ Calls call → Turned (call_of call line) ps lent t left → g ≡ accepted_as t.verdict → g ≡ accepts_line (board_in ps lent) line
+pub goes_on_lem : (line : List ℕ) (ps : List Place) (lent : List ℕ) (a : Option Ask) (call : Call) (t : Turn) (left : List ℕ) (g : Bool) → a ≡ asked line
+    → a ≡ Some (Calls call) → Turned (call_of call line) ps lent t left → g ≡ accepted_as t.verdict → g ≡ accepts_line (board_in ps lent) line
 goes_on_lem line ps lent a call t left g e q k h =
-    h ∙ ap accepted_as k.verdict_is ∙ ap (λ (x : Ask). accepts_ask x line (board_in ps lent)) (sym q ∙ e)
+    h ∙ ap accepted_as k.verdict_is ∙ ap (λ (x : Option Ask). accepts_ask x line (board_in ps lent)) (sym q ∙ e)
 
 pub ends_again : (w : Waiting) (line : List ℕ) (ps : List Place) (lent : List ℕ) (r : Played) (left : List ℕ) → w.over ≡ false
     → TakesAgain (take w.n line) ps lent r left → EndsAgain (waits_in w line) ps lent r left
@@ -113,7 +114,7 @@ module _ (b : Rack) (r : Played) (e : r ≡ stopped b) where
   going_stopped : r.going ≡ false
   going_stopped = ap (λ (x : Played). x.going) e
 
-  pub takes_stopped : (line lent : List ℕ) → Sized b.places lent → (a k : Ask) → a ≡ asked line → a ≡ k
+  pub takes_stopped : (line lent : List ℕ) → Sized b.places lent → (a k : Option Ask) → a ≡ asked line → a ≡ k
       → after_ask k line (board_in b.places lent) ≡ board_in b.places lent → accepts_ask k line (board_in b.places lent) ≡ false
       → TakesAgain line b.places lent r lent
   takes_stopped line lent z a k i q s n =
@@ -121,7 +122,7 @@ module _ (b : Rack) (r : Played) (e : r ≡ stopped b) where
         takes =
             subst (λ (qs : List Place). Takes Nowhere line b.places lent qs lent) (sym places_stopped)
             (takes_other Nowhere line b.places lent z a k i q s);
-        going_is = going_stopped ∙ sym (ap (λ (x : Ask). accepts_ask x line (board_in b.places lent)) (sym i ∙ q) ∙ n);
+        going_is = going_stopped ∙ sym (ap (λ (x : Option Ask). accepts_ask x line (board_in b.places lent)) (sym i ∙ q) ∙ n);
       }
 
   pub ends_stopped : (w : Waiting) (line lent : List ℕ) → Sized b.places lent → w.over ≡ true → EndsAgain (waits_in w line) b.places lent r lent

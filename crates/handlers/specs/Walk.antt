@@ -1,6 +1,6 @@
 -- The walk of the program `handlers` over its input and over its journal: how bytes become lines, and the board after each. Where there is a journal, an
 -- accepted call that cannot be kept leaves the board as it was. Assumes nothing.
-use Rattle.std.specs.Prelude.{ℕ, ◌≡◌, refl, Bool, true, false, ◌&&◌, cond, List, [], ◌∷◌, ◌++◌, length, drop}
+use Rattle.std.specs.Prelude.{ℕ, ◌≡◌, refl, Bool, true, false, ◌&&◌, cond, List, [], ◌∷◌, ◌++◌, Option, Some, None, length, drop}
 use Rattle.alphabet.specs.Text.{bytes}
 use Rattle.rooms.specs.Rooms.{Board, empty, said, after}
 use Rattle.rooms.specs.Rooms.{Call as OnBoard}
@@ -13,7 +13,7 @@ use Rattle.board.specs.Turns.{told, filing, updating, clearing}
 use Rattle.calls.specs.declared.Call.{Call}
 use Rattle.calls.specs.declared.Call.TheVariants.{File, Update, Clear}
 use Rattle.calls.specs.declared.Ask.{Ask}
-use Rattle.calls.specs.declared.Ask.TheVariants.{Calls, Look, List as Lists, NoCall}
+use Rattle.calls.specs.declared.Ask.TheVariants.{Calls, Look, List as Lists}
 use Rattle.calls.specs.Lines.{asked}
 use Rattle.journal.specs.declared.Journal.{Journal}
 use Rattle.journal.specs.declared.Journal.TheVariants.{Nowhere, At}
@@ -34,22 +34,22 @@ accepted_as (Refused number field place) = false
 
 -- THE BOARD AFTER A LINE: what is no call on the board leaves it
 
-abbrev pub after_ask : Ask → List ℕ → Board house → Board house
-after_ask (Calls c) line b = after house b (call_of c line)
-after_ask (Look firm slot) line b = b
-after_ask (Lists firm) line b = b
-after_ask NoCall line b = b
+abbrev pub after_ask : Option Ask → List ℕ → Board house → Board house
+after_ask (Some (Calls c)) line b = after house b (call_of c line)
+after_ask (Some (Look firm slot)) line b = b
+after_ask (Some (Lists firm)) line b = b
+after_ask None line b = b
 
 abbrev pub after_line : Board house → List ℕ → Board house
 after_line b line = after_ask (asked line) line b
 
 -- A LINE THAT CAN STAND IN A JOURNAL: a call that is accepted
 
-abbrev pub accepts_ask : Ask → List ℕ → Board house → Bool
-accepts_ask (Calls c) line b = accepted_as (told (said house b (call_of c line)))
-accepts_ask (Look firm slot) line b = false
-accepts_ask (Lists firm) line b = false
-accepts_ask NoCall line b = false
+abbrev pub accepts_ask : Option Ask → List ℕ → Board house → Bool
+accepts_ask (Some (Calls c)) line b = accepted_as (told (said house b (call_of c line)))
+accepts_ask (Some (Look firm slot)) line b = false
+accepts_ask (Some (Lists firm)) line b = false
+accepts_ask None line b = false
 
 abbrev pub accepts_line : Board house → List ℕ → Bool
 accepts_line b line = accepts_ask (asked line) line b

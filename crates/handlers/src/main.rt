@@ -79,16 +79,16 @@ fn take<R: Print>(
     ensures { Takes journal.entry line.now board.places bytes.old result.places bytes.new }
 {
     match calls::ask_in(line) {
-        Ask::Calls(call) => make(console, board, journal, call, line, bytes),
-        Ask::Look { firm, slot } => {
+        Some(Ask::Calls(call)) => make(console, board, journal, call, line, bytes),
+        Some(Ask::Look { firm, slot }) => {
             say_board::show_strip(console, board, firm, slot, bytes);
             board
         }
-        Ask::List(firm) => {
+        Some(Ask::List(firm)) => {
             say_board::show_list(console, board, firm, bytes);
             board
         }
-        Ask::NoCall => {
+        None => {
             say::print(console, b"BAD LINE\n");
             board
         }
@@ -158,20 +158,16 @@ fn replay_line(board: Board, line: &[u8], bytes: &mut [u8; 36000]) -> Played
     requires { Sized board.places bytes.old }
     ensures { TakesAgain line.now board.places bytes.old result bytes.new }
 {
-    match calls::ask_in(line) {
-        Ask::Calls(call) => {
-            let t = play(board, call, line, bytes);
-            let b = t.board;
-            let v = t.verdict;
-            Played {
-                board: b,
-                torn: 0,
-                going: is_accepted(v),
-            }
-        }
-        Ask::Look { .. } => stuck(board),
-        Ask::List(_) => stuck(board),
-        Ask::NoCall => stuck(board),
+    let Some(Ask::Calls(call)) = calls::ask_in(line) else {
+        return stuck(board);
+    };
+    let t = play(board, call, line, bytes);
+    let b = t.board;
+    let v = t.verdict;
+    Played {
+        board: b,
+        torn: 0,
+        going: is_accepted(v),
     }
 }
 

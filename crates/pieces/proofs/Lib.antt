@@ -1,2 +1,1 @@
-pub mod White
 pub mod Walk

@@ -8,14 +8,14 @@ ghost use Rattle.pieces.specs.Pieces.{white_ahead, piece_end};
 pub fn skip_white(s: &[u8], from: usize) -> usize
     ensures { result ≡ from + white_ahead (drop from s.now) }
 {
-    let mut i = from;
-    while i < s.len() {
-        if !alphabet::is_white(s[i]) {
-            return i;
-        }
-        i += 1;
+    if s.len() < from {
+        return from;
     }
-    i
+    let rest = &s[from..];
+    from + rest
+        .iter()
+        .position(|&b| !alphabet::is_white(b))
+        .unwrap_or(rest.len())
 }
 
 // Where the piece that begins at `from` ends: behind the next `)`, or at the end.
