@@ -1,7 +1,7 @@
 -- `aerodromes::fits_field13` meets its contract. Assumes nothing.
-use Rattle.shape.proofs.Times.{by_clock}
+use Rattle.shape.proofs.Times.{by_time}
 use Rattle.aerodromes.proofs.fits_field13.Goals as goal
 
 pub returns : goal.returns
 returns c =
-    by_clock _ c.at_clock.ensures c.is_time_of_day.ensures
+    by_time _ c.at_clock.ensures c.is_some.ensures

@@ -1,7 +1,7 @@
 -- `supplement::first` meets its contract. Assumes nothing.
 use Rattle.supplement.specs.declared.Stage.TheVariants.{Endurance, Persons, Radio, Survival, Lights, Aircraft, Remarks, Pilot}
 use Rattle.shape.specs.Time.{elapsed_fits}
-use Rattle.shape.proofs.Times.{by_elapsed}
+use Rattle.shape.proofs.Times.{by_time}
 use Rattle.supplement.specs.Field19.{keyed}
 use Rattle.supplement.proofs.Steps.{as_taken, no_letter}
 use Rattle.supplement.proofs.first.Goals as goal
@@ -11,7 +11,7 @@ unfolding keyed
 returns-in-69 c =
     let w = c.args.w.now in
     rw c.in-69.is
-    (as_taken {p = elapsed_fits w} Endurance c.taken.ensures (by_elapsed _ c.read.ensures c.is_elapsed.ensures))
+    (as_taken {p = elapsed_fits w} Endurance c.taken.ensures (by_time _ c.read.ensures c.is_some.ensures))
 
 pub returns-in-80 : goal.returns-in-80
 unfolding keyed
