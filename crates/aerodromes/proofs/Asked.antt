@@ -6,10 +6,9 @@ use mathlib.Core.List.{List, [], ◌∷◌, ◌++◌}
 use native.Mathlib.Omega.{arith}
 use lib.ListN.{length, take, drop, length-take, length-drop, take-append-drop}
 use lib.Seq.{take_all, take_at, take-append-le, drop-append-le}
+use Rattle.std.specs.Prelude.{Some}
 use Rattle.alphabet.specs.Alphabet.{letter}
 use Rattle.text.specs.Words.{Word, all, elem, split, up_to}
-use Rattle.shape.specs.declared.ClockRead.TheVariants.{TimeOfDay}
-use Rattle.shape.specs.declared.ElapsedRead.TheVariants.{ElapsedTime}
 use Rattle.shape.specs.Time.{clock_hours, elapsed_hours, time_fits, clock_fits, clock_of, clock_read, elapsed_read}
 use Rattle.shape.proofs.Times.{time_length}
 use Rattle.aerodromes.specs.Aerodromes.{four_letters, aerodrome_of, joined_of, joined, first}
@@ -17,7 +16,7 @@ use Rattle.aerodromes.specs.Field13.{fits13, record13, fits13open, record13open,
 use Rattle.aerodromes.specs.Field16.{fits16, record16, fits16plan, record16plan}
 use Rattle.aerodromes.specs.Field17.{fits17, record17}
 use Rattle.aerodromes.specs.declared.Aerodrome.{Aerodrome}
-use Rattle.aerodromes.specs.Asked.{clock_at, read_if_any, elapsed_at, has_alternate, aerodrome_in, four_bytes, is_letters}
+use Rattle.aerodromes.specs.Asked.{clock_at, elapsed_at, has_alternate, aerodrome_in, four_bytes, is_letters}
 use Rattle.aerodromes.proofs.Aerodromes.{four_length, four_letters_lem, joined_four, joined_time, joined_length}
 use Rattle.aerodromes.proofs.Index.{first_at, clock_short}
 use Rattle.aerodromes.proofs.Field13.{open_parts}
@@ -96,31 +95,31 @@ named17 s e =
 
 -- THE TIME OF DAY
 
-clock_is : (s : List ℕ) (w : Word) → take 4 (joined_of s) ≡ w → clock_fits w ≡ true → clock_at s ≡ TimeOfDay (clock_of w)
+clock_is : (s : List ℕ) (w : Word) → take 4 (joined_of s) ≡ w → clock_fits w ≡ true → clock_at s ≡ Some (clock_of w)
 clock_is s w p e = ap clock_read p ∙ rw e
 
-clock_whole : (s : List ℕ) → clock_fits (joined_of s) ≡ true → clock_at s ≡ TimeOfDay (clock_of (joined_of s))
+clock_whole : (s : List ℕ) → clock_fits (joined_of s) ≡ true → clock_at s ≡ Some (clock_of (joined_of s))
 clock_whole s e = clock_is s (joined_of s) (take_all 4 (joined_of s) (omega (arith, time_length clock_hours (joined_of s) e))) e
 
-pub clock13 : (s : List ℕ) → fits13 s ≡ true → clock_at s ≡ TimeOfDay (record13 s).time
+pub clock13 : (s : List ℕ) → fits13 s ≡ true → clock_at s ≡ Some (record13 s).time
 clock13 s e = clock_whole s (joined_time clock_hours s e)
 
-pub clock13open : (s : List ℕ) → fits13open s ≡ true → clock_at s ≡ read_if_any (record13open s).time
+pub clock13open : (s : List ℕ) → fits13open s ≡ true → clock_at s ≡ (record13open s).time
 clock13open s e = go (joined_of s) refl (open_parts s e).1
   where
-    go : (w : Word) → joined_of s ≡ w → clock_or_none w ≡ true → clock_at s ≡ read_if_any (clock_if_any w)
+    go : (w : Word) → joined_of s ≡ w → clock_or_none w ≡ true → clock_at s ≡ clock_if_any w
     go [] q h = clock_short s (omega (arith, sym (length-drop 4 s) ∙ ap length q))
     go (b ∷ w) q h =
         clock_is s (b ∷ w) (ap (take 4) q ∙ take_all 4 (b ∷ w) (omega (arith, time_length clock_hours (b ∷ w) h))) h
 
-pub clock17 : (s : List ℕ) → fits17 s ≡ true → clock_at s ≡ TimeOfDay (record17 s).time
+pub clock17 : (s : List ℕ) → fits17 s ≡ true → clock_at s ≡ Some (record17 s).time
 clock17 s e =
     let t = (landed_parts s e).0 in
     clock_is s (joined_of (first (split 32 s))) (front_joined clock_hours s t) (joined_time clock_hours (first (split 32 s)) t)
 
 -- THE ELAPSED TIME
 
-pub elapsed16plan : (s : List ℕ) → fits16plan s ≡ true → elapsed_at s ≡ ElapsedTime (record16plan s).elapsed
+pub elapsed16plan : (s : List ℕ) → fits16plan s ≡ true → elapsed_at s ≡ Some (record16plan s).elapsed
 elapsed16plan s e =
     let t = (plan_parts s e).0 in
     ap elapsed_read (front_joined elapsed_hours s t) ∙ rw (time_there elapsed_hours s t)

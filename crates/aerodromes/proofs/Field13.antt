@@ -3,9 +3,9 @@ use Prim.Native.Nat.{ℕ}
 use mathlib.Core.Path.{◌≡◌, refl, ap, ap₂, ◌∙◌}
 use mathlib.Core.Bool.{true}
 use mathlib.Core.List.{List, [], ◌∷◌, ◌++◌}
-use mathlib.Core.Option.{Option, none, some}
 use native.Mathlib.Omega.{arith}
 use lib.ListN.{take, drop, take-append-drop}
+use Rattle.std.specs.Prelude.{Option, Some, None}
 use Rattle.alphabet.specs.Alphabet.{digit}
 use Rattle.text.specs.Words.{Word, all}
 use Rattle.text.proofs.Tests.{both, and_both}
@@ -58,15 +58,15 @@ if_any_digits [] e = refl
 if_any_digits (b ∷ w) e = time_digits clock_hours (b ∷ w) e
 
 -- four digits are not nothing
-if_clock : (w : Word) → clock_fits w ≡ true → (clock_or_none w ≡ true) × (clock_if_any w ≡ some (clock_of w))
+if_clock : (w : Word) → clock_fits w ≡ true → (clock_or_none w ≡ true) × (clock_if_any w ≡ Some (clock_of w))
 if_clock [] e = absurd (omega (arith, time_length clock_hours [] e))
 if_clock (b ∷ w) e = (e, refl)
 
 if_any_back : (t : Option Clock) → valid_if_any t ≡ true → (clock_or_none (spell_if_any t) ≡ true) × (clock_if_any (spell_if_any t) ≡ t)
-if_any_back none v = (refl, refl)
-if_any_back (some t) v =
+if_any_back None v = (refl, refl)
+if_any_back (Some t) v =
     let h = if_clock (spell_clock t) (time_fits_lem clock_hours t.0 (omega arith) v) in
-    (h.0, h.1 ∙ ap (λ (n : ℕ). some (record { 0 = n })) (time_minutes_lem clock_hours t.0 (omega arith) v))
+    (h.0, h.1 ∙ ap (λ (n : ℕ). Some (record { 0 = n })) (time_minutes_lem clock_hours t.0 (omega arith) v))
 
 -- FIELD 13 IN RQP
 

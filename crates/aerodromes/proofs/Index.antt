@@ -4,22 +4,24 @@ use mathlib.Core.Path.{◌≡◌, refl, sym, ap, ◌∙◌}
 use mathlib.Core.Bool.{Bool, true, false, ◌&&◌}
 use mathlib.Core.List.{List, [], ◌∷◌}
 use native.Mathlib.Omega.{arith}
-use lib.Dec.{eqb}
-use lib.ListN.{length, take, drop, length-drop}
+use lib.Dec.{leb, eqb, leb-suc-zero, leb-suc-suc}
+use lib.ListN.{length, take, drop, length-take, length-drop}
 use lib.Seq.{take_all}
-use borrow.Author.Tests.{eqb-true, eqb-false}
+use borrow.Author.Tests.{le-leb, eqb-true, eqb-false}
+use Rattle.std.specs.Prelude.{Option, None}
+use Rattle.std.specs.Bool.{then_some}
+use Rattle.std.specs.Option.{option_and_then}
 use Rattle.text.specs.Words.{Word, all, null, same, split, up_to, text_word}
-use Rattle.text.proofs.Index.{split_at, after_here, after_end, drop_end, rest, null-split}
-use Rattle.shape.specs.declared.ClockRead.TheVariants.{NoTimeOfDay}
-use Rattle.shape.specs.declared.ElapsedRead.TheVariants.{NoElapsedTime}
-use Rattle.shape.specs.Time.{time_fits, clock_hours, clock_fits, clock_read, elapsed_hours, elapsed_read}
+use Rattle.text.proofs.Index.{split_at, after_here, after_end, drop_end, null-split}
+use Rattle.text.proofs.Tests.{and_false}
+use Rattle.shape.specs.Time.{time_fits, clock_hours, clock_fits, clock_of, clock_read, elapsed_hours, elapsed_fits, elapsed_of, elapsed_read}
 use Rattle.shape.proofs.Times.{time_length}
 use Rattle.aerodromes.specs.Aerodromes.{four_letters, joined, at_clock, at_elapsed, first, others}
 use Rattle.aerodromes.specs.Field13.{clock_or_none, fits13open}
 use Rattle.aerodromes.specs.Field16.{few_aerodromes, most_alternates, fits16plan}
 use Rattle.aerodromes.specs.Field17.{unlisted, fits17}
 use Rattle.aerodromes.specs.Asked.{clock_at, elapsed_at}
-use Rattle.aerodromes.proofs.Aerodromes.{four_length, joined_length}
+use Rattle.aerodromes.proofs.Aerodromes.{four_length}
 
 -- a test that does not hold
 not_so : (b : Bool) → (b ≡ true → ⊥) → b ≡ false
@@ -28,22 +30,23 @@ not_so false h = refl
 
 -- AN AERODROME AND A TIME
 
-pub joined_short : (most : ℕ) (w : Word) → length w < 4 → joined most w ≡ false
-joined_short most w h = not_so (joined most w) (λ e. omega (arith, joined_length most w e))
+pub letters_short : (w : Word) → length w < 4 → four_letters (take 4 w) ≡ false
+letters_short w h = not_so (four_letters (take 4 w)) (λ e. omega (arith, four_length (take 4 w) e, length-take 4 w))
 
-pub joined_stop : (most : ℕ) (w : Word) → four_letters (take 4 w) ≡ false → joined most w ≡ false
+-- what is read behind a test is there where both tests hold
+both_some : {A T : Type 0} (read : A → Option T) (p q : Bool) (a : A) (t : T) → read a ≡ then_some q t
+    → option_and_then read (then_some p a) ≡ then_some (p && q) t
+both_some read true q a t e = e
+both_some read false q a t e = refl
+
+-- a time is read from what is joined to four letters
+pub clock_joined : (w : Word) → option_and_then clock_read (then_some (four_letters (take 4 w)) (drop 4 w)) ≡ at_clock w
 unfolding joined
-joined_stop most w e = rw e
+clock_joined w = both_some clock_read (four_letters (take 4 w)) (clock_fits (drop 4 w)) (drop 4 w) (clock_of (drop 4 w)) refl
 
--- what is read behind four letters
-module _ (w : Word) (e : four_letters (take 4 w) ≡ true) where
-  pub clock_rest : clock_read (take (length w - 4) (drop 4 w)) ≡ at_clock w
-  unfolding joined
-  clock_rest = rw (e, rest w 4)
-
-  pub elapsed_rest : elapsed_read (take (length w - 4) (drop 4 w)) ≡ at_elapsed w
-  unfolding joined
-  elapsed_rest = rw (e, rest w 4)
+pub elapsed_joined : (w : Word) → option_and_then elapsed_read (then_some (four_letters (take 4 w)) (drop 4 w)) ≡ at_elapsed w
+unfolding joined
+elapsed_joined w = both_some elapsed_read (four_letters (take 4 w)) (elapsed_fits (drop 4 w)) (drop 4 w) (elapsed_of (drop 4 w)) refl
 
 -- a time that may be absent
 
@@ -70,10 +73,10 @@ module _ (s : List ℕ) (h : length s < 8) where
       not_so (time_fits most (take 4 (drop 4 s)))
       (λ e. omega (arith, sym (ap length (take_all 4 (drop 4 s) n)) ∙ time_length most (take 4 (drop 4 s)) e, length-drop 4 s))
 
-  pub clock_short : clock_at s ≡ NoTimeOfDay
+  pub clock_short : clock_at s ≡ None
   clock_short = rw (time_short clock_hours)
 
-  pub elapsed_short : elapsed_at s ≡ NoElapsedTime
+  pub elapsed_short : elapsed_at s ≡ None
   elapsed_short = rw (time_short elapsed_hours)
 
 -- THE WORDS OF A CONTENT, the first of which ends at e

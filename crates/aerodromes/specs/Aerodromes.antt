@@ -1,13 +1,12 @@
 -- What fields 13, 16 and 17 (document 01) share: an aerodrome, a time joined to it, and the words behind. Assumes nothing.
-use Rattle.std.specs.Prelude.{ℕ, ◌≡◌, refl, Bool, true, false, ◌&&◌, List, [], ◌∷◌, ◌++◌, eqb, length, take, drop}
+use Rattle.std.specs.Prelude.{ℕ, ◌≡◌, refl, Bool, true, false, ◌&&◌, List, [], ◌∷◌, ◌++◌, eqb, length, take, drop, Option, Some, None}
+use Rattle.std.specs.Bool.{then_some}
 use Rattle.alphabet.specs.Text.{bytes}
 use Rattle.alphabet.specs.Alphabet.{letter}
 use Rattle.text.specs.Words.{Word, all, split}
-use Rattle.shape.specs.declared.ClockRead.{ClockRead}
-use Rattle.shape.specs.declared.ClockRead.TheVariants.{TimeOfDay, NoTimeOfDay}
-use Rattle.shape.specs.declared.ElapsedRead.{ElapsedRead}
-use Rattle.shape.specs.declared.ElapsedRead.TheVariants.{ElapsedTime, NoElapsedTime}
-use Rattle.shape.specs.Time.{time_fits, spell_time, valid_time, clock_hours, clock_of, pick_clock, elapsed_hours, elapsed_of, pick_elapsed}
+use Rattle.shape.specs.declared.Clock.{Clock}
+use Rattle.shape.specs.declared.Elapsed.{Elapsed}
+use Rattle.shape.specs.Time.{time_fits, spell_time, valid_time, clock_hours, clock_of, elapsed_hours, elapsed_of}
 
 -- AN AERODROME: four letters
 
@@ -34,11 +33,11 @@ spell_joined a n = a ++ spell_time n
 
 -- the time so joined, if there is one: a time of day, an elapsed time
 
-abbrev pub at_clock : Word → ClockRead
-at_clock w = pick_clock (joined clock_hours w) (clock_of (joined_of w))
+abbrev pub at_clock : Word → Option Clock
+at_clock w = then_some (joined clock_hours w) (clock_of (joined_of w))
 
-abbrev pub at_elapsed : Word → ElapsedRead
-at_elapsed w = pick_elapsed (joined elapsed_hours w) (elapsed_of (joined_of w))
+abbrev pub at_elapsed : Word → Option Elapsed
+at_elapsed w = then_some (joined elapsed_hours w) (elapsed_of (joined_of w))
 
 -- THE WORDS OF A CONTENT: the first, and those behind it, each after one space
 
@@ -60,9 +59,9 @@ time_joined : (joined clock_hours (bytes "EHAM0930") ≡ true) × (joined clock_
 unfolding joined four_letters time_fits
 time_joined = (refl, refl, refl)
 
-time_read : (at_clock (bytes "EHAM0930") ≡ TimeOfDay (record { 0 = 570 })) × (at_clock (bytes "EHAM2400") ≡ NoTimeOfDay)
-    × (at_clock (bytes "EHA10930") ≡ NoTimeOfDay)
-    × (at_elapsed (bytes "EDDF0100") ≡ ElapsedTime (record { 0 = 60 })) × (at_elapsed (bytes "EDDF") ≡ NoElapsedTime)
+time_read : (at_clock (bytes "EHAM0930") ≡ Some (record { 0 = 570 })) × (at_clock (bytes "EHAM2400") ≡ None)
+    × (at_clock (bytes "EHA10930") ≡ None)
+    × (at_elapsed (bytes "EDDF0100") ≡ Some (record { 0 = 60 })) × (at_elapsed (bytes "EDDF") ≡ None)
 unfolding joined four_letters time_fits
 time_read = (refl, refl, refl, refl, refl)
 

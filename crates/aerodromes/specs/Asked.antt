@@ -1,29 +1,20 @@
 -- What is asked of a content of field 13, 16 or 17, whatever its bytes: the aerodrome, the time, the alternates. Assumes nothing.
-use Rattle.std.specs.Prelude.{ℕ, ◌≡◌, refl, Bool, true, false, List, [], ◌∷◌, take, get_or}
-use Rattle.std.proofs.Math.Option.{Option, none, some}
+use Rattle.std.specs.Prelude.{ℕ, ◌≡◌, refl, Bool, true, false, List, [], ◌∷◌, take, get_or, Option, Some, None}
 use Rattle.alphabet.specs.Text.{bytes}
 use Rattle.alphabet.specs.Alphabet.{letter}
 use Rattle.text.specs.Words.{Word, all, elem, split}
 use Rattle.shape.specs.declared.Clock.{Clock}
-use Rattle.shape.specs.declared.ClockRead.{ClockRead}
-use Rattle.shape.specs.declared.ClockRead.TheVariants.{TimeOfDay, NoTimeOfDay}
-use Rattle.shape.specs.declared.ElapsedRead.{ElapsedRead}
-use Rattle.shape.specs.declared.ElapsedRead.TheVariants.{ElapsedTime, NoElapsedTime}
+use Rattle.shape.specs.declared.Elapsed.{Elapsed}
 use Rattle.shape.specs.Time.{time_fits, clock_read, elapsed_read}
 use Rattle.aerodromes.specs.declared.Aerodrome.{Aerodrome}
 use Rattle.aerodromes.specs.Aerodromes.{joined_of, others}
 
 -- the time of day that is joined to the aerodrome, if it is one
-abbrev pub clock_at : List ℕ → ClockRead
+abbrev pub clock_at : List ℕ → Option Clock
 clock_at s = clock_read (take 4 (joined_of s))
 
--- what that is where the time may be absent
-abbrev pub read_if_any : Option Clock → ClockRead
-read_if_any none = NoTimeOfDay
-read_if_any (some t) = TimeOfDay t
-
 -- the elapsed time that is joined to the aerodrome, if it is one
-abbrev pub elapsed_at : List ℕ → ElapsedRead
+abbrev pub elapsed_at : List ℕ → Option Elapsed
 elapsed_at s = elapsed_read (take 4 (joined_of s))
 
 -- the words behind the first: the alternates of field 16
@@ -47,8 +38,8 @@ is_letters a = all letter (four_bytes a)
 
 -- EXAMPLES, computed
 
-asked : (clock_at (bytes "EHAM1433 X") ≡ TimeOfDay (record { 0 = 873 })) × (clock_at (bytes "LHBP") ≡ NoTimeOfDay)
-    × (elapsed_at (bytes "EDDF0100 EDDK") ≡ ElapsedTime (record { 0 = 60 })) × (elapsed_at (bytes "EDDF0160") ≡ NoElapsedTime)
+asked : (clock_at (bytes "EHAM1433 X") ≡ Some (record { 0 = 873 })) × (clock_at (bytes "LHBP") ≡ None)
+    × (elapsed_at (bytes "EDDF0100 EDDK") ≡ Some (record { 0 = 60 })) × (elapsed_at (bytes "EDDF0160") ≡ None)
     × (has_alternate (bytes "EDDF0100 EDDK EDDL") (bytes "EDDL") ≡ true)
     × (has_alternate (bytes "EDDF0100 EDDK") (bytes "EDDF") ≡ false) × (has_alternate (bytes "EDDF0100") [] ≡ false)
 unfolding time_fits

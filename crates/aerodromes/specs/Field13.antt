@@ -1,6 +1,5 @@
 -- Field 13 (document 01): four letters and a time of day; and its form in RQP, where the time may be absent. Assumes nothing.
-use Rattle.std.specs.Prelude.{ℕ, ◌≡◌, refl, Bool, true, false, ◌&&◌, List, [], ◌∷◌, ◌++◌}
-use Rattle.std.proofs.Math.Option.{Option, none, some}
+use Rattle.std.specs.Prelude.{ℕ, ◌≡◌, refl, Bool, true, false, ◌&&◌, List, [], ◌∷◌, ◌++◌, Option, Some, None}
 use Rattle.alphabet.specs.Text.{bytes}
 use Rattle.text.specs.Words.{Word}
 use Rattle.shape.specs.declared.Clock.{Clock}
@@ -38,16 +37,16 @@ clock_or_none [] = true
 clock_or_none (b ∷ w) = clock_fits (b ∷ w)
 
 abbrev pub clock_if_any : Word → Option Clock
-clock_if_any [] = none
-clock_if_any (b ∷ w) = some (clock_of (b ∷ w))
+clock_if_any [] = None
+clock_if_any (b ∷ w) = Some (clock_of (b ∷ w))
 
 abbrev pub valid_if_any : Option Clock → Bool
-valid_if_any none = true
-valid_if_any (some t) = valid_clock t
+valid_if_any None = true
+valid_if_any (Some t) = valid_clock t
 
 abbrev pub spell_if_any : Option Clock → Word
-spell_if_any none = []
-spell_if_any (some t) = spell_clock t
+spell_if_any None = []
+spell_if_any (Some t) = spell_clock t
 
 pub record Field13Open : Type 0 where
   pub aerodrome : Word
@@ -80,9 +79,9 @@ refused_13 : (fits13 (bytes "EHAM2400") ≡ false) × (fits13 (bytes "EHAM2460")
 unfolding joined four_letters time_fits
 refused_13 = (refl, refl, refl, refl, refl, refl)
 
-open_13 : (fits13open (bytes "LHBP") ≡ true) × (record13open (bytes "LHBP") ≡ record { aerodrome = bytes "LHBP"; time = none })
+open_13 : (fits13open (bytes "LHBP") ≡ true) × (record13open (bytes "LHBP") ≡ record { aerodrome = bytes "LHBP"; time = None })
     × (fits13open (bytes "EHAM0930") ≡ true)
-    × (record13open (bytes "EHAM0930") ≡ record { aerodrome = bytes "EHAM"; time = some (record { 0 = 570 }) })
+    × (record13open (bytes "EHAM0930") ≡ record { aerodrome = bytes "EHAM"; time = Some (record { 0 = 570 }) })
     × (fits13open (bytes "EHAM2400") ≡ false) × (fits13open (bytes "LHB") ≡ false) × (fits13open (bytes "LHBP ") ≡ false) × (fits13open [] ≡ false)
 unfolding fits13open four_letters time_fits
 open_13 = (refl, refl, refl, refl, refl, refl, refl, refl)

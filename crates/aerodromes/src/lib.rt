@@ -1,13 +1,17 @@
 // Fields 13, 16 and 17: aerodromes and the times joined to them.
 #![tactic(auto)]
 
-ghost use Rattle.std.specs.Prelude.{◌≡◌, ℕ, take, get_or};
+ghost use Rattle.std.specs.Prelude.{◌≡◌, ℕ, take, drop, get_or};
+ghost use Rattle.std.specs.Bool.{then_some};
+ghost use Rattle.std.specs.Option.{option_copied};
 ghost use Rattle.text.specs.Words.{all, split, text_word};
 ghost use Rattle.aerodromes.specs.Aerodromes.{four_letters, at_clock, at_elapsed, aerodrome_of};
 ghost use Rattle.aerodromes.specs.Field13.{fits13, fits13open};
 ghost use Rattle.aerodromes.specs.Field16.{fits16, fits16plan, fits16entry, few_aerodromes, most_alternates};
 ghost use Rattle.aerodromes.specs.Field17.{fits17};
 ghost use Rattle.aerodromes.specs.Asked.{clock_at, elapsed_at, has_alternate, aerodrome_in, is_letters};
+
+use shape::{Clock, Elapsed};
 
 // Whether w is four letters.
 pub fn four_letters(w: &[u8]) -> bool
@@ -19,36 +23,36 @@ pub fn four_letters(w: &[u8]) -> bool
     text::all_of(text::Kind::Letter, w)
 }
 
+// What is joined to an aerodrome: the bytes behind the four letters that w begins with, if it does.
+fn joined_to<'a>(w: &'a [u8]) -> Option<&'a [u8]>
+    ensures { option_copied result ≡ then_some (four_letters (take 4 w.now)) (drop 4 w.now) }
+{
+    let (aerodrome, joined) = w.split_at_checked(4)?;
+    if four_letters(aerodrome) {
+        Some(joined)
+    } else {
+        None
+    }
+}
+
 // The time of day joined to an aerodrome, if w is the two.
-pub fn at_clock(w: &[u8]) -> shape::ClockRead
+pub fn at_clock(w: &[u8]) -> Option<Clock>
     ensures { result ≡ at_clock w.now }
 {
-    if w.len() < 4 {
-        return shape::ClockRead::NoTimeOfDay;
-    }
-    if !four_letters(&w[..4]) {
-        return shape::ClockRead::NoTimeOfDay;
-    }
-    shape::Clock::read(&w[4..])
+    Clock::read(joined_to(w)?)
 }
 
 // The elapsed time joined to an aerodrome, if w is the two.
-pub fn at_elapsed(w: &[u8]) -> shape::ElapsedRead
+pub fn at_elapsed(w: &[u8]) -> Option<Elapsed>
     ensures { result ≡ at_elapsed w.now }
 {
-    if w.len() < 4 {
-        return shape::ElapsedRead::NoElapsedTime;
-    }
-    if !four_letters(&w[..4]) {
-        return shape::ElapsedRead::NoElapsedTime;
-    }
-    shape::Elapsed::read(&w[4..])
+    Elapsed::read(joined_to(w)?)
 }
 
 pub fn fits_field13(s: &[u8]) -> bool
     ensures { result ≡ fits13 s.now }
 {
-    at_clock(s).is_time_of_day()
+    at_clock(s).is_some()
 }
 
 // Field 13 in RQP, where the time may be absent.
@@ -58,7 +62,7 @@ pub fn fits_field13_open(s: &[u8]) -> bool
     if four_letters(s) {
         return true;
     }
-    at_clock(s).is_time_of_day()
+    at_clock(s).is_some()
 }
 
 pub fn fits_field16(s: &[u8]) -> bool
@@ -84,7 +88,7 @@ pub fn fits_field16_plan(s: &[u8]) -> bool
     ensures { result ≡ fits16plan s.now }
 {
     let e = text::find(s, 0, b' ');
-    if !at_elapsed(&s[..e]).is_elapsed() {
+    if !at_elapsed(&s[..e]).is_some() {
         return false;
     }
     if e == s.len() {
@@ -117,7 +121,7 @@ pub fn fits_field17(s: &[u8]) -> bool
     ensures { result ≡ fits17 s.now }
 {
     let e = text::find(s, 0, b' ');
-    if !at_clock(&s[..e]).is_time_of_day() {
+    if !at_clock(&s[..e]).is_some() {
         return false;
     }
     if aerodrome_of(&s[..e]) == UNLISTED {
@@ -140,23 +144,17 @@ pub fn aerodrome_of<'a>(s: &'a [u8]) -> &'a [u8]
 }
 
 // The time of day behind the first four bytes, if one stands there.
-pub fn clock(s: &[u8]) -> shape::ClockRead
+pub fn clock(s: &[u8]) -> Option<Clock>
     ensures { result ≡ clock_at s.now }
 {
-    if s.len() < 8 {
-        return shape::ClockRead::NoTimeOfDay;
-    }
-    shape::Clock::read(&s[4..8])
+    Clock::read(s.get(4..8)?)
 }
 
 // The elapsed time behind the first four bytes, if one stands there.
-pub fn elapsed(s: &[u8]) -> shape::ElapsedRead
+pub fn elapsed(s: &[u8]) -> Option<Elapsed>
     ensures { result ≡ elapsed_at s.now }
 {
-    if s.len() < 8 {
-        return shape::ElapsedRead::NoElapsedTime;
-    }
-    shape::Elapsed::read(&s[4..8])
+    Elapsed::read(s.get(4..8)?)
 }
 
 // Whether an aerodrome of that name is one of the alternates.

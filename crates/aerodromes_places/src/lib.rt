@@ -40,7 +40,7 @@ fn plan_fits(n: usize, w: &[u8]) -> bool
     ensures { result ≡ ended (plan.after n w.now) }
 {
     if n == 0 {
-        return aerodromes::at_elapsed(w).is_elapsed();
+        return aerodromes::at_elapsed(w).is_some();
     }
     if n > 2 {
         return false;
@@ -89,7 +89,7 @@ fn landed_next(n: usize, w: &[u8]) -> usize
     ensures { result ≡ landed_after n w.now }
 {
     if n == 0 {
-        if !aerodromes::at_clock(w).is_time_of_day() {
+        if !aerodromes::at_clock(w).is_some() {
             return 0;
         }
         if text::same_bytes(aerodromes::aerodrome_of(w), b"ZZZZ") {

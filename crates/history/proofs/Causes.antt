@@ -7,10 +7,10 @@ use native.Mathlib.Omega.{arith}
 use lib.Dec.{eqb, ltb, leb}
 use lib.ListN.{length, take, drop, get_or}
 use borrow.Author.Tests.{leb-true, leb-false, le-leb, ltb-true, ltb-false, lt-ltb, le-ltb, eqb-true, eqb-false, eq-eqb, ne_eqb}
+use Rattle.std.specs.Prelude.{Option}
 use Rattle.text.specs.Words.{Word, split, before, all, same}
 use Rattle.text.proofs.Tests.{both, same-eq, same_self}
 use Rattle.shape.specs.declared.Clock.{Clock}
-use Rattle.shape.specs.declared.ClockRead.{ClockRead}
 use Rattle.aerodromes.specs.Asked.{clock_at, aerodrome_in}
 use Rattle.aerodromes.specs.Field13.{fits13, record13}
 use Rattle.aerodromes.specs.Field17.{fits17, record17}
@@ -159,11 +159,11 @@ module _ (t : MessageType) (n : ℕ) (ds : List Word) (f : Fitting t n ds) where
   event_told Delays q e = refl
   event_told Cancels q e = refl
   event_told Departs q e =
-      ap (λ (r : ClockRead). Says (Depart (time_of r))) (clock13 (get_or ds brief13 []) (departure_time t n ds f q))
+      ap (λ (r : Option Clock). Says (Depart (time_of r))) (clock13 (get_or ds brief13 []) (departure_time t n ds f q))
   event_told Arrives q e =
       let k = landed t n ds f q in
       ap (λ (w : Word). Says (Arrive (aerodrome_in w) (time_of (clock_at w)))) k.0
-      ∙ ap (λ (r : ClockRead). Says (Arrive (aerodrome_in (landing ds)) (time_of r))) (clock17 (landing ds) k.1)
+      ∙ ap (λ (r : Option Clock). Says (Arrive (aerodrome_in (landing ds)) (time_of r))) (clock17 (landing ds) k.1)
   event_told Files q e = absurd (false≢true e)
   event_told Neither q e = absurd (false≢true e)
 

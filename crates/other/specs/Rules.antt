@@ -1,14 +1,14 @@
 -- Which words may stand under a key of field 18 (document 01, field 18), and which edition has which keys. Assumes nothing.
-use Rattle.std.specs.Prelude.{ℕ, ◌-◌, ◌%◌, ◌≡◌, refl, Bool, true, false, ◌&&◌, not, cond, List, [], ◌∷◌, ◌++◌, map, leb, eqb, length, take, drop, get_or}
+use Rattle.std.specs.Prelude.{ℕ, ◌-◌, ◌%◌, ◌≡◌, refl, Bool, true, false, ◌&&◌, not, cond, List, [], ◌∷◌, ◌++◌, map, leb, eqb, length, take, drop, get_or, Option, Some, None}
+use Rattle.std.specs.Bool.{then_some}
 use Prim.Native.Char.{code}
 use Rattle.alphabet.specs.Text.{bytes}
 use Rattle.alphabet.specs.Alphabet.{letter, sign, one_of}
 use Rattle.text.specs.Words.{Word, split, all, elem, rank, text_word}
 use Rattle.shape.specs.Numbers.{digits, value}
 use Rattle.shape.specs.Shape.{fits, wide, letters}
-use Rattle.shape.specs.declared.ElapsedRead.{ElapsedRead}
-use Rattle.shape.specs.declared.ElapsedRead.TheVariants.{ElapsedTime, NoElapsedTime}
-use Rattle.shape.specs.Time.{elapsed_fits, elapsed_of, pick_elapsed, time_fits}
+use Rattle.shape.specs.declared.Elapsed.{Elapsed}
+use Rattle.shape.specs.Time.{elapsed_fits, elapsed_of, time_fits}
 use Rattle.codes.specs.Codes.{codes, codes_fit}
 use Rattle.other.specs.declared.Rule.{Rule}
 use Rattle.other.specs.declared.Rule.TheVariants.{Status, Approvals, Day, Timed, Selcal, Address, Free}
@@ -74,8 +74,8 @@ unfoldable pub timed : Word → Bool
 timed w = leb 6 (length w) && (leb (length w) 15 && (all sign w && elapsed_fits (drop (length w - 4) w)))
 
 -- that time, if w is such a word
-abbrev pub elapsed_in : Word → ElapsedRead
-elapsed_in w = pick_elapsed (timed w) (elapsed_of (drop (length w - 4) w))
+abbrev pub elapsed_in : Word → Option Elapsed
+elapsed_in w = then_some (timed w) (elapsed_of (drop (length w - 4) w))
 
 -- SEL: 4 letters
 abbrev pub selcal : Word → Bool
@@ -235,6 +235,6 @@ times_tried : (timed (bytes "EISN0026") ≡ true) × (timed (bytes "EISN0060") �
 unfolding timed time_fits letters
 times_tried = (refl, refl, refl, refl)
 
-times_read : (elapsed_in (bytes "EISN0126") ≡ ElapsedTime (record { 0 = 86 })) × (elapsed_in (bytes "EISN0060") ≡ NoElapsedTime)
+times_read : (elapsed_in (bytes "EISN0126") ≡ Some (record { 0 = 86 })) × (elapsed_in (bytes "EISN0060") ≡ None)
 unfolding timed time_fits letters
 times_read = (refl, refl)

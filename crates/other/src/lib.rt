@@ -83,17 +83,17 @@ fn is_date(w: &[u8]) -> bool
 }
 
 // EET, DLE: 6 to 15 signs, the last four an elapsed time; that time, if w is so.
-fn elapsed_in(w: &[u8]) -> shape::ElapsedRead
+fn elapsed_in(w: &[u8]) -> Option<shape::Elapsed>
     ensures { result ≡ elapsed_in w.now }
 {
     if w.len() < 6 {
-        return shape::ElapsedRead::NoElapsedTime;
+        return None;
     }
     if 15 < w.len() {
-        return shape::ElapsedRead::NoElapsedTime;
+        return None;
     }
     if !text::all_of(text::Kind::Sign, w) {
-        return shape::ElapsedRead::NoElapsedTime;
+        return None;
     }
     shape::Elapsed::read(&w[w.len() - 4..])
 }
@@ -140,7 +140,7 @@ pub fn word_fits(rule: Rule, w: &[u8]) -> bool
         Rule::Status => is_status(w),
         Rule::Approvals => is_approved(w),
         Rule::Day => is_date(w),
-        Rule::Timed => elapsed_in(w).is_elapsed(),
+        Rule::Timed => elapsed_in(w).is_some(),
         Rule::Selcal => is_selcal(w),
         Rule::Address => is_address(w),
         Rule::Free => text::is_text_word(w),

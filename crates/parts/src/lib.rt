@@ -18,7 +18,7 @@ ghost use Rattle.parts.specs.Shown.{Shows, ShowsPlan};
 use dates::FlightDate;
 use kinds::MessageType;
 use message::Answer;
-use shape::{Clock, ClockRead, Elapsed, ElapsedRead};
+use shape::{Clock, Elapsed};
 
 // Bytes of a message: the first, and behind the last.
 #[derive(Clone, Copy)]
@@ -230,15 +230,9 @@ fn off_block_in(from: usize, thirteen: &[u8]) -> OffBlock
     requires { fits13 thirteen.now ≡ true }
     ensures { result ≡ off_block_as from (record13 thirteen.now) }
 {
-    match aerodromes::clock(thirteen) {
-        ClockRead::TimeOfDay(t) => OffBlock {
-            aerodrome: from,
-            time: t,
-        },
-        ClockRead::NoTimeOfDay => OffBlock {
-            aerodrome: from,
-            time: Clock(0),
-        },
+    OffBlock {
+        aerodrome: from,
+        time: aerodromes::clock(thirteen).unwrap_or(Clock(0)),
     }
 }
 
@@ -246,10 +240,7 @@ fn elapsed_of(sixteen: &[u8]) -> Elapsed
     requires { fits16plan sixteen.now ≡ true }
     ensures { result ≡ (record16plan sixteen.now).elapsed }
 {
-    match aerodromes::elapsed(sixteen) {
-        ElapsedRead::ElapsedTime(t) => t,
-        ElapsedRead::NoElapsedTime => Elapsed(0),
-    }
+    aerodromes::elapsed(sixteen).unwrap_or(Elapsed(0))
 }
 
 // An alternate is a space and four letters behind the first eight bytes, so the length tells how many there are.

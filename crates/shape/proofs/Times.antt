@@ -8,6 +8,8 @@ use native.Mathlib.Nat.{mul-add-div_right, mul-add-mod_self_right, div-eq_of_lt,
 use lib.Dec.{leb}
 use lib.ListN.{length, get_or}
 use borrow.Author.Tests.{leb-true, le-leb, lt-ltb}
+use Rattle.std.specs.Prelude.{Option, Some, is_some}
+use Rattle.std.specs.Bool.{then_some}
 use Rattle.alphabet.specs.Alphabet.{digit}
 use Rattle.text.specs.Words.{Word, all}
 use Rattle.text.proofs.Tests.{both, and_both}
@@ -15,12 +17,6 @@ use Rattle.shape.specs.Numbers.{digits}
 use Rattle.shape.specs.Shape.{fits, copies, wide, values}
 use Rattle.shape.specs.Time.{hours_minutes, hours, minutes, time_fits, time_minutes, spell_time, valid_time}
 use Rattle.shape.specs.Time.{clock_hours, elapsed_hours, clock_fits, clock_of, elapsed_of, spell_elapsed, elapsed_read}
-use Rattle.shape.specs.Time.{pick_clock, pick_elapsed, is_time_of_day, is_elapsed}
-use Rattle.shape.specs.declared.Clock.{Clock}
-use Rattle.shape.specs.declared.ClockRead.{ClockRead}
-use Rattle.shape.specs.declared.Elapsed.{Elapsed}
-use Rattle.shape.specs.declared.ElapsedRead.{ElapsedRead}
-use Rattle.shape.specs.declared.ElapsedRead.TheVariants.{ElapsedTime}
 use Rattle.shape.proofs.Index.{fits_lengths, fits_other, fits_digits}
 use Rattle.shape.proofs.Exact.{spells_values, values_spells, fits_all}
 
@@ -102,22 +98,15 @@ module _ (most n : ℕ) (l : most ≤ 99) (v : valid_time most n ≡ true) where
   pub time_minutes_lem : time_minutes (spell_time n) ≡ n
   time_minutes_lem = ap₂ (λ (h m : ℕ). h * 60 + m) hours_are minutes_are ∙ div-add-mod' n 60
 
--- WHAT READING GIVES
+-- WHAT READING GIVES, a time of day or an elapsed time
 
-pub told_clock : (b : Bool) (t : Clock) → is_time_of_day (pick_clock b t) ≡ b
-told_clock true t = refl
-told_clock false t = refl
-
-pub told_elapsed : (b : Bool) (t : Elapsed) → is_elapsed (pick_elapsed b t) ≡ b
-told_elapsed true t = refl
-told_elapsed false t = refl
+pub told : {T : Type 0} (b : Bool) (t : T) → is_some (then_some b t) ≡ b
+told true t = refl
+told false t = refl
 
 -- the answer on what a reader gave
-pub by_clock : {x : ClockRead} {r b : Bool} (t : Clock) → x ≡ pick_clock b t → r ≡ is_time_of_day x → r ≡ b
-by_clock {b = b} t p q = q ∙ ap is_time_of_day p ∙ told_clock b t
-
-pub by_elapsed : {x : ElapsedRead} {r b : Bool} (t : Elapsed) → x ≡ pick_elapsed b t → r ≡ is_elapsed x → r ≡ b
-by_elapsed {b = b} t p q = q ∙ ap is_elapsed p ∙ told_elapsed b t
+pub by_time : {T : Type 0} {x : Option T} {r b : Bool} (t : T) → x ≡ then_some b t → r ≡ is_some x → r ≡ b
+by_time {b = b} t p q = q ∙ ap is_some p ∙ told b t
 
 -- A GREATER GREATEST HOUR, as request 1 of document 02 gave elapsed times: what was a time before is one still, and every time of day is an elapsed
 -- time of as many minutes. Minutes and spelling do not speak of the greatest hour.
@@ -131,7 +120,7 @@ time_longer least most w l e =
     (le-leb (minutes w) 59 p.minutes_in))
 
 pub day_elapsed : (w : Word) → clock_fits w ≡ true
-    → (elapsed_read w ≡ ElapsedTime (elapsed_of w)) × ((elapsed_of w).0 ≡ (clock_of w).0) × (spell_elapsed (elapsed_of w) ≡ w)
+    → (elapsed_read w ≡ Some (elapsed_of w)) × ((elapsed_of w).0 ≡ (clock_of w).0) × (spell_elapsed (elapsed_of w) ≡ w)
 day_elapsed w e =
     let f = time_longer clock_hours elapsed_hours w (omega arith) e in
-    (ap (λ (b : Bool). pick_elapsed b (elapsed_of w)) f, refl, time_exact clock_hours w e)
+    (ap (λ (b : Bool). then_some b (elapsed_of w)) f, refl, time_exact clock_hours w e)

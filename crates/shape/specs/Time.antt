@@ -1,16 +1,13 @@
 -- Times (document 01, "Times"): four digits, hours and minutes. A time of day is a `Clock`, an elapsed time an `Elapsed`: both a number of
 -- minutes, and neither stands where the other is due. Assumes nothing.
-use Rattle.std.specs.Prelude.{ℕ, ◌+◌, ◌*◌, ◌/◌, ◌%◌, ◌≡◌, refl, Bool, true, false, ◌&&◌, ◌++◌, leb, take, drop}
+use Rattle.std.specs.Prelude.{ℕ, ◌+◌, ◌*◌, ◌/◌, ◌%◌, ◌≡◌, refl, Bool, true, false, ◌&&◌, ◌++◌, leb, take, drop, Option, Some, None, is_some}
+use Rattle.std.specs.Bool.{then_some}
 use Rattle.alphabet.specs.Text.{bytes}
 use Rattle.text.specs.Words.{Word}
 use Rattle.shape.specs.Numbers.{digits, value}
 use Rattle.shape.specs.Shape.{fits, wide}
 use Rattle.shape.specs.declared.Clock.{Clock}
 use Rattle.shape.specs.declared.Elapsed.{Elapsed}
-use Rattle.shape.specs.declared.ClockRead.{ClockRead}
-use Rattle.shape.specs.declared.ClockRead.TheVariants.{TimeOfDay, NoTimeOfDay}
-use Rattle.shape.specs.declared.ElapsedRead.{ElapsedRead}
-use Rattle.shape.specs.declared.ElapsedRead.TheVariants.{ElapsedTime, NoElapsedTime}
 
 -- THE GREATEST HOURS of a time of day, and of an elapsed time (document 02, request 1)
 
@@ -72,30 +69,16 @@ spell_elapsed t = spell_time t.0
 abbrev pub valid_elapsed : Elapsed → Bool
 valid_elapsed t = valid_time elapsed_hours t.0
 
--- WHAT READING GIVES
+-- WHAT READING GIVES: the time, where there is one
 
-abbrev pub pick_clock : Bool → Clock → ClockRead
-pick_clock true t = TimeOfDay t
-pick_clock false t = NoTimeOfDay
+abbrev pub time_read : ℕ → Word → Option ℕ
+time_read most w = then_some (time_fits most w) (time_minutes w)
 
-abbrev pub clock_read : Word → ClockRead
-clock_read w = pick_clock (clock_fits w) (clock_of w)
+abbrev pub clock_read : Word → Option Clock
+clock_read w = then_some (clock_fits w) (clock_of w)
 
-abbrev pub pick_elapsed : Bool → Elapsed → ElapsedRead
-pick_elapsed true t = ElapsedTime t
-pick_elapsed false t = NoElapsedTime
-
-abbrev pub elapsed_read : Word → ElapsedRead
-elapsed_read w = pick_elapsed (elapsed_fits w) (elapsed_of w)
-
--- whether there was one
-abbrev pub is_time_of_day : ClockRead → Bool
-is_time_of_day (TimeOfDay t) = true
-is_time_of_day NoTimeOfDay = false
-
-abbrev pub is_elapsed : ElapsedRead → Bool
-is_elapsed (ElapsedTime t) = true
-is_elapsed NoElapsedTime = false
+abbrev pub elapsed_read : Word → Option Elapsed
+elapsed_read w = then_some (elapsed_fits w) (elapsed_of w)
 
 -- EXAMPLES, computed
 
@@ -103,15 +86,15 @@ day : (clock_fits (bytes "2359") ≡ true) × (clock_fits (bytes "2400") ≡ fal
 unfolding time_fits
 day = (refl, refl, refl, refl)
 
-told : (is_time_of_day (clock_read (bytes "2359")) ≡ true) × (is_time_of_day (clock_read (bytes "2400")) ≡ false)
-    × (is_elapsed (elapsed_read (bytes "0100")) ≡ true) × (is_elapsed (elapsed_read (bytes "0160")) ≡ false)
+told : (is_some (clock_read (bytes "2359")) ≡ true) × (is_some (clock_read (bytes "2400")) ≡ false)
+    × (is_some (elapsed_read (bytes "0100")) ≡ true) × (is_some (elapsed_read (bytes "0160")) ≡ false)
 unfolding time_fits
 told = (refl, refl, refl, refl)
 
 -- an elapsed time goes beyond a day, and is not brought into one
-beyond_a_day : (elapsed_read (bytes "2359") ≡ ElapsedTime (record { 0 = 1439 })) × (elapsed_read (bytes "2400") ≡ ElapsedTime (record { 0 = 1440 }))
-    × (elapsed_read (bytes "2600") ≡ ElapsedTime (record { 0 = 1560 })) × (elapsed_read (bytes "9959") ≡ ElapsedTime (record { 0 = 5999 }))
-    × (elapsed_read (bytes "9960") ≡ NoElapsedTime) × (elapsed_read (bytes "2460") ≡ NoElapsedTime) × (spell_elapsed (record { 0 = 1560 }) ≡ bytes "2600")
+beyond_a_day : (elapsed_read (bytes "2359") ≡ Some (record { 0 = 1439 })) × (elapsed_read (bytes "2400") ≡ Some (record { 0 = 1440 }))
+    × (elapsed_read (bytes "2600") ≡ Some (record { 0 = 1560 })) × (elapsed_read (bytes "9959") ≡ Some (record { 0 = 5999 }))
+    × (elapsed_read (bytes "9960") ≡ None) × (elapsed_read (bytes "2460") ≡ None) × (spell_elapsed (record { 0 = 1560 }) ≡ bytes "2600")
 unfolding time_fits
 beyond_a_day = (refl, refl, refl, refl, refl, refl, refl)
 

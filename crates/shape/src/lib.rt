@@ -6,7 +6,7 @@ ghost use Rattle.alphabet.specs.Alphabet.{one_of};
 ghost use Rattle.text.specs.Words.{split};
 ghost use Rattle.shape.specs.Numbers.{value};
 ghost use Rattle.shape.specs.Shape.{in_class, fits as fitting, any as any_of};
-ghost use Rattle.shape.specs.Time.{hours, minutes, time_fits, time_minutes, clock_read, elapsed_read, is_time_of_day, is_elapsed};
+ghost use Rattle.shape.specs.Time.{hours, minutes, time_fits, time_minutes, time_read, clock_read, elapsed_read};
 
 // Whether b is one of the bytes of a set.
 pub fn one_of(b: u8, set: &[u8]) -> bool
@@ -98,18 +98,6 @@ pub struct Clock(pub u16);
 #[derive(Clone, Copy)]
 pub struct Elapsed(pub u16);
 
-#[derive(Clone, Copy)]
-pub enum ClockRead {
-    TimeOfDay(Clock),
-    NoTimeOfDay,
-}
-
-#[derive(Clone, Copy)]
-pub enum ElapsedRead {
-    ElapsedTime(Elapsed),
-    NoElapsedTime,
-}
-
 pub const CLOCK_HOURS: usize = 23;
 
 pub const ELAPSED_HOURS: usize = 99;
@@ -140,50 +128,32 @@ fn minutes_of(w: &[u8]) -> u16
     (hours * 60 + minutes) as u16
 }
 
+// The minutes that w spells with hours of at most so many, if it does.
+fn read_minutes(most: usize, w: &[u8]) -> Option<u16>
+    requires { most ≤ 99 }
+    ensures { result ≡ time_read most w.now }
+{
+    if is_time(most, w) {
+        Some(minutes_of(w))
+    } else {
+        None
+    }
+}
+
 impl Clock {
     // The time of day that w spells, if it does.
-    pub fn read(w: &[u8]) -> ClockRead
+    pub fn read(w: &[u8]) -> Option<Clock>
         ensures { result ≡ clock_read w.now }
     {
-        if is_time(CLOCK_HOURS, w) {
-            ClockRead::TimeOfDay(Clock(minutes_of(w)))
-        } else {
-            ClockRead::NoTimeOfDay
-        }
+        read_minutes(CLOCK_HOURS, w).map(Clock)
     }
 }
 
 impl Elapsed {
     // The elapsed time that w spells, if it does.
-    pub fn read(w: &[u8]) -> ElapsedRead
+    pub fn read(w: &[u8]) -> Option<Elapsed>
         ensures { result ≡ elapsed_read w.now }
     {
-        if is_time(ELAPSED_HOURS, w) {
-            ElapsedRead::ElapsedTime(Elapsed(minutes_of(w)))
-        } else {
-            ElapsedRead::NoElapsedTime
-        }
-    }
-}
-
-impl ClockRead {
-    pub fn is_time_of_day(self) -> bool
-        ensures { result ≡ is_time_of_day self }
-    {
-        match self {
-            ClockRead::TimeOfDay(_) => true,
-            ClockRead::NoTimeOfDay => false,
-        }
-    }
-}
-
-impl ElapsedRead {
-    pub fn is_elapsed(self) -> bool
-        ensures { result ≡ is_elapsed self }
-    {
-        match self {
-            ElapsedRead::ElapsedTime(_) => true,
-            ElapsedRead::NoElapsedTime => false,
-        }
+        read_minutes(ELAPSED_HOURS, w).map(Elapsed)
     }
 }

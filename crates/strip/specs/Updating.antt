@@ -1,11 +1,10 @@
 -- An update of the strip (document 01, "The strip"): the answer, the strip's record and every byte of the output, from the strip, its record, the
 -- message and the room lent. A plan and what a message says are given by their texts, which stand between the parentheses. Assumes nothing.
-use Rattle.std.specs.Prelude.{ℕ, ◌-◌, Bool, true, false, ◌&&◌, ◌||◌, not, cond, List, [], eqb, ltb, length, take, drop, get_or}
+use Rattle.std.specs.Prelude.{ℕ, ◌-◌, Bool, true, false, ◌&&◌, ◌||◌, not, cond, List, [], eqb, ltb, length, take, drop, get_or, Option}
+use Rattle.std.specs.Option.{unwrap_or}
 use Rattle.text.specs.Words.{Word, split, before, null, same}
 use Rattle.text.specs.Lent.{front}
 use Rattle.shape.specs.declared.Clock.{Clock}
-use Rattle.shape.specs.declared.ClockRead.{ClockRead}
-use Rattle.shape.specs.declared.ClockRead.TheVariants.{TimeOfDay, NoTimeOfDay}
 use Rattle.aerodromes.specs.Asked.{clock_at, aerodrome_in}
 use Rattle.dates.specs.Dates.{date_in}
 use Rattle.space.specs.Fields.{inner}
@@ -34,9 +33,8 @@ use Rattle.strip.specs.declared.Updated.TheVariants.{Accepted, Refused}
 
 -- WHAT A MESSAGE SAYS OF THE STATE, from its contents
 
-abbrev pub time_of : ClockRead → Clock
-time_of (TimeOfDay t) = t
-time_of NoTimeOfDay = record { 0 = 0 }
+abbrev pub time_of : Option Clock → Clock
+time_of r = unwrap_or r (record { 0 = 0 })
 
 -- field 17 is an ARR's last
 abbrev pub arrival : List Word → Word

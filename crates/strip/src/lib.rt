@@ -10,7 +10,7 @@ ghost use Rattle.strip.specs.Steps.{Texts, Amends, Offers};
 
 use kinds::Role;
 use opening::Opening;
-use shape::{Clock, ClockRead};
+use shape::Clock;
 use state::{Event, Strip};
 
 // What a message of a type does to the state, or that its type is not fit for an update.
@@ -57,10 +57,7 @@ fn last_field<'a>(s: &'a [u8]) -> &'a [u8]
 fn time_in(s: &[u8]) -> Clock
     ensures { result ≡ time_of (clock_at s.now) }
 {
-    match aerodromes::clock(s) {
-        ClockRead::TimeOfDay(t) => t,
-        ClockRead::NoTimeOfDay => Clock(0),
-    }
+    aerodromes::clock(s).unwrap_or(Clock(0))
 }
 
 // What a message says of the state, from the text of its spelling.

@@ -148,7 +148,7 @@ fn first(key: u8, w: &[u8]) -> Stage
     ensures { result ≡ first_of (by_letter key) w.now }
 {
     match key {
-        b'E' => taken(shape::Elapsed::read(w).is_elapsed(), Stage::Endurance),
+        b'E' => taken(shape::Elapsed::read(w).is_some(), Stage::Endurance),
         b'P' => taken(is_count(3, w), Stage::Persons),
         b'R' => taken(is_some_of(b"UVE", w), Stage::Radio),
         b'S' => taken(is_some_of(b"PDMJ", w), Stage::Survival),

@@ -1,6 +1,6 @@
 -- `aerodromes::fits_field13_open` meets its contract. Assumes nothing.
 use mathlib.Core.Path.{sym, ◌∙◌}
-use Rattle.shape.proofs.Times.{by_clock}
+use Rattle.shape.proofs.Times.{by_time}
 use Rattle.aerodromes.proofs.Index.{open_alone, open_joined}
 use Rattle.aerodromes.proofs.fits_field13_open.Goals as goal
 
@@ -11,4 +11,4 @@ returns-then-four_letters c =
 pub returns : goal.returns
 returns c =
     let four = sym c.four_letters.ensures ∙ c.if-four_letters.false in
-    by_clock _ c.at_clock.ensures c.is_time_of_day.ensures ∙ sym (open_joined c.args.s.now four)
+    by_time _ c.at_clock.ensures c.is_some.ensures ∙ sym (open_joined c.args.s.now four)

@@ -4,29 +4,29 @@ use mathlib.Core.Bool.{true}
 use Rattle.alphabet.specs.Text.{bytes}
 use Rattle.text.specs.Words.{same}
 use Rattle.shape.specs.Time.{clock_hours}
-use Rattle.shape.proofs.Times.{by_clock}
+use Rattle.shape.proofs.Times.{by_time}
 use Rattle.aerodromes.specs.Aerodromes.{aerodrome_of, joined}
 use Rattle.aerodromes_places.proofs.Landed.{first_off, first_listed, first_unlisted, behind_one, text_goes, text_off}
-use Rattle.aerodromes_places.proofs.landed_next.Goals.{After-is_time_of_day, After-same_bytes}
+use Rattle.aerodromes_places.proofs.landed_next.Goals.{After-is_some, After-same_bytes}
 use Rattle.aerodromes_places.proofs.landed_next.Goals as goal
 
-tried : (c : After-is_time_of_day) → c.is_time_of_day.result ≡ joined clock_hours c.args.w.now
+tried : (c : After-is_some) → c.is_some.result ≡ joined clock_hours c.args.w.now
 tried c =
-    by_clock _ c.at_clock.ensures c.is_time_of_day.ensures
+    by_time _ c.at_clock.ensures c.is_some.ensures
 
 fits : (c : After-same_bytes) → joined clock_hours c.args.w.now ≡ true
 fits c =
-    let tried : c.is_time_of_day.result ≡ joined clock_hours c.args.w.now = by_clock _ c.at_clock.ensures c.is_time_of_day.ensures in
-    sym tried ∙ c.if-not-is_time_of_day.false
+    let tried : c.is_some.result ≡ joined clock_hours c.args.w.now = by_time _ c.at_clock.ensures c.is_some.ensures in
+    sym tried ∙ c.if-not-is_some.false
 
 compared : (c : After-same_bytes) → same (aerodrome_of c.args.w.now) (bytes "ZZZZ") ≡ c.same_bytes.result
 compared c =
     sym (c.same_bytes.ensures ∙ ap (λ v. same v (bytes "ZZZZ")) c.aerodrome_of.ensures)
 
-pub returns-then-not-is_time_of_day : goal.returns-then-not-is_time_of_day
-returns-then-not-is_time_of_day c =
+pub returns-then-not-is_some : goal.returns-then-not-is_some
+returns-then-not-is_some c =
     let a = c.args in
-    first_off a.n a.w.now c.if-n-eq0.true (sym (tried (goal.at.returns-then-not-is_time_of_day c).After-is_time_of_day) ∙ c.if-not-is_time_of_day.true)
+    first_off a.n a.w.now c.if-n-eq0.true (sym (tried (goal.at.returns-then-not-is_some c).After-is_some) ∙ c.if-not-is_some.true)
 
 pub returns-then-same_bytes : goal.returns-then-same_bytes
 returns-then-same_bytes c =

@@ -1,6 +1,6 @@
 -- `other::word_fits` meets its contract. Assumes nothing.
 use Rattle.other.specs.declared.Rule.{Rule}
-use Rattle.shape.proofs.Times.{by_elapsed}
+use Rattle.shape.proofs.Times.{by_time}
 use Rattle.other.specs.Rules.{word_fits}
 use mathlib.Core.Path.{sym, ap, ◌∙◌}
 use Rattle.other.proofs.word_fits.Goals as goal
@@ -19,7 +19,7 @@ returns-in-Day c =
 
 pub returns-in-Timed : goal.returns-in-Timed
 returns-in-Timed c =
-    by_elapsed _ c.elapsed_in.ensures c.is_elapsed.ensures
+    by_time _ c.elapsed_in.ensures c.is_some.ensures
     ∙ sym (ap (λ (r : Rule). word_fits r c.args.w.now) c.in-Timed.is)
 
 pub returns-in-Selcal : goal.returns-in-Selcal

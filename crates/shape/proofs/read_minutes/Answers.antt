@@ -1,13 +1,11 @@
--- `shape::Elapsed::read` meets its contract. Assumes nothing.
+-- `shape::read_minutes` meets its contract. Assumes nothing.
 use mathlib.Core.Path.{sym, ◌∙◌}
-use Rattle.shape.specs.Time.{elapsed_hours}
 use Rattle.shape.proofs.Times.{counted}
-use native.Mathlib.Omega.{arith}
-use Rattle.shape.proofs.Elapsed.read.Goals as goal
+use Rattle.shape.proofs.read_minutes.Goals as goal
 
 pub minutes_of-requires : goal.minutes_of-requires
 minutes_of-requires c =
-    counted elapsed_hours c.args.w.now (omega arith) (sym c.is_time.ensures ∙ c.if-is_time.true)
+    counted c.args.most c.args.w.now c.requires (sym c.is_time.ensures ∙ c.if-is_time.true)
 
 pub returns-then-is_time : goal.returns-then-is_time
 returns-then-is_time c =
