@@ -66,16 +66,12 @@ pub fn is_white(b: u8) -> bool
     matches!(b, b' ' | b'\r' | b'\n')
 }
 
-// A byte that may stand between the parentheses: of the alphabet, and no parenthesis. No branch: it is worked out for 16 bytes at a time. From + to : stand
-// the digits and + , - . / : alone.
+// A byte that may stand between the parentheses: of the alphabet, and no parenthesis.
+#[tactic(auto, using(crate::proofs::Classes::inner_tests))]
 fn is_inner(b: u8) -> bool
     ensures { result ≡ inner_byte b }
 {
-    let letter = (b'A' <= b) & (b <= b'Z');
-    let middle = (b'+' <= b) & (b <= b':');
-    let mark = (b == b'?') | (b == b'=') | (b == b'\'');
-    let white = (b == b' ') | (b == b'\r') | (b == b'\n');
-    letter | middle | mark | white
+    is_text(b) || is_white(b) || matches!(b, b'/' | b'-')
 }
 
 // A byte of the alphabet.
@@ -93,11 +89,23 @@ pub fn known_bytes(s: &[u8]) -> usize
     s.iter().position(|&b| !is_known(b)).unwrap_or(s.len())
 }
 
-// Whether each byte is one.
+// The same test as is_inner's, with no branch: it is worked out for 16 bytes at a time. From + to : stand the digits and + , - . / : alone. Of one byte alone
+// it takes four times as long.
+fn is_inner_flat(b: u8) -> bool
+    ensures { result ≡ inner_byte b }
+{
+    let letter = (b'A' <= b) & (b <= b'Z');
+    let middle = (b'+' <= b) & (b <= b':');
+    let mark = (b == b'?') | (b == b'=') | (b == b'\'');
+    let white = (b == b' ') | (b == b'\r') | (b == b'\n');
+    letter | middle | mark | white
+}
+
+// Whether each byte passes it.
 fn all_inner(s: &[u8]) -> bool
     ensures { result ≡ all_inner s.now }
 {
-    s.iter().fold(true, |fine, &b| fine & is_inner(b))
+    s.iter().fold(true, |fine, &b| fine & is_inner_flat(b))
 }
 
 // How many bytes stand before the first that is a parenthesis or not in the alphabet, byte by byte.

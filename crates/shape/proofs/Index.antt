@@ -1,15 +1,15 @@
 -- Shapes at an index. Assumes nothing.
-use Prim.Native.Nat.{ℕ, suc}
+use Prim.Native.Nat.{ℕ, suc, ◌+◌, ◌<◌, ◌≤◌}
 use mathlib.Core.Path.{◌≡◌, refl, sym, ap, ◌∙◌}
-use native.Mathlib.Omega.{arith}
-use Rattle.std.specs.List.{list_all, list_any, zip}
+use Rattle.std.specs.List.{list_any}
 use mathlib.Core.Bool.{Bool, true, false, cond, ◌&&◌, ◌||◌, false≢true}
 use mathlib.Core.List.{List, [], ◌∷◌}
 use lib.Dec.{eqb}
-use lib.ListN.{length}
+use lib.ListN.{length, drop, get_or}
 use borrow.Author.Tests.{eq-eqb, eqb-true, ne_eqb}
 use Rattle.alphabet.specs.Alphabet.{digit, one_of}
 use Rattle.text.specs.Words.{Word, all}
+use Rattle.text.proofs.Index.{drop_here, drop_end}
 use Rattle.text.proofs.Tests.{both}
 use Rattle.shape.specs.Shape.{in_class, fits, copies, any}
 
@@ -50,12 +50,15 @@ pub fits_digits : (w : Word) → fits (copies (length w)) w ≡ all digit w
 fits_digits [] = refl
 fits_digits (b ∷ w) = ap (λ (r : Bool). digit b && r) (fits_digits w)
 
--- byte by byte, as the library goes over both
-pub fits_listed : (t w : Word) → length t ≡ length w → list_all (λ p. in_class p.0 p.1) (zip t w) ≡ fits t w
-fits_listed [] [] e = refl
-fits_listed [] (b ∷ w) e = absurd (omega arith)
-fits_listed (t ∷ ts) [] e = absurd (omega arith)
-fits_listed (t ∷ ts) (b ∷ w) e = ap (λ (r : Bool). in_class t b && r) (fits_listed ts w (omega arith))
+pub fits_stop : (t w : Word) (i : ℕ) → i < length t → i < length w → in_class (get_or t i 0) (get_or w i 0) ≡ false → fits (drop i t) (drop i w) ≡ false
+fits_stop t w i h k e = rw (drop_here t i h, drop_here w i k, e)
+
+pub fits_next : (t w : Word) (i : ℕ) → i < length t → i < length w → in_class (get_or t i 0) (get_or w i 0) ≡ true
+    → fits (drop i t) (drop i w) ≡ fits (drop (i + 1) t) (drop (i + 1) w)
+fits_next t w i h k e = rw (drop_here t i h, drop_here w i k, e)
+
+pub fits_end : (t w : Word) (i : ℕ) → length t ≤ i → length w ≤ i → fits (drop i t) (drop i w) ≡ true
+fits_end t w i h k = rw (drop_end t i h, drop_end w i k)
 
 -- ONE OF A LIST OF SHAPES
 

@@ -36,7 +36,16 @@ fn in_class(t: u8, b: u8) -> bool
 pub fn fits(t: &[u8], w: &[u8]) -> bool
     ensures { result ≡ fitting t.now w.now }
 {
-    t.len() == w.len() && t.iter().zip(w).all(|(&t, &b)| in_class(t, b))
+    if t.len() != w.len() {
+        return false;
+    }
+    // By index: over a zip of the two it takes twice as many instructions.
+    for i in 0..t.len() {
+        if !in_class(t[i], w[i]) {
+            return false;
+        }
+    }
+    true
 }
 
 // Whether w fits one of a list of shapes, which have one space between them.

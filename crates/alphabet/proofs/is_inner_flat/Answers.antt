@@ -1,7 +1,7 @@
--- `alphabet::is_inner` meets its contract. Assumes nothing.
+-- `alphabet::is_inner_flat` meets its contract. Assumes nothing.
 use borrow.Author.Rules.{rules}
 use Rattle.alphabet.proofs.Classes.{inner_flat}
-use Rattle.alphabet.proofs.is_inner.Goals as goal
+use Rattle.alphabet.proofs.is_inner_flat.Goals as goal
 
 pub returns : goal.returns
 returns c =
