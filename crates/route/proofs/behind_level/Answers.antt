@@ -15,17 +15,20 @@ returns-in_err-unit c =
 pub returns-in-70 : goal.returns-in-70
 unfolding level_digits
 returns-in-70 c =
-    let n = ap level_digits (first_some c.args.w.now _ (sym c.in_ok-unit.ensures.value)) ∙ ⊎_elim (λ e. ap level_digits e) (λ e. ap level_digits e) c.in-70.is in
+    let letter = ap level_digits (first_some c.args.w.now _ (sym c.in_ok-unit.ensures.value)) in
+    let n = letter ∙ ⊎_elim (λ e. ap level_digits e) (λ e. ap level_digits e) c.in-70.is in
     rw n c.behind_unit.ensures
 
 pub returns-in-83 : goal.returns-in-83
 unfolding level_digits
 returns-in-83 c =
-    let n = ap level_digits (first_some c.args.w.now _ (sym c.in_ok-unit.ensures.value)) ∙ ⊎_elim (λ e. ap level_digits e) (λ e. ap level_digits e) c.in-83.is in
+    let letter = ap level_digits (first_some c.args.w.now _ (sym c.in_ok-unit.ensures.value)) in
+    let n = letter ∙ ⊎_elim (λ e. ap level_digits e) (λ e. ap level_digits e) c.in-83.is in
     rw n c.behind_unit-in-83.ensures
 
 pub returns-in_default : goal.returns-in_default
 returns-in_default c =
     let r = c.in_default.in_default-own.rest in
-    let n = ap level_digits (first_some c.args.w.now _ (sym c.in_ok-unit.ensures.value)) ∙ no_level_letter c.in_ok-unit.field-0.now (λ e. r.0.1 (inr e)) (λ e. r.0.1 (inl e)) (λ e. r.1 (inr e)) (λ e. r.1 (inl e)) in
-    unit_none (level_digits (letter_of c.args.w.now)) c.args.w.now n
+    let letter = ap level_digits (first_some c.args.w.now _ (sym c.in_ok-unit.ensures.value)) in
+    let none = no_level_letter c.in_ok-unit.field-0.now (λ e. r.0.1 (inr e)) (λ e. r.0.1 (inl e)) (λ e. r.1 (inr e)) (λ e. r.1 (inl e)) in
+    unit_none (level_digits (letter_of c.args.w.now)) c.args.w.now (letter ∙ none)

@@ -15,17 +15,20 @@ returns-in_err-unit c =
 pub returns-in-75 : goal.returns-in-75
 unfolding speed_digits
 returns-in-75 c =
-    let n = ap speed_digits (first_some c.args.w.now _ (sym c.in_ok-unit.ensures.value)) ∙ ⊎_elim (λ e. ap speed_digits e) (λ e. ap speed_digits e) c.in-75.is in
+    let letter = ap speed_digits (first_some c.args.w.now _ (sym c.in_ok-unit.ensures.value)) in
+    let n = letter ∙ ⊎_elim (λ e. ap speed_digits e) (λ e. ap speed_digits e) c.in-75.is in
     rw n c.behind_unit.ensures
 
 pub returns-in-77 : goal.returns-in-77
 unfolding speed_digits
 returns-in-77 c =
-    let n = ap speed_digits (first_some c.args.w.now _ (sym c.in_ok-unit.ensures.value)) ∙ ap speed_digits c.in-77.is in
+    let letter = ap speed_digits (first_some c.args.w.now _ (sym c.in_ok-unit.ensures.value)) in
+    let n = letter ∙ ap speed_digits c.in-77.is in
     rw n c.behind_unit-in-77.ensures
 
 pub returns-in_default : goal.returns-in_default
 returns-in_default c =
     let r = c.in_default.in_default-own.rest in
-    let n = ap speed_digits (first_some c.args.w.now _ (sym c.in_ok-unit.ensures.value)) ∙ no_speed_letter c.in_ok-unit.field-0.now (λ e. r.0.1 (inl e)) (λ e. r.0.1 (inr e)) r.1 in
+    let letter = ap speed_digits (first_some c.args.w.now _ (sym c.in_ok-unit.ensures.value)) in
+    let n = letter ∙ no_speed_letter c.in_ok-unit.field-0.now (λ e. r.0.1 (inl e)) (λ e. r.0.1 (inr e)) r.1 in
     unit_none (speed_digits (letter_of c.args.w.now)) c.args.w.now n
