@@ -1,7 +1,7 @@
 // Field 18, other information: `0` alone, or items.
 #![tactic(auto)]
 
-ghost use Rattle.std.specs.Prelude.{◌≡◌, true, [], ℕ, ◌+◌, ◌-◌, ◌≤◌, ◌<◌, eqb, length, take, drop, get_or};
+ghost use Rattle.std.specs.Prelude.{◌≡◌, MatchOption, true, [], ℕ, ◌+◌, ◌-◌, ◌≤◌, ◌<◌, eqb, length, take, drop, get_or};
 ghost use Rattle.alphabet.specs.Alphabet.{one_of, text};
 ghost use Rattle.text.specs.Words.{split, after, up_to, all, free, elem, cells};
 ghost use Rattle.other.specs.Rules.{statuses, approved, days_in, date, elapsed_in, selcal, address, word_fits, single, more_fits};
@@ -108,20 +108,6 @@ fn is_selcal(w: &[u8]) -> bool
     text::all_of(text::Kind::Letter, w)
 }
 
-// Whether each byte is one of a set.
-fn all_in(w: &[u8], set: &[u8]) -> bool
-    ensures { result ≡ all (λ b. one_of b set.now) w.now }
-{
-    let mut i = 0;
-    while i < w.len() {
-        if !shape::one_of(w[i], set) {
-            return false;
-        }
-        i += 1;
-    }
-    true
-}
-
 // CODE: six of 0..9 A..F.
 fn is_address(w: &[u8]) -> bool
     ensures { result ≡ address w.now }
@@ -129,7 +115,7 @@ fn is_address(w: &[u8]) -> bool
     if w.len() != 6 {
         return false;
     }
-    all_in(w, b"0123456789ABCDEF")
+    w.iter().all(|&b| shape::one_of(b, b"0123456789ABCDEF"))
 }
 
 // Whether w may stand under a key of this rule.
@@ -151,15 +137,10 @@ pub fn word_fits(rule: Rule, w: &[u8]) -> bool
 pub fn is_single(rule: Rule) -> bool
     ensures { result ≡ single rule }
 {
-    match rule {
-        Rule::Status => false,
-        Rule::Approvals => true,
-        Rule::Day => true,
-        Rule::Timed => false,
-        Rule::Selcal => true,
-        Rule::Address => true,
-        Rule::Free => false,
-    }
+    matches!(
+        rule,
+        Rule::Approvals | Rule::Day | Rule::Selcal | Rule::Address
+    )
 }
 
 // Whether w may stand behind the first word.
@@ -192,20 +173,17 @@ fn rule_at(rules: &[u8], k: usize) -> Rule
     requires { 0 < k }
     ensures { result ≡ rule_in (edition [] rules.now) k }
 {
-    if rules.len() < k {
-        return Rule::Free;
+    match rules.get(k - 1) {
+        Some(b) => rule_of(*b),
+        None => Rule::Free,
     }
-    rule_of(rules[k - 1])
 }
 
 // The same for every number: place 0 has the first key's rule.
 pub fn rule_in(rules: &[u8], k: usize) -> Rule
     ensures { result ≡ rule_in (edition [] rules.now) k }
 {
-    if k == 0 {
-        return rule_at(rules, 1);
-    }
-    rule_at(rules, k)
+    rule_at(rules, k.max(1))
 }
 
 // Whether a word ends at e: a space stands there, or the content is over.
@@ -247,15 +225,13 @@ fn all_plain(s: &[u8]) -> bool
     ensures { result ≡ all_plain s.now }
 {
     let mut fine = true;
-    let mut i = 1;
-    while i < s.len() {
+    for i in 1..s.len() {
         fine = fine & is_plain(s[i - 1], s[i]);
-        i += 1;
     }
     fine
 }
 
-// A place up to which each byte may, reached by blocks of 16 bytes.
+// A place up to which each byte may, reached by blocks of 16 bytes. A loop over places: a block ends one byte behind where the next begins.
 fn plain_to(s: &[u8], from: usize) -> usize
     requires { from ≤ length s.now }
     ensures s_value { all_plain (take (result + 1 - from) (drop from s.now)) ≡ true }
@@ -272,7 +248,8 @@ fn plain_to(s: &[u8], from: usize) -> usize
     i
 }
 
-// The place of the last space behind `from` and not behind `to`; `from` where there is none.
+// The place of the last space behind `from` and not behind `to`; `from` where there is none. A loop over places: no part of s begins behind `from` where
+// both are its end.
 fn last_space(s: &[u8], from: usize, to: usize) -> usize
     requires { (from ≤ to) × (from < to → to < length s.now) }
     ensures lower_bound { (from ≤ result) × (result ≤ to) × (from < result → get_or s.now result 0 ≡ 32) }
@@ -324,7 +301,8 @@ fn item(keys: &[u8], rules: &[u8], s: &[u8], at: usize, o: usize, last: usize) -
 }
 
 // What follows a word that ends at `end`, in an item of the key at place k: its further words, and the items behind it. The text bytes that a word begins with
-// are all of it, or the key of the next item; with any other byte behind them it does not fit, since no key and no rule has such a byte.
+// are all of it, or the key of the next item; with any other byte behind them it does not fit, since no key and no rule has such a byte. A loop over places:
+// the end of a word is found while its bytes are read.
 #[cycle(item_words)]
 fn words(keys: &[u8], rules: &[u8], s: &[u8], end: usize, k: usize) -> bool
     requires end_in_bounds { (end ≤ length s.now) × (0 < k) × (up_to 32 (drop end s.now) ≡ 0) }
@@ -352,12 +330,15 @@ fn words(keys: &[u8], rules: &[u8], s: &[u8], end: usize, k: usize) -> bool
     true
 }
 
+// The content that says that there are no items.
+const NOTHING: &[u8] = b"0";
+
 // Whether a content fits the form in an edition: its keys, in cells of four bytes, and a mark for the rule of each.
 fn fits_edition(keys: &[u8], rules: &[u8], s: &[u8]) -> bool
     requires { sound_keys (edition (cells 4 keys.now) rules.now) ≡ true }
     ensures { result ≡ fits_in (edition (cells 4 keys.now) rules.now) s.now }
 {
-    if text::same_bytes(s, b"0") {
+    if s == NOTHING {
         return true;
     }
     let o = text::end_of(text::Kind::Text, s, 0);
@@ -381,9 +362,9 @@ pub fn fits_field18(s: &[u8]) -> bool
     )
 }
 
-// Where the words of the item of a key begin, behind its oblique; 0 where there is no such item.
-fn words_at(s: &[u8], key: &[u8]) -> usize
-    ensures { Found s.now key.now result }
+// Where the words of the item of a key begin, behind its oblique, if there is such an item. A loop over places: one of them is the answer.
+fn words_at(s: &[u8], key: &[u8]) -> Option<usize>
+    ensures { MatchOption result (Found s.now key.now 0) (λ at. (0 < at) × Found s.now key.now at) }
 {
     let mut at = 0;
     loop {
@@ -391,18 +372,18 @@ fn words_at(s: &[u8], key: &[u8]) -> usize
         let w = &s[at..e];
         let o = text::find(w, 0, b'/');
         if o < w.len() {
-            if text::same_bytes(&w[..o], key) {
-                return at + o + 1;
+            if &w[..o] == key {
+                return Some(at + o + 1);
             }
         }
         if e == s.len() {
-            return 0;
+            return None;
         }
         at = e + 1;
     }
 }
 
-// Where the item ends whose words begin at `at`: before the next word that holds an oblique.
+// Where the item ends whose words begin at `at`: before the next word that holds an oblique. A loop over places, as in words_at.
 fn item_end(s: &[u8], at: usize) -> usize
     requires { at ≤ length s.now }
     ensures s_value { take (result - at) (drop at s.now) ≡ words_from (split 32 (drop at s.now)) }
@@ -424,17 +405,15 @@ fn item_end(s: &[u8], at: usize) -> usize
 pub fn has_key(s: &[u8], key: &[u8]) -> bool
     ensures { result ≡ has_key s.now key.now }
 {
-    words_at(s, key) != 0
+    words_at(s, key).is_some()
 }
 
 // The words of the item of a key, from behind its oblique to its end; nothing where there is no such item.
 pub fn words_of<'a>(s: &'a [u8], key: &[u8]) -> &'a [u8]
     ensures { result.now ≡ words_under s.now key.now }
 {
-    let at = words_at(s, key);
-    if at == 0 {
-        return &s[..0];
+    match words_at(s, key) {
+        Some(at) => &s[at..item_end(s, at)],
+        None => &s[..0],
     }
-    let end = item_end(s, at);
-    &s[at..end]
 }

@@ -1,14 +1,17 @@
 -- A speed or a level at the front of a word ends where its letter says, and behind it stands what the shapes have behind theirs. Assumes nothing.
-use Prim.Native.Nat.{ℕ, suc, ◌+◌, ◌<◌, ◌≤◌}
+use Prim.Native.Nat.{ℕ, suc, ◌+◌, ◌-◌, ◌<◌, ◌≤◌}
+use Rattle.std.specs.Prelude.{Option, Some, None, MatchOption}
+use Rattle.std.specs.List.{slice_get}
+use borrow.Author.Rules.{rules}
 use mathlib.Core.Path.{◌≡◌, refl, sym, ap, ◌∙◌}
 use mathlib.Core.Bool.{Bool, true, false, cond, ◌&&◌, false≢true, true≢false, and-false}
 use mathlib.Core.List.{List, [], ◌∷◌, ◌++◌, append-nil}
 use native.Mathlib.Omega.{arith}
 use native.Mathlib.Numerals.{add-one}
 use lib.Dec.{ltb, eqb}
-use lib.ListN.{length, take, drop, length-append, take-append-drop}
+use lib.ListN.{length, take, drop, length-append, length-drop, take-append-drop}
 use lib.Seq.{take_at, drop_at, take_all, length-take-le}
-use borrow.Author.Tests.{ltb-true, lt-ltb, le-ltb, eqb-true, eq-eqb, ne_eqb}
+use borrow.Author.Tests.{ltb-true, lt-ltb, le-ltb, eqb-true, eqb-false, eq-eqb, ne_eqb}
 use Rattle.alphabet.specs.Text.{bytes}
 use Rattle.alphabet.specs.Alphabet.{digit}
 use Rattle.text.specs.Words.{Word, all, same}
@@ -89,10 +92,28 @@ module _ (n : ℕ) (w : Word) where
     unfolding unit_end
     unit_here e = rw (begins_digits, e) (sym (add-one n))
 
+pub unit_inside : (n : ℕ) (w : Word) → unit_end n w ≤ length w
+unfolding unit_end
+unit_inside n w = go (begins n w) refl
+  where
+    go : (b : Bool) → begins n w ≡ b → cond b (suc n) 0 ≤ length w
+    go true e = omega (arith, (begun n w e).room)
+    go false e = omega arith
+
+-- what stands behind, if there is something, and what is told of it
+pub told_of : {T G N Q : Type 0} {S P : T → Type 0} (r : Option T) → MatchOption r N S → MatchOption r Q P → (N → Q → G) → ((t : T) → S t → P t → G) → G
+told_of None n q f g = f n q
+told_of (Some t) s p f g = g t s p
+
 -- where a letter says how many digits are due, and where a byte is no letter
 
-pub unit_by : (n m : ℕ) (w : Word) (r : ℕ) → n ≡ m → (r ≡ unit_end n w) × (r ≤ length w) → (r ≡ unit_end m w) × (r ≤ length w)
-unit_by n m w r e h = (h.0 ∙ ap (λ (k : ℕ). unit_end k w) e, h.1)
+pub first_none : (w : Word) → slice_get w 0 ≡ None → length w ≡ 0
+first_none [] e = refl
+first_none (b ∷ w) e = absurd (search rules)
+
+pub first_some : (w : Word) (b : ℕ) → slice_get w 0 ≡ Some b → letter_of w ≡ b
+first_some [] b e = absurd (search rules)
+first_some (x ∷ w) b e = search rules
 
 pub no_speed_letter : (u : ℕ) → (u ≡ 75 → ⊥) → (u ≡ 78 → ⊥) → (u ≡ 77 → ⊥) → speed_digits u ≡ 0
 unfolding speed_digits
@@ -185,6 +206,17 @@ module _ (w : Word) (v : ℕ) (at : v ≡ level_end w) where
 
   pub level_whole : (v ≡ 0 → ⊥) → any (wides levels) w ≡ eqb v (length w)
   level_whole = alone_some level_digits levels level_none level_due level_made w v at
+
+-- what stands behind the level of a level is empty
+pub level_all : (w t : Word) → 0 < level_end w → t ≡ drop (level_end w) w → any (wides levels) w ≡ eqb (length t) 0
+level_all w t z e =
+    let n : length t ≡ length w - level_end w = ap length e ∙ length-drop (level_end w) w in
+    let l : level_end w ≤ length w = unit_inside (level_digits (letter_of w)) w in
+    level_whole w (level_end w) refl (λ n. omega (arith, z)) ∙ go (eqb (level_end w) (length w)) refl n l
+  where
+    go : (b : Bool) → eqb (level_end w) (length w) ≡ b → length t ≡ length w - level_end w → level_end w ≤ length w → b ≡ eqb (length t) 0
+    go true q n l = sym (eq-eqb (length t) 0 (omega (arith, eqb-true (level_end w) (length w) q)))
+    go false q n l = sym (ne_eqb (length t) 0 (λ y. eqb-false (level_end w) (length w) q (omega arith)))
 
 -- a level or another word
 or_word_lem : (k : Word) → ((w : Word) → fits (wide k) w ≡ same w k) → (w : Word)

@@ -1,7 +1,7 @@
 // Field 15: speed and level, then one or more words.
 #![tactic(auto)]
 
-ghost use Rattle.std.specs.Prelude.{◌≡◌, true, ℕ, ◌+◌, ◌-◌, ◌≤◌, ◌<◌, [], ◌∷◌, length, drop};
+ghost use Rattle.std.specs.Prelude.{◌≡◌, MatchOption, true, ℕ, ◌+◌, ◌-◌, ◌≤◌, ◌<◌, [], ◌∷◌, length, drop};
 ghost use Rattle.alphabet.specs.Alphabet.{sign};
 ghost use Rattle.text.specs.Words.{split, elem, all, leading};
 ghost use Rattle.shape.specs.Shape.{wides, fits as fitting, any as any_of};
@@ -75,20 +75,17 @@ fn with_bearing(w: &[u8]) -> bool
     shape::three(w, k) <= 360
 }
 
-// Whether a word is an indicator. All of them have three bytes, so any other word is told by its length.
+const DIRECT: &[u8] = b"DCT";
+
+const VISUAL: &[u8] = b"VFR";
+
+const INSTRUMENT: &[u8] = b"IFR";
+
+// Whether a word is an indicator.
 fn is_indicator(w: &[u8]) -> bool
     ensures { result ≡ elem w.now indicators }
 {
-    if w.len() != 3 {
-        return false;
-    }
-    if text::same_bytes(w, b"DCT") {
-        return true;
-    }
-    if text::same_bytes(w, b"VFR") {
-        return true;
-    }
-    text::same_bytes(w, b"IFR")
+    w == DIRECT || w == VISUAL || w == INSTRUMENT
 }
 
 // 2 or more signs, and no indicator, of a word of signs.
@@ -110,14 +107,11 @@ fn half(one: u8, other: u8, w: &[u8]) -> bool
     requires { 0 < length w.now }
     ensures { result ≡ half_fits (one ∷ (other ∷ [])) w.now }
 {
-    let k = w.len() - 1;
-    if !text::all_of(text::Kind::Digit, &w[..k]) {
-        return false;
+    match w {
+        [digits @ .., last] => text::all_of(text::Kind::Digit, digits)
+            && (*last == one || *last == other),
+        [] => false,
     }
-    if w[k] == one {
-        return true;
-    }
-    w[k] == other
 }
 
 // Whether a word is k digits, N or S, j digits and E or W.
@@ -175,12 +169,15 @@ pub fn point(most: usize, w: &[u8]) -> bool
     point_of_signs(most, w)
 }
 
+// That the route is cut off.
+const TRUNCATED: &[u8] = b"T";
+
 // A word of signs. T may stand only last.
 fn word(last: bool, w: &[u8]) -> bool
     requires { all sign w.now ≡ true }
     ensures { result ≡ word_fits last w.now }
 {
-    if text::same_bytes(w, b"T") {
+    if w == TRUNCATED {
         return last;
     }
     if is_indicator(w) {
@@ -189,48 +186,42 @@ fn word(last: bool, w: &[u8]) -> bool
     point_of_signs(7, w)
 }
 
-// Where a byte and n digits end that w begins with; 0 where it does not begin with them.
-fn unit_end(n: usize, w: &[u8]) -> usize
+// What stands behind a byte and n digits, if w begins with them.
+fn behind_unit<'a>(n: usize, w: &'a [u8]) -> Option<&'a [u8]>
     requires { 0 < n }
-    ensures { (result ≡ unit_end n w.now) × (result ≤ length w.now) }
+    ensures { MatchOption result (unit_end n w.now ≡ 0) (λ t. (0 < unit_end n w.now) × (t.now ≡ drop (unit_end n w.now) w.now)) }
 {
     if w.len() <= n {
-        return 0;
+        return None;
     }
     let e = n + 1;
     if !text::all_of(text::Kind::Digit, &w[1..e]) {
-        return 0;
+        return None;
     }
-    e
+    Some(&w[e..])
 }
 
-// Where the speed ends that w begins with; 0 where it begins with none.
-fn speed_end(w: &[u8]) -> usize
-    ensures { (result ≡ speed_end w.now) × (result ≤ length w.now) }
+// What stands behind the speed, if w begins with one.
+fn behind_speed<'a>(w: &'a [u8]) -> Option<&'a [u8]>
+    ensures { MatchOption result (speed_end w.now ≡ 0) (λ t. (0 < speed_end w.now) × (t.now ≡ drop (speed_end w.now) w.now)) }
 {
-    if w.len() == 0 {
-        return 0;
-    }
-    let unit = w[0];
+    let unit = *w.first()?;
     match unit {
-        b'K' | b'N' => unit_end(4, w),
-        b'M' => unit_end(3, w),
-        _ => 0,
+        b'K' | b'N' => behind_unit(4, w),
+        b'M' => behind_unit(3, w),
+        _ => None,
     }
 }
 
 // The same of a level.
-fn level_end(w: &[u8]) -> usize
-    ensures { (result ≡ level_end w.now) × (result ≤ length w.now) }
+fn behind_level<'a>(w: &'a [u8]) -> Option<&'a [u8]>
+    ensures { MatchOption result (level_end w.now ≡ 0) (λ t. (0 < level_end w.now) × (t.now ≡ drop (level_end w.now) w.now)) }
 {
-    if w.len() == 0 {
-        return 0;
-    }
-    let unit = w[0];
+    let unit = *w.first()?;
     match unit {
-        b'F' | b'A' => unit_end(3, w),
-        b'S' | b'M' => unit_end(4, w),
-        _ => 0,
+        b'F' | b'A' => behind_unit(3, w),
+        b'S' | b'M' => behind_unit(4, w),
+        _ => None,
     }
 }
 
@@ -238,57 +229,33 @@ fn level_end(w: &[u8]) -> usize
 fn level(w: &[u8]) -> bool
     ensures { result ≡ any_of (wides levels) w.now }
 {
-    let l = level_end(w);
-    if l == 0 {
-        return false;
-    }
-    l == w.len()
+    behind_level(w).is_some_and(|t| t.is_empty())
 }
+
+// In place of the second level of a climb.
+const UPWARDS: &[u8] = b"PLUS";
 
 // Speed and level at the start.
 pub fn start(w: &[u8]) -> bool
     ensures { result ≡ any_of (wides starts) w.now }
 {
-    let v = speed_end(w);
-    if v == 0 {
-        return false;
-    }
-    let t = &w[v..];
-    if level(t) {
-        return true;
-    }
-    text::same_bytes(t, b"VFR")
+    behind_speed(w).is_some_and(|t| level(t) || t == VISUAL)
 }
 
 // Speed and level at a point.
 fn changed(w: &[u8]) -> bool
     ensures { result ≡ any_of (wides changes) w.now }
 {
-    let v = speed_end(w);
-    if v == 0 {
-        return false;
-    }
-    level(&w[v..])
+    behind_speed(w).is_some_and(|t| level(t))
 }
 
 // Speed and two levels at a point, or PLUS for the second.
 fn climbed(w: &[u8]) -> bool
     ensures { result ≡ any_of (wides climbs) w.now }
 {
-    let v = speed_end(w);
-    if v == 0 {
-        return false;
-    }
-    let t = &w[v..];
-    let l = level_end(t);
-    if l == 0 {
-        return false;
-    }
-    let u = &t[l..];
-    if level(u) {
-        return true;
-    }
-    text::same_bytes(u, b"PLUS")
+    behind_speed(w)
+        .and_then(|t| behind_level(t))
+        .is_some_and(|u| level(u) || u == UPWARDS)
 }
 
 // A climb, behind its `C/`: a point, '/', a speed and two levels.
@@ -308,6 +275,9 @@ fn climb(w: &[u8]) -> bool
     climbed(&w[o + 1..])
 }
 
+// What a climb begins with, before its oblique.
+const CLIMB: &[u8] = b"C";
+
 // A word whose signs end at o, before its end. Behind them an oblique is due: `C/` is a climb, any other a change of speed and level at a point.
 fn joined(o: usize, w: &[u8]) -> bool
     requires { (o < length w.now) × (o ≡ leading sign w.now) }
@@ -318,7 +288,7 @@ fn joined(o: usize, w: &[u8]) -> bool
     }
     let p = &w[..o];
     let t = &w[o + 1..];
-    if text::same_bytes(p, b"C") {
+    if p == CLIMB {
         return climb(t);
     }
     if !point_of_signs(5, p) {
@@ -338,7 +308,7 @@ pub fn element(last: bool, w: &[u8]) -> bool
     joined(o, w)
 }
 
-// The words from `from` on. Most are of signs alone and so walked once.
+// The words from `from` on. A loop over places: most words are of signs alone, and their end is found while their signs are read, so they are walked once.
 fn elements(s: &[u8], from: usize) -> bool
     requires { from ≤ length s.now }
     ensures { result ≡ route_fits (split 32 (drop from s.now)) }

@@ -2,7 +2,6 @@ use mathlib.Core.Path.{◌≡◌}
 use Rattle.text.specs.Words.{after, cells}
 use Rattle.other.specs.Rules.{edition}
 use Rattle.other.specs.Field18.{fit_more}
-use borrow.Author.Rules.{rules}
 use Prim.Native.Nat.{◌-◌, ◌≤◌}
 use lib.ListN.{length, drop}
 use Rattle.other.proofs.+item_words.Given as goal

@@ -8,10 +8,9 @@ use Rattle.other.proofs.all_plain.Goals as goal
 pub loop-i-preserved : goal.loop-i-preserved
 loop-i-preserved c =
     let l = c.loop-i in
-    let s = c.args.s.now in
-    (omega arith, pairs_next plain s l.i l.fine _ l.invariant.0 c.loop-i-test.true c.is_plain-fine.ensures ∙ l.invariant.1)
+    pairs_next plain c.args.s.now l.i l.fine _ (omega arith) c.loop-i-test.true c.is_plain-fine.ensures ∙ l.invariant
 
 pub returns : goal.returns
 returns c =
     let l = c.loop-i in
-    pairs_end plain c.args.s.now l.i l.fine l.invariant.0 c.loop-i-test.false ∙ l.invariant.1
+    pairs_end plain c.args.s.now l.i l.fine (omega arith) c.loop-i-test.false ∙ l.invariant

@@ -1,12 +1,9 @@
-use Prim.Native.Nat.{◌-◌, ◌<◌}
+use Prim.Native.Nat.{◌-◌}
 use mathlib.Core.Path.{◌≡◌}
 use mathlib.Core.Bool.{◌&&◌}
-use lib.ListN.{length, drop}
+use lib.ListN.{drop}
 use Rattle.other.specs.Plain.{all_plain}
 use Rattle.other.proofs.all_plain.Given as goal
 
 abbrev pub invariant-loop-i : goal.invariant-loop-i
-invariant-loop-i l = (0 < l.i) × (l.fine && all_plain (drop (l.i - 1) l.s) ≡ all_plain l.s)
-
-abbrev pub decreases-loop-i : goal.decreases-loop-i
-decreases-loop-i l = length l.s - l.i
+invariant-loop-i l = l.fine && all_plain (drop (l.i - 1) l.s) ≡ all_plain l.s

@@ -18,7 +18,7 @@ items-only : (c : After-word_ends) → fits_in ((edition (cells 4 c.args.keys.no
     ≡ fit_from ((edition (cells 4 c.args.keys.now) c.args.rules.now)) 0 (split 32 c.args.s.now)
 unfolding fits_in
 items-only c =
-    rw (sym c.same_bytes.ensures ∙ c.if-same_bytes.false)
+    rw (sym c.eq.ensures ∙ c.if-eq.false)
 
 most : (c : After-word_ends) → c.end_of-o.result ≤ length c.args.s.now
 most c =
@@ -28,10 +28,10 @@ inside : (c : After-word_ends) → c.word_ends.result ≡ false → c.end_of-o.r
 inside c n =
     not_over_lem c.args.s.now c.end_of-o.result (most c) (sym c.word_ends.ensures ∙ n)
 
-pub returns-then-same_bytes : goal.returns-then-same_bytes
+pub returns-then-eq : goal.returns-then-eq
 unfolding fits_in
-returns-then-same_bytes c =
-    rw (sym c.same_bytes.ensures ∙ c.if-same_bytes.true)
+returns-then-eq c =
+    rw (sym c.eq.ensures ∙ c.if-eq.true)
 
 pub returns-then-word_ends : goal.returns-then-word_ends
 returns-then-word_ends c =

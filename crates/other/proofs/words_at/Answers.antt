@@ -1,15 +1,16 @@
 -- `other::words_at` meets its contract. Assumes nothing.
-use lib.ListN.{drop}
+use lib.ListN.{take, drop}
+use Prim.Native.Nat.{◌-◌}
 use mathlib.Core.Path.{◌≡◌, sym, ap, ◌∙◌}
 use mathlib.Core.List.{List}
-use lib.Seq.{length-take-le}
 use Rattle.text.specs.Words.{Word, split, after}
 use Rattle.text.proofs.Index.{after_here, after_end}
 use Rattle.other.specs.Field18.{group, from_key}
 use Rattle.other.proofs.Keys.{found_here, found_none, from_other, from_plain}
 use borrow.Author.Rules.{rules}
+use Rattle.text.proofs.Iterated.{same_listed}
 use native.Mathlib.Omega.{arith}
-use Rattle.other.proofs.words_at.Goals.{Joined-o-w, then-o-w+else-same_bytes, else-o-w}
+use Rattle.other.proofs.words_at.Goals.{Joined-o-w, then-o-w+else-eq, else-o-w}
 use Rattle.other.proofs.words_at.Goals as goal
 
 -- where the arms meet, the word at `at` is not of the key
@@ -21,24 +22,21 @@ passed c =
     let g = c.find-o in
     l.invariant.1
     ∙ elim c.if-o-w.branch [
-      | then-o-w+else-same_bytes w ↦
+      | then-o-w+else-eq w ↦
           from_other c.args.key.now c.args.s.now l.at f.result f.ensures.value g.result g.ensures.value w.if-o-w.true
-          (sym w.same_bytes.ensures ∙ w.if-same_bytes.false)
+          (sym (same_listed (take g.result (take (f.result - l.at) (drop l.at c.args.s.now))) c.args.key.now) ∙ sym w.eq.ensures ∙ w.if-eq.false)
       | else-o-w w ↦ from_plain c.args.key.now c.args.s.now l.at f.result f.ensures.value g.result g.ensures.value w.if-o-w.false
     ]
 
-pub slice_bounds-same_bytes-end : goal.slice_bounds-same_bytes-end
-slice_bounds-same_bytes-end c =
-    sym (length-take-le _ _ c.find-o.ensures.lower_bound.1)
-
-pub returns-then-same_bytes : goal.returns-then-same_bytes
-returns-then-same_bytes c =
+pub returns-then-eq : goal.returns-then-eq
+returns-then-eq c =
     let l = c.loop-w in
     let f = c.find-e in
     let g = c.find-o in
-    let e = sym c.same_bytes.ensures ∙ c.if-same_bytes.true in
-    found_here c.args.key.now c.args.s.now l.at f.result f.ensures.value g.result g.ensures.value c.if-o-w.true e
-    f.ensures.lower_bound.1 l.invariant.1
+    let e = sym (same_listed (take g.result (take (f.result - l.at) (drop l.at c.args.s.now))) c.args.key.now) ∙ sym c.eq.ensures ∙ c.if-eq.true in
+    let there =
+    found_here c.args.key.now c.args.s.now l.at f.result f.ensures.value g.result g.ensures.value c.if-o-w.true e f.ensures.lower_bound.1 l.invariant.1 in
+    (omega arith, there)
 
 pub returns-then-e-s : goal.returns-then-e-s
 returns-then-e-s c =

@@ -1,15 +1,17 @@
 -- `route::changed` meets its contract. Assumes nothing.
-use mathlib.Core.Path.{sym, ◌∙◌}
-use Rattle.text.proofs.Index.{rest}
-use Rattle.route.proofs.Fronts.{no_change, change_behind}
+use mathlib.Core.Path.{◌≡◌, refl, sym, ◌∙◌}
+use Rattle.std.proofs.Common.{rules}
+use native.Mathlib.Omega.{arith}
+use borrow.Author.Tests.{tests}
+use Rattle.shape.specs.Shape.{wides, any}
+use Rattle.route.specs.Levels.{levels}
+use Rattle.route.proofs.Fronts.{no_change, change_behind, told_of}
 use Rattle.route.proofs.changed.Goals as goal
-
-pub returns-then-v-eq0 : goal.returns-then-v-eq0
-returns-then-v-eq0 c =
-    let v = c.speed_end-v in sym (no_change _ v.result v.ensures.0 c.if-v-eq0.true)
 
 pub returns : goal.returns
 returns c =
     let w = c.args.w.now in
-    let v = c.speed_end-v in
-    c.level.ensures ∙ sym (change_behind w v.result v.ensures.0 _ (rest w v.result) c.if-v-eq0.false)
+    told_of c.behind_speed.result c.behind_speed.ensures c.is_some_and.ensures (λ n q. q ∙ sym (no_change w _ refl n))
+    (λ t s p.
+    let e : c.is_some_and.result ≡ any (wides levels) t.now = search (rules, tests) in
+    e ∙ sym (change_behind w _ refl t.now s.1 (λ z. omega (arith, s.0))))

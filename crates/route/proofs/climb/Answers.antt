@@ -4,7 +4,6 @@ use Prim.Native.Nat.{◌+◌, ◌<◌}
 use mathlib.Core.Bool.{◌&&◌}
 use native.Mathlib.Omega.{arith}
 use lib.ListN.{length, take, drop}
-use lib.Seq.{length-take-le}
 use Rattle.alphabet.specs.Alphabet.{sign}
 use Rattle.text.specs.Words.{leading}
 use Rattle.text.proofs.Index.{rest}
@@ -43,10 +42,6 @@ pub returns-then-w-o-ne47 : goal.returns-then-w-o-ne47
 returns-then-w-o-ne47 c =
     sym (no_pair c.args.w.now c.end_of-o.result (signs (goal.at.returns-then-w-o-ne47 c).After-end_of-o) (wides climbs)
     (inside (goal.at.returns-then-w-o-ne47 c).After-end_of-o c.if-o-w.false) c.if-w-o-ne47.true)
-
-pub slice_bounds-point_of_signs-end : goal.slice_bounds-point_of_signs-end
-slice_bounds-point_of_signs-end c =
-    sym (length-take-le _ _ c.end_of-o.ensures.lower_bound.1)
 
 pub point_of_signs-requires : goal.point_of_signs-requires
 point_of_signs-requires c =

@@ -1,49 +1,29 @@
 -- `route::climbed` meets its contract. Assumes nothing.
-use mathlib.Core.Path.{◌≡◌, sym, ◌∙◌}
-use Prim.Native.Nat.{◌-◌}
+use Prim.Native.Nat.{◌<◌}
+use mathlib.Core.Path.{◌≡◌, refl, sym, ◌∙◌}
 use mathlib.Core.Bool.{true, false, cond}
-use lib.ListN.{length, take, drop}
+use Rattle.std.proofs.Common.{rules}
+use Rattle.std.specs.Prelude.{MatchOption}
+use native.Mathlib.Omega.{arith}
+use lib.ListN.{drop}
+use borrow.Author.Tests.{tests}
 use Rattle.alphabet.specs.Text.{bytes}
 use Rattle.text.specs.Words.{same}
-use Rattle.text.proofs.Index.{rest}
 use Rattle.shape.specs.Shape.{wides, any}
-use Rattle.route.specs.Levels.{levels, climbs}
-use Rattle.route.proofs.Fronts.{no_climb, climb_none, climb_behind}
-use Rattle.route.proofs.climbed.Goals.{After-level, After-level_end-l}
+use Rattle.route.specs.Levels.{levels}
+use Rattle.route.specs.Fronts.{speed_end, level_end}
+use Rattle.route.proofs.Fronts.{no_climb, climb_none, climb_behind, told_of}
 use Rattle.route.proofs.climbed.Goals as goal
-
-none : (c : After-level_end-l) → c.level_end-l.result ≡ 0 → any (wides climbs) c.args.w.now ≡ false
-none c =
-    climb_none c.args.w.now c.speed_end-v.result c.speed_end-v.ensures.0
-    ((take (length c.args.w.now - c.speed_end-v.result) (drop c.speed_end-v.result c.args.w.now))) (rest c.args.w.now c.speed_end-v.result)
-    c.if-v-eq0.false c.level_end-l.result c.level_end-l.ensures.0
-
-told : (c : After-level) → any (wides climbs) c.args.w.now
-    ≡ cond
-    (any (wides levels) ((take (length (take (length c.args.w.now - c.speed_end-v.result) (drop c.speed_end-v.result c.args.w.now)) - c.level_end-l.result)
-    (drop c.level_end-l.result (take (length c.args.w.now - c.speed_end-v.result) (drop c.speed_end-v.result c.args.w.now)))))) true
-    (same ((take (length (take (length c.args.w.now - c.speed_end-v.result) (drop c.speed_end-v.result c.args.w.now)) - c.level_end-l.result)
-    (drop c.level_end-l.result (take (length c.args.w.now - c.speed_end-v.result) (drop c.speed_end-v.result c.args.w.now))))) (bytes "PLUS"))
-told c =
-    climb_behind c.args.w.now c.speed_end-v.result c.speed_end-v.ensures.0
-    (take (length c.args.w.now - c.speed_end-v.result) (drop c.speed_end-v.result c.args.w.now)) (rest c.args.w.now c.speed_end-v.result) c.if-v-eq0.false
-    c.level_end-l.result c.level_end-l.ensures.0
-    ((take (length (take (length c.args.w.now - c.speed_end-v.result) (drop c.speed_end-v.result c.args.w.now)) - c.level_end-l.result)
-    (drop c.level_end-l.result (take (length c.args.w.now - c.speed_end-v.result) (drop c.speed_end-v.result c.args.w.now)))))
-    (rest (take (length c.args.w.now - c.speed_end-v.result) (drop c.speed_end-v.result c.args.w.now)) c.level_end-l.result) c.if-l-eq0.false
-
-pub returns-then-v-eq0 : goal.returns-then-v-eq0
-returns-then-v-eq0 c =
-    let v = c.speed_end-v in sym (no_climb _ v.result v.ensures.0 c.if-v-eq0.true)
-
-pub returns-then-l-eq0 : goal.returns-then-l-eq0
-returns-then-l-eq0 c =
-    sym (none (goal.at.returns-then-l-eq0 c).After-level_end-l c.if-l-eq0.true)
-
-pub returns-then-level : goal.returns-then-level
-returns-then-level c =
-    rw (told (goal.at.returns-then-level c).After-level, sym c.level.ensures ∙ c.if-level.true)
 
 pub returns : goal.returns
 returns c =
-    rw (told (goal.at.returns c).After-level, sym c.level.ensures ∙ c.if-level.false) c.same_bytes.ensures
+    let w = c.args.w.now in
+    told_of c.behind_speed.result c.behind_speed.ensures c.and_then.ensures
+    (λ n q. let e : c.is_some_and.result ≡ false = rw q at c.is_some_and.ensures in e ∙ sym (no_climb w _ refl n))
+    (λ t s p.
+    let z : speed_end w ≡ 0 → ⊥ = λ e. omega (arith, s.0) in
+    let m : MatchOption c.and_then.result (level_end t.now ≡ 0) (λ u. (0 < level_end t.now) × (u.now ≡ drop (level_end t.now) t.now)) = search rules in
+    told_of c.and_then.result m c.is_some_and.ensures (λ n q. q ∙ sym (climb_none w _ refl t.now s.1 z _ refl n))
+    (λ u k p.
+    let e : c.is_some_and.result ≡ cond (any (wides levels) u.now) true (same u.now (bytes "PLUS")) = search (rules, tests) in
+    e ∙ sym (climb_behind w _ refl t.now s.1 z _ refl u.now k.1 (λ y. omega (arith, k.0)))))

@@ -1,7 +1,6 @@
 -- `route::fits_field15` meets its contract. Assumes nothing.
 use mathlib.Core.Path.{sym, ◌∙◌}
 use native.Mathlib.Omega.{arith}
-use lib.Seq.{length-take-le}
 use Rattle.route.proofs.Index.{field_one, field_more}
 use Rattle.route.proofs.fits_field15.Goals as goal
 
@@ -9,10 +8,6 @@ pub returns-then-e-s : goal.returns-then-e-s
 returns-then-e-s c =
     let f = c.find-e in
     sym (field_one c.args.s.now f.result f.ensures.value (omega arith))
-
-pub slice_bounds-start-end : goal.slice_bounds-start-end
-slice_bounds-start-end c =
-    sym (length-take-le _ _ c.find-e.ensures.lower_bound.1)
 
 pub returns-then-not-start : goal.returns-then-not-start
 returns-then-not-start c =

@@ -24,10 +24,6 @@ returns-then-w-m c =
     let a = c.args in
     sym (no_coordinate a.k a.j a.w.now (λ e. n (omega (arith, e))))
 
-pub slice_bounds-half-end : goal.slice_bounds-half-end
-slice_bounds-half-end c =
-    sym (length-take-le _ _ (omega arith))
-
 pub half-requires : goal.half-requires
 half-requires c =
     let l : length (take (c.args.k + 1) c.args.w.now) ≡ c.args.k + 1 = length-take-le _ _ (omega arith) in

@@ -4,7 +4,6 @@ use Prim.Native.Nat.{◌+◌, ◌≤◌}
 use mathlib.Core.Bool.{true, cond, ◌&&◌}
 use native.Mathlib.Omega.{arith}
 use lib.ListN.{length, take, drop}
-use lib.Seq.{length-take-le}
 use Rattle.alphabet.specs.Text.{bytes}
 use Rattle.text.specs.Words.{up_to, same}
 use Rattle.text.proofs.Index.{rest}
@@ -14,7 +13,7 @@ use Rattle.route.specs.Points.{point_fits}
 use Rattle.route.specs.Field15.{pair_fits, element_fits}
 use Rattle.route.proofs.Index.{element_at, pair_at, climbs_rest}
 use Rattle.route.proofs.Signs.{front_signs, oblique_at, no_element}
-use Rattle.route.proofs.joined.Goals.{Else-same_bytes, Else-w-o-ne47}
+use Rattle.route.proofs.joined.Goals.{Else-eq, Else-w-o-ne47}
 use Rattle.route.proofs.joined.Goals as goal
 
 inside : (c : Else-w-o-ne47) → c.args.o ≤ length c.args.w.now
@@ -35,7 +34,7 @@ told c =
     element_at c.args.w.now c.args.o (oblique c) true (short c) (inside c)
 
 -- where it is another
-changing : (c : Else-same_bytes) → element_fits true c.args.w.now
+changing : (c : Else-eq) → element_fits true c.args.w.now
     ≡ (point_fits 5 (take c.args.o c.args.w.now) && any (wides changes) (drop (c.args.o + 1) c.args.w.now))
 changing c =
     let oblique : c.args.o ≡ 0 + up_to 47 c.args.w.now = oblique_at c.args.w.now c.args.o c.requires.1 c.requires.0 c.if-w-o-ne47.false in
@@ -44,19 +43,15 @@ changing c =
     let told : element_fits true c.args.w.now ≡ cond (same (take c.args.o c.args.w.now) (bytes "C"))
     (pair_fits (wides climbs) (drop (c.args.o + 1) c.args.w.now)) (pair_fits (wides changes) c.args.w.now) =
     element_at c.args.w.now c.args.o oblique true short inside in
-    rw (told, sym c.same_bytes.ensures ∙ c.if-same_bytes.false) (pair_at c.args.w.now c.args.o oblique (wides changes) short inside)
+    rw (told, sym c.eq.ensures ∙ c.if-eq.false) (pair_at c.args.w.now c.args.o oblique (wides changes) short inside)
 
 pub returns-then-w-o-ne47 : goal.returns-then-w-o-ne47
 returns-then-w-o-ne47 c =
     sym (no_element c.args.w.now c.args.o c.requires.1 true c.requires.0 c.if-w-o-ne47.true)
 
-pub slice_bounds-p-end : goal.slice_bounds-p-end
-slice_bounds-p-end c =
-    sym (length-take-le _ _ (inside (goal.at.slice_bounds-p-end c).Else-w-o-ne47))
-
-pub returns-then-same_bytes : goal.returns-then-same_bytes
-returns-then-same_bytes c =
-    rw (told (goal.at.returns-then-same_bytes c).Else-w-o-ne47, sym c.same_bytes.ensures ∙ c.if-same_bytes.true)
+pub returns-then-eq : goal.returns-then-eq
+returns-then-eq c =
+    rw (told (goal.at.returns-then-eq c).Else-w-o-ne47, sym c.eq.ensures ∙ c.if-eq.true)
     (c.climb.ensures ∙ climbs_rest c.args.w.now (c.args.o + 1))
 
 pub point_of_signs-requires : goal.point_of_signs-requires
@@ -65,9 +60,9 @@ point_of_signs-requires c =
 
 pub returns-then-not-point_of_signs : goal.returns-then-not-point_of_signs
 returns-then-not-point_of_signs c =
-    rw (changing (goal.at.returns-then-not-point_of_signs c).Else-same_bytes, sym c.point_of_signs.ensures ∙ c.if-not-point_of_signs.true)
+    rw (changing (goal.at.returns-then-not-point_of_signs c).Else-eq, sym c.point_of_signs.ensures ∙ c.if-not-point_of_signs.true)
 
 pub returns : goal.returns
 returns c =
-    rw (changing (goal.at.returns c).Else-same_bytes, sym c.point_of_signs.ensures ∙ c.if-not-point_of_signs.false)
+    rw (changing (goal.at.returns c).Else-eq, sym c.point_of_signs.ensures ∙ c.if-not-point_of_signs.false)
     (c.changed.ensures ∙ ap (any (wides changes)) (rest c.args.w.now (c.args.o + 1)))

@@ -2,15 +2,15 @@
 use mathlib.Core.Path.{sym, ◌∙◌}
 use Rattle.route.proofs.word.Goals as goal
 
-pub returns-then-same_bytes : goal.returns-then-same_bytes
-returns-then-same_bytes c =
-    rw (sym c.same_bytes.ensures ∙ c.if-same_bytes.true)
+pub returns-then-eq : goal.returns-then-eq
+returns-then-eq c =
+    rw (sym c.eq.ensures ∙ c.if-eq.true)
 
 pub returns-then-is_indicator : goal.returns-then-is_indicator
 returns-then-is_indicator c =
-    rw (sym c.same_bytes.ensures ∙ c.if-same_bytes.false, sym c.is_indicator.ensures ∙ c.if-is_indicator.true)
+    rw (sym c.eq.ensures ∙ c.if-eq.false, sym c.is_indicator.ensures ∙ c.if-is_indicator.true)
 
 pub returns : goal.returns
 returns c =
-    rw (sym c.same_bytes.ensures ∙ c.if-same_bytes.false, sym c.is_indicator.ensures ∙ c.if-is_indicator.false)
+    rw (sym c.eq.ensures ∙ c.if-eq.false, sym c.is_indicator.ensures ∙ c.if-is_indicator.false)
     c.point_of_signs.ensures

@@ -19,4 +19,6 @@ returns c =
     fold_from_yields_List _ step Start c.fold-stage.result c.fold-stage.ensures.ran
     (YieldsList-from_slice_split _ (λ b. eqb b 32) s c.split.ensures.rest c.split.ensures.done c.split.ensures.closure (λ x b q k. search (rules, tests)))
     (λ a x b q k. search (rules, tests)) in
-    c.complete.ensures ∙ (ap complete_at folded ∙ sym (walked_folded Start (slice_split (λ b. eqb b 32) s))) ∙ (ap (walked Start) (split_listed 32 s) ∙ walk_fits s)
+    c.complete.ensures
+    ∙ (ap complete_at folded ∙ sym (walked_folded Start (slice_split (λ b. eqb b 32) s)))
+    ∙ (ap (walked Start) (split_listed 32 s) ∙ walk_fits s)

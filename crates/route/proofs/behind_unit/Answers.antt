@@ -1,17 +1,14 @@
--- `route::unit_end` meets its contract. Assumes nothing.
+-- `route::behind_unit` meets its contract. Assumes nothing.
 use mathlib.Core.Path.{◌≡◌, sym, ap, ◌∙◌}
-use Prim.Native.Nat.{ℕ, ◌+◌, ◌-◌, ◌<◌}
+use Prim.Native.Nat.{ℕ, ◌+◌, ◌-◌}
 use native.Mathlib.Omega.{arith}
-use lib.ListN.{length, take, drop}
+use lib.ListN.{take, drop}
 use Rattle.alphabet.specs.Alphabet.{digit}
 use Rattle.text.specs.Words.{all}
+use Rattle.text.proofs.Index.{rest}
 use Rattle.route.proofs.Fronts.{unit_short, unit_other, unit_here}
-use Rattle.route.proofs.unit_end.Goals.{After-all_of}
-use Rattle.route.proofs.unit_end.Goals as goal
-
-room : (c : After-all_of) → c.args.n < length c.args.w.now
-room c =
-    c.if-w-n.false
+use Rattle.route.proofs.behind_unit.Goals.{After-all_of}
+use Rattle.route.proofs.behind_unit.Goals as goal
 
 digits-there : (c : After-all_of) → all digit (take c.args.n (drop 1 c.args.w.now)) ≡ c.all_of.result
 digits-there c =
@@ -20,14 +17,15 @@ digits-there c =
 
 pub returns-then-w-n : goal.returns-then-w-n
 returns-then-w-n c =
-    (sym (unit_short _ _ c.if-w-n.true), omega arith)
+    unit_short _ _ c.if-w-n.true
 
 pub returns-then-not-all_of : goal.returns-then-not-all_of
 returns-then-not-all_of c =
     let e = digits-there (goal.at.returns-then-not-all_of c).After-all_of ∙ c.if-not-all_of.true in
-    (sym (unit_other c.args.n c.args.w.now c.requires (room (goal.at.returns-then-not-all_of c).After-all_of) e), omega arith)
+    unit_other c.args.n c.args.w.now c.requires c.if-w-n.false e
 
 pub returns : goal.returns
 returns c =
     let e = digits-there (goal.at.returns c).After-all_of ∙ c.if-not-all_of.false in
-    (sym (unit_here c.args.n c.args.w.now c.requires (room (goal.at.returns c).After-all_of) e), omega arith)
+    let n = unit_here c.args.n c.args.w.now c.requires c.if-w-n.false e in
+    (omega (arith, n), rest c.args.w.now (c.args.n + 1) ∙ ap (λ (k : ℕ). drop k c.args.w.now) (sym n))
