@@ -3,7 +3,7 @@ use Prim.Native.Nat.{ℕ, zero, suc, ◌+◌, ◌<◌, ◌≤◌}
 use mathlib.Core.Path.{◌≡◌, refl, sym, ap, ◌∙◌}
 use mathlib.Core.Bool.{Bool, true, false, ◌&&◌, ◌||◌, cond, and-true, and-false, false≢true, true≢false}
 use mathlib.Core.List.{List, [], ◌∷◌, ◌++◌}
-use mathlib.Core.Option.{none, some}
+use Rattle.std.specs.Prelude.{None, Some}
 use native.Mathlib.Omega.{arith}
 use native.Mathlib.Nat.{zero-add}
 use lib.Dec.{leb, eqb}
@@ -106,7 +106,7 @@ joined_free most w e = word_free w (joined_tidy most w e)
 four_free : (w : Word) → four_letters w ≡ true → free 32 w ≡ true
 four_free w e = word_free w (four_tidy w e)
 
-plan_right : (n : ℕ) (w : Word) → IsPlace (λ v. ended (plan.after n v)) w (plan_place n w)
+pub plan_right : (n : ℕ) (w : Word) → IsPlace (λ v. ended (plan.after n v)) w (plan_place n w)
 plan_right n w = go (eqb n 0) (leb n most_alternates)
   where
     go : (x y : Bool)
@@ -123,10 +123,10 @@ plan_free n w = go (eqb n 0)
     go true e = joined_free elapsed_hours w (sym (given_ended (joined elapsed_hours w) 1) ∙ e)
     go false e = four_free w (both (leb n most_alternates) (four_letters w) (sym (given_ended (leb n most_alternates && four_letters w) (suc n)) ∙ e)).1
 
-plan_alive : (n j : ℕ) (w : Word) → plan.after n w ≡ some j → (plan.final j || plan.goes j) ≡ true
+plan_alive : (n j : ℕ) (w : Word) → plan.after n w ≡ Some j → (plan.final j || plan.goes j) ≡ true
 plan_alive n j w = go (eqb n 0)
   where
-    go : (x : Bool) → cond x (given (joined elapsed_hours w) 1) (given (leb n most_alternates && four_letters w) (suc n)) ≡ some j
+    go : (x : Bool) → cond x (given (joined elapsed_hours w) 1) (given (leb n most_alternates && four_letters w) (suc n)) ≡ Some j
         → (leb 1 j || leb j most_alternates) ≡ true
     go true e = let h = given_some (joined elapsed_hours w) 1 j e in rw (le-leb 1 j (omega arith))
     go false e = let h = given_some (leb n most_alternates && four_letters w) (suc n) j e in rw (le-leb 1 j (omega arith))
@@ -135,20 +135,20 @@ pub sample_joined : (most : ℕ) → joined most (bytes "AAAA0000") ≡ true
 unfolding joined four_letters
 sample_joined most = midnight most
 
-plan_more : (n : ℕ) → plan.goes n ≡ true → (w : Word) × (j : ℕ) × (plan.after n w ≡ some j) × (plan.final j ≡ true)
+plan_more : (n : ℕ) → plan.goes n ≡ true → (w : Word) × (j : ℕ) × (plan.after n w ≡ Some j) × (plan.final j ≡ true)
 unfolding four_letters
 plan_more zero e = (bytes "AAAA0000", 1, rw (sample_joined elapsed_hours), refl)
 plan_more (suc n) e = (bytes "AAAA", suc (suc n), rw (ne_eqb (suc n) 0 (omega arith), e), le-leb 1 (suc (suc n)) (omega arith))
 
-plan_closed : (n : ℕ) → plan.goes n ≡ false → (w : Word) → plan.after n w ≡ none
+plan_closed : (n : ℕ) → plan.goes n ≡ false → (w : Word) → plan.after n w ≡ None
 plan_closed n e w = let l : most_alternates < n = leb-false n most_alternates e in rw (ne_eqb n 0 (omega arith), e)
 
 -- the words
-rest_fit : (vs : List Word) (n : ℕ) → n ≤ 2 → words_fit plan vs (some (suc n)) ≡ (leb (n + length vs) 2 && all four_letters vs)
+rest_fit : (vs : List Word) (n : ℕ) → n ≤ 2 → words_fit plan vs (Some (suc n)) ≡ (leb (n + length vs) 2 && all four_letters vs)
 rest_fit [] n h = rw (le-leb 1 (suc n) (omega arith), le-leb (n + 0) 2 (omega arith))
 rest_fit (v ∷ vs) n h = rw (ne_eqb (suc n) 0 (omega arith)) (go (leb (suc n) 2) refl (four_letters v) (rest_fit vs (suc n)))
   where
-    go : (x : Bool) → leb (suc n) 2 ≡ x → (y : Bool) → (suc n ≤ 2 → words_fit plan vs (some (suc (suc n))) ≡ (leb (suc n + length vs) 2 && all four_letters vs))
+    go : (x : Bool) → leb (suc n) 2 ≡ x → (y : Bool) → (suc n ≤ 2 → words_fit plan vs (Some (suc (suc n))) ≡ (leb (suc n + length vs) 2 && all four_letters vs))
         → words_fit plan vs (given (x && y) (suc (suc n))) ≡ (leb (n + suc (length vs)) 2 && (y && all four_letters vs))
     go true e true ih =
         let z : suc n + length vs ≡ n + suc (length vs) = omega arith in
@@ -164,7 +164,7 @@ plan_is s = go (split 32 s) (null-split 32 s)
     begun true vs = rest_fit vs 0 (omega arith) ∙ ap (λ (m : ℕ). leb m 2 && all four_letters vs) (zero-add (length vs))
     begun false vs = none_fits plan vs
 
-    go : (ws : List Word) → null ws ≡ false → words_fit plan ws (some 0) ≡ (joined elapsed_hours (first ws) && few_aerodromes most_alternates (others ws))
+    go : (ws : List Word) → null ws ≡ false → words_fit plan ws (Some 0) ≡ (joined elapsed_hours (first ws) && few_aerodromes most_alternates (others ws))
     go [] h = absurd (true≢false h)
     go (w ∷ ws) h = begun (joined elapsed_hours w) ws
 
@@ -195,17 +195,17 @@ placed16entry s = absorbed fits16 fits16plan bare_goes s (place16plan s) (placed
 pub plan_within : (n : ℕ) (w : Word) → plan_place n w ≤ length w
 plan_within n w = (plan_right n w).within
 
-pub plan_next : (n : ℕ) (w : Word) → ended (plan.after n w) ≡ true → plan.after n w ≡ some (n + 1)
+pub plan_next : (n : ℕ) (w : Word) → ended (plan.after n w) ≡ true → plan.after n w ≡ Some (n + 1)
 plan_next n w = go (eqb n 0) refl
   where
-    got : (b : Bool) (m k : ℕ) → m ≡ k → ended (given b m) ≡ true → given b m ≡ some k
-    got true m k h e = ap some h
+    got : (b : Bool) (m k : ℕ) → m ≡ k → ended (given b m) ≡ true → given b m ≡ Some k
+    got true m k h e = ap Some h
     got false m k h e = absurd (false≢true e)
 
     go : (x : Bool) → eqb n 0 ≡ x → ended (cond x (given (joined elapsed_hours w) 1) (given (leb n most_alternates && four_letters w) (suc n))) ≡ true
-        → cond x (given (joined elapsed_hours w) 1) (given (leb n most_alternates && four_letters w) (suc n)) ≡ some (n + 1)
+        → cond x (given (joined elapsed_hours w) 1) (given (leb n most_alternates && four_letters w) (suc n)) ≡ Some (n + 1)
     go true q e = let z : n ≡ 0 = eqb-true n 0 q in got (joined elapsed_hours w) 1 (n + 1) (omega arith) e
     go false q e = got (leb n most_alternates && four_letters w) (suc n) (n + 1) (omega arith) e
 
-pub plan_stuck : (n : ℕ) (w : Word) → ended (plan.after n w) ≡ false → plan.after n w ≡ none
+pub plan_stuck : (n : ℕ) (w : Word) → ended (plan.after n w) ≡ false → plan.after n w ≡ None
 plan_stuck n w = none_of (plan.after n w)

@@ -1,15 +1,17 @@
 -- The place of a content of field 13, 16 or 17 that does not fit (document 02, request 4). Assumes nothing.
-use Rattle.std.specs.Prelude.{ℕ, suc, ◌≡◌, refl, ◌&&◌, ◌||◌, cond, List, [], leb, ltb, eqb}
+use Rattle.std.specs.Prelude.{ℕ, suc, ◌≡◌, refl, Bool, true, false, ◌&&◌, cond, List, [], leb, eqb, Option, None}
 use Rattle.alphabet.specs.Text.{bytes}
 use Rattle.alphabet.specs.Alphabet.{letter, text, in_alphabet, white}
 use Rattle.text.specs.Words.{Word, split, same, text_word, leading}
 use Rattle.shape.specs.Time.{time_fits, clock_hours, elapsed_hours}
 use Rattle.places.specs.Parts.{no_more, fixed_place, time_place}
-use Rattle.places.specs.Given.{given, or_zero}
+use Rattle.places.specs.Given.{given}
 use Rattle.places.specs.Words.{Words, words_place}
 use Rattle.aerodromes.specs.Aerodromes.{four_letters, joined, aerodrome_of}
 use Rattle.aerodromes.specs.Field16.{most_alternates}
 use Rattle.aerodromes.specs.Field17.{unlisted}
+use Rattle.aerodromes_places.specs.declared.Arrival.{Arrival}
+use Rattle.aerodromes_places.specs.declared.Arrival.TheVariants.{Start, Listed, Unlisted, Named}
 
 -- FOUR LETTERS, alone and with a time
 
@@ -49,28 +51,37 @@ place16plan s = words_place plan plan_place 0 (split 32 s)
 abbrev pub place16entry : List ℕ → ℕ
 place16entry s = place16plan s
 
--- FIELD 17, by words: 0 nothing yet, 1 an aerodrome that is listed, 2 one that is not, 3 words behind it
+-- FIELD 17, by words: an aerodrome with a time, and words behind it where it is not listed
+
+abbrev pub landed_after : Arrival → Word → Option Arrival
+landed_after Start w = given (joined clock_hours w) (cond (same (aerodrome_of w) unlisted) Unlisted Listed)
+landed_after Listed w = None
+landed_after Unlisted w = given (text_word w) Named
+landed_after Named w = given (text_word w) Named
+
+abbrev pub landed_final : Arrival → Bool
+landed_final Start = false
+landed_final Listed = true
+landed_final Unlisted = false
+landed_final Named = true
+
+abbrev pub landed_goes : Arrival → Bool
+landed_goes Start = true
+landed_goes Listed = false
+landed_goes Unlisted = true
+landed_goes Named = true
 
 abbrev pub landed : Words
-landed =
-    record {
-      K = ℕ;
-      after = λ n w.
-          cond (eqb n 0) (given (joined clock_hours w) (cond (same (aerodrome_of w) unlisted) 2 1))
-          (given (ltb 1 n && text_word w) 3);
-      final = λ n. eqb n 1 || eqb n 3;
-      goes = λ n. eqb n 0 || ltb 1 n;
-    }
+landed = record { K = Arrival; after = landed_after; final = landed_final; goes = landed_goes }
 
-abbrev pub landed_place : ℕ → Word → ℕ
-landed_place n w = cond (eqb n 0) (joined_place clock_hours w) (cond (ltb 1 n) (leading text w) 0)
-
--- what is known behind a word; 0 where it may not stand there
-abbrev pub landed_after : ℕ → Word → ℕ
-landed_after n w = or_zero (landed.after n w)
+abbrev pub landed_place : Arrival → Word → ℕ
+landed_place Start w = joined_place clock_hours w
+landed_place Listed w = 0
+landed_place Unlisted w = leading text w
+landed_place Named w = leading text w
 
 unfoldable pub place17 : List ℕ → ℕ
-place17 s = words_place landed landed_place 0 (split 32 s)
+place17 s = words_place landed landed_place Start (split 32 s)
 
 -- EXAMPLES, computed
 

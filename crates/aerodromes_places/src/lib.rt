@@ -2,30 +2,23 @@
 #![tactic(auto)]
 
 ghost use Rattle.std.specs.Prelude.{◌≡◌};
-ghost use Rattle.places.specs.Words.{ended};
 ghost use Rattle.aerodromes_places.specs.Places.{joined_place, place13, place16, plan, plan_place, place16plan};
-ghost use Rattle.aerodromes_places.specs.Places.{landed_after, landed_place, place17};
+ghost use Rattle.aerodromes_places.specs.Places.{landed, landed_place, place17};
+
+use text::Kind;
 
 // The place of four letters that are none.
 pub fn place_field16(s: &[u8]) -> usize
     ensures { result ≡ place16 s.now }
 {
-    let n = places::front_of(text::Kind::Letter, s);
-    if n < 4 {
-        return n;
-    }
-    4
+    places::run_place(4, Kind::Letter, s)
 }
 
 // The place of four letters and a time, for a greatest hour.
 fn place_joined(most: usize, s: &[u8]) -> usize
     ensures { result ≡ joined_place most s.now }
 {
-    let n = places::front_of(text::Kind::Letter, s);
-    if n < 4 {
-        return n;
-    }
-    4 + places::time_place(most, &s[4..])
+    places::time_behind(Kind::Letter, 4, most, s)
 }
 
 // The place of a content of field 13 that does not fit, also where the time may be absent.
@@ -35,17 +28,20 @@ pub fn place_field13(s: &[u8]) -> usize
     place_joined(shape::CLOCK_HOURS, s)
 }
 
-// Whether a word may stand behind n words of field 16 in FPL and SPL.
-fn plan_fits(n: usize, w: &[u8]) -> bool
-    ensures { result ≡ ended (plan.after n w.now) }
+// How many words of field 16 in FPL and SPL there are with one more behind n, if it may stand there.
+fn plan_after(n: usize, w: &[u8]) -> Option<usize>
+    ensures { result ≡ plan.after n w.now }
 {
     if n == 0 {
-        return aerodromes::at_elapsed(w).is_some();
+        if aerodromes::at_elapsed(w).is_some() {
+            return Some(1);
+        }
+        return None;
     }
-    if n > 2 {
-        return false;
+    if n <= 2 && aerodromes::four_letters(w) {
+        return Some(n + 1);
     }
-    aerodromes::four_letters(w)
+    None
 }
 
 // The place in that word.
@@ -65,79 +61,67 @@ fn plan_place(n: usize, w: &[u8]) -> usize
 pub fn place_field16_plan(s: &[u8]) -> usize
     ensures { result ≡ place16plan s.now }
 {
-    let mut at = 0;
-    let mut n = 0;
-    loop {
-        let e = text::find(s, at, b' ');
-        if e == s.len() {
-            return at + plan_place(n, &s[at..e]);
+    places::words_place(0, plan_after, |n| n <= 2, plan_place, s)
+}
+
+// What is known behind some words of field 17.
+#[derive(Clone, Copy)]
+enum Arrival {
+    // There are none.
+    Start,
+    // There is an aerodrome that is listed.
+    Listed,
+    // There is one that is not.
+    Unlisted,
+    // There are words behind it.
+    Named,
+}
+
+// What is known behind one word more, if it may stand there.
+fn landed_after(known: Arrival, w: &[u8]) -> Option<Arrival>
+    ensures { result ≡ landed.after known w.now }
+{
+    match known {
+        Arrival::Start => {
+            if !aerodromes::at_clock(w).is_some() {
+                return None;
+            }
+            if text::same_bytes(aerodromes::aerodrome_of(w), b"ZZZZ") {
+                return Some(Arrival::Unlisted);
+            }
+            Some(Arrival::Listed)
         }
-        if !plan_fits(n, &s[at..e]) {
-            return at + plan_place(n, &s[at..e]);
+        Arrival::Listed => None,
+        Arrival::Unlisted | Arrival::Named => {
+            if text::is_text_word(w) {
+                return Some(Arrival::Named);
+            }
+            None
         }
-        n += 1;
-        if n == 3 {
-            return e;
-        }
-        at = e + 1;
     }
 }
 
-// What is known behind a word of field 17, by what was known before it: 1 an aerodrome that is listed, 2 one that is not, 3 words behind it; 0 where
-// the word may not stand there.
-fn landed_next(n: usize, w: &[u8]) -> usize
-    ensures { result ≡ landed_after n w.now }
+// Whether a further word may follow.
+fn landed_goes(known: Arrival) -> bool
+    ensures { result ≡ landed.goes known }
 {
-    if n == 0 {
-        if !aerodromes::at_clock(w).is_some() {
-            return 0;
-        }
-        if text::same_bytes(aerodromes::aerodrome_of(w), b"ZZZZ") {
-            return 2;
-        }
-        return 1;
-    }
-    if n == 1 {
-        return 0;
-    }
-    if text::is_text_word(w) {
-        return 3;
-    }
-    0
+    !matches!(known, Arrival::Listed)
 }
 
 // The place in that word.
-fn landed_place(n: usize, w: &[u8]) -> usize
-    ensures { result ≡ landed_place n w.now }
+fn landed_place(known: Arrival, w: &[u8]) -> usize
+    ensures { result ≡ landed_place known w.now }
 {
-    if n == 0 {
-        return place_joined(shape::CLOCK_HOURS, w);
+    match known {
+        Arrival::Start => place_joined(shape::CLOCK_HOURS, w),
+        Arrival::Listed => 0,
+        Arrival::Unlisted | Arrival::Named => places::front_of(Kind::Text, w),
     }
-    if n == 1 {
-        return 0;
-    }
-    places::front_of(text::Kind::Text, w)
 }
 
 // The place of a content of field 17 that does not fit.
 pub fn place_field17(s: &[u8]) -> usize
     ensures { result ≡ place17 s.now }
 {
-    let mut at = 0;
-    let mut n = 0;
-    loop {
-        let e = text::find(s, at, b' ');
-        if e == s.len() {
-            return at + landed_place(n, &s[at..e]);
-        }
-        let j = landed_next(n, &s[at..e]);
-        if j == 0 {
-            return at + landed_place(n, &s[at..e]);
-        }
-        if j == 1 {
-            return e;
-        }
-        n = j;
-        at = e + 1;
-    }
+    places::words_place(Arrival::Start, landed_after, landed_goes, landed_place, s)
 }

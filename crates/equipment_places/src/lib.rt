@@ -12,10 +12,7 @@ fn side_place(first: &[u8; 26], list: &[u8], most: u8, s: &[u8]) -> usize
     requires { is_index first.now (cells 2 list.now) ≡ true }
     ensures { result ≡ side_place (cells 2 list.now) most s.now }
 {
-    places::larger_of(
-        entries::matched_of(b"N", s),
-        code_places::codes_place_by(first, list, most, s),
-    )
+    entries::matched_of(b"N", s).max(code_places::codes_place_by(first, list, most, s))
 }
 
 // The place in an edition: the codes of each side, in cells of two bytes, and how many bytes a side may have. `a` and `b` are the lists' indexes.

@@ -3,26 +3,25 @@ use Prim.Native.Nat.{ℕ, zero, suc, ◌+◌, ◌-◌, ◌/◌, ◌<◌, ◌≤�
 use mathlib.Core.Path.{◌≡◌, refl, sym, ap, ◌∙◌}
 use mathlib.Core.Bool.{Bool, true, false, ◌&&◌, cond}
 use mathlib.Core.List.{List, [], ◌∷◌, ◌++◌, append-nil}
-use mathlib.Core.Option.{Option, none, some}
+use Rattle.std.specs.Prelude.{Some, None}
 use native.Mathlib.Omega.{arith}
 use lib.Dec.{leb, ltb}
 use lib.ListN.{length, take, drop, length-append, length-drop, drop_of_length-le}
 use lib.Seq.{drop-drop}
-use borrow.Author.Tests.{ltb-true, lt-ltb, le-ltb, leb-true, leb-false, le-leb, lt-leb}
+use borrow.Author.Tests.{lt-ltb, le-ltb, leb-true, leb-false, le-leb, lt-leb}
 use Rattle.alphabet.specs.Alphabet.{sign}
-use Rattle.text.specs.Words.{Word, all, holds, before, behind, up_to, first_cells, cells}
+use Rattle.text.specs.Words.{Word, all, before, up_to, first_cells, cells}
 use Rattle.text.specs.Lent.{front as put}
 use Rattle.text.proofs.Index.{rest, cells_from, found, found_none, found_before, found_behind}
 use Rattle.text.proofs.Tests.{both}
 use Rattle.shape.specs.Time.{elapsed_hours}
 use Rattle.places.specs.Parts.{larger, fixed_place, time_place}
-use Rattle.places.specs.Given.{given, or_zero}
-use Rattle.places.proofs.Given.{given_some, given_zero, or_some}
+use Rattle.places.specs.Given.{given}
 use Rattle.entries.specs.Entries.{Entry, entry_place, entries_place}
 use Rattle.places.proofs.Larger.{larger_assoc, larger_none}
 use Rattle.other.specs.declared.Rule.{Rule}
 use Rattle.other.specs.Rules.{Edition18, rank_in, rule_in, word_fits, more_fits, date, distinct, sound_keys}
-use Rattle.other_places.specs.Places.{signs_time, rule_place, keyed, later_keys, later_place, item_after, items, ranked_after, items_word}
+use Rattle.other_places.specs.Places.{signs_time, rule_place, keyed, later_keys, later_place, items, items_word}
 use Rattle.other_places.proofs.Dates.{date_six}
 use Rattle.other_places.proofs.Rules.{rule_right}
 use Rattle.other_places.proofs.Places.{word_right}
@@ -113,58 +112,28 @@ count_cells s = go (length s) s (omega arith)
 -- THE KEY THAT A WORD BELONGS TO: o is where its first oblique stands
 
 module _ (ed : Edition18) (k : ℕ) (w : Word) where
-  -- whether it is one more of the last key's
-  abbrev more : Bool
-  more = ltb 0 k && more_fits (rule_in ed k) w
-
   module _ (o : ℕ) (end : o ≡ 0 + up_to 47 w) where
-    pub ranked_first : o ≡ length w → k ≡ 0 → 0 ≡ ranked_after ed k w
-    ranked_first h z = rw (found_none 47 w o end h, given_zero more k, le-ltb 0 k (omega arith))
+    pub ranked_first : o ≡ length w → k ≡ 0 → None ≡ (items ed).after k w
+    ranked_first h z = rw (found_none 47 w o end h, le-ltb 0 k (omega arith))
 
-    pub ranked_more : o ≡ length w → (k ≡ 0 → ⊥) → more_fits (rule_in ed k) w ≡ true → k ≡ ranked_after ed k w
-    ranked_more h z e = rw (found_none 47 w o end h, given_zero more k, lt-ltb 0 k (omega arith), e)
+    pub ranked_more : o ≡ length w → (k ≡ 0 → ⊥) → more_fits (rule_in ed k) w ≡ true → Some k ≡ (items ed).after k w
+    ranked_more h z e = rw (found_none 47 w o end h, lt-ltb 0 k (omega arith), e)
 
-    pub ranked_off : o ≡ length w → (k ≡ 0 → ⊥) → more_fits (rule_in ed k) w ≡ false → 0 ≡ ranked_after ed k w
-    ranked_off h z e = rw (found_none 47 w o end h, given_zero more k, lt-ltb 0 k (omega arith), e)
+    pub ranked_off : o ≡ length w → (k ≡ 0 → ⊥) → more_fits (rule_in ed k) w ≡ false → None ≡ (items ed).after k w
+    ranked_off h z e = rw (found_none 47 w o end h, lt-ltb 0 k (omega arith), e)
 
     module _ (ne : o ≡ length w → ⊥) (le : o ≤ length w) (r : ℕ) (key : r ≡ rank_in ed (take o w)) where
-      cut_item : ranked_after ed k w ≡ cond (ltb k r && word_fits (rule_in ed r) (drop (o + 1) w)) r 0
-      cut_item =
-          rw (found 47 w o end ne le, ← found_before 47 w o end, ← found_behind 47 w o end, ← key)
-          (given_zero (ltb k r && word_fits (rule_in ed r) (drop (o + 1) w)) r)
+      cut_item : (items ed).after k w ≡ given (ltb k r && word_fits (rule_in ed r) (drop (o + 1) w)) r
+      cut_item = rw (found 47 w o end ne le, ← found_before 47 w o end, ← found_behind 47 w o end, ← key)
 
-      pub ranked_early : r ≤ k → 0 ≡ ranked_after ed k w
+      pub ranked_early : r ≤ k → None ≡ (items ed).after k w
       ranked_early h = sym (cut_item ∙ rw (le-ltb k r h))
 
-      pub ranked_not : k < r → word_fits (rule_in ed r) (take (length w - (o + 1)) (drop (o + 1) w)) ≡ false → 0 ≡ ranked_after ed k w
+      pub ranked_not : k < r → word_fits (rule_in ed r) (take (length w - (o + 1)) (drop (o + 1) w)) ≡ false → None ≡ (items ed).after k w
       ranked_not h e = sym (cut_item ∙ rw (lt-ltb k r h, ap (word_fits (rule_in ed r)) (sym (rest w (o + 1))) ∙ e))
 
-      pub ranked_key : k < r → word_fits (rule_in ed r) (take (length w - (o + 1)) (drop (o + 1) w)) ≡ true → r ≡ ranked_after ed k w
+      pub ranked_key : k < r → word_fits (rule_in ed r) (take (length w - (o + 1)) (drop (o + 1) w)) ≡ true → Some r ≡ (items ed).after k w
       ranked_key h e = sym (cut_item ∙ rw (lt-ltb k r h, ap (word_fits (rule_in ed r)) (sym (rest w (o + 1))) ∙ e))
-
-  abbrev ranked : ℕ
-  ranked = rank_in ed (before 47 w)
-
-  abbrev under : Bool
-  under = word_fits (rule_in ed ranked) (behind 47 w)
-
-  -- a rank, or none
-  positive : (x : Bool) (y : Option ℕ) → cond x (item_after ed k ranked (behind 47 w)) (given more k) ≡ y → or_zero y ≡ 0 → y ≡ none
-  positive x none e h = refl
-  positive true (some j) e h =
-      let a = given_some (ltb k ranked && under) ranked j e in
-      let l : k < ranked = ltb-true k ranked (both (ltb k ranked) under a.0).0 in
-      absurd (omega (arith, a.1))
-  positive false (some j) e h =
-      let a = given_some more k j e in
-      let l : 0 < k = ltb-true 0 k (both (ltb 0 k) (more_fits (rule_in ed k) w) a.0).0 in
-      absurd (omega (arith, a.1))
-
-  pub after_none : ranked_after ed k w ≡ 0 → (items ed).after k w ≡ none
-  after_none h = positive (holds 47 w) ((items ed).after k w) refl h
-
-  pub after_some : (j : ℕ) → j ≡ ranked_after ed k w → (j ≡ 0 → ⊥) → (items ed).after k w ≡ some j
-  after_some j e n = or_some ((items ed).after k w) j e n
 
 -- a word's place is in it
 pub item_within : (ed : Edition18) → sound_keys ed ≡ true → (k : ℕ) (w : Word) → items_word ed k w ≤ length w

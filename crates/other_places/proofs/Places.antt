@@ -3,7 +3,7 @@ use Prim.Native.Nat.{ℕ, zero, suc, ◌+◌, ◌<◌, ◌≤◌}
 use mathlib.Core.Path.{◌≡◌, refl, sym, ap, ◌∙◌}
 use mathlib.Core.Bool.{Bool, true, false, ◌&&◌, ◌||◌, not, cond, true≢false, or-false, and_assoc}
 use mathlib.Core.List.{List, [], ◌∷◌, ◌++◌}
-use mathlib.Core.Option.{Option, none, some}
+use Rattle.std.specs.Prelude.{Option, None, Some}
 use native.Mathlib.Omega.{arith}
 use native.Mathlib.Nat.{not-suc-le-zero}
 use lib.Dec.{ltb, eqb}
@@ -197,13 +197,13 @@ module _ (ed : Edition18) where
             let a = both (ltb 0 k) (more_fits (rule_in ed k) w) (sym (given_ended (more k w) k) ∙ e) in
             word_spaceless (rule_in ed k) w (both (not (single (rule_in ed k))) (word_fits (rule_in ed k) w) a.1).1
 
-    alive : (k j : ℕ) (w : Word) → (items ed).after k w ≡ some j → ((items ed).final j || (items ed).goes j) ≡ true
+    alive : (k j : ℕ) (w : Word) → (items ed).after k w ≡ Some j → ((items ed).final j || (items ed).goes j) ≡ true
     alive k j w = go (holds 47 w)
       where
         fin : ltb 0 j ≡ true → ((items ed).final j || (items ed).goes j) ≡ true
         fin e = rw e
 
-        go : (x : Bool) → cond x (next k w) (given (more k w) k) ≡ some j → ((items ed).final j || (items ed).goes j) ≡ true
+        go : (x : Bool) → cond x (next k w) (given (more k w) k) ≡ Some j → ((items ed).final j || (items ed).goes j) ≡ true
         go true e =
             let a = given_some (item k (ranked w) w) (ranked w) j e in
             let l : k < ranked w = ltb-true k (ranked w) (both (ltb k (ranked w)) (under w) a.0).0 in
@@ -212,11 +212,11 @@ module _ (ed : Edition18) where
             let a = given_some (more k w) k j e in
             fin (ap (ltb 0) (sym a.1) ∙ (both (ltb 0 k) (more_fits (rule_in ed k) w) a.0).0)
 
-    goes_on_lem : (k : ℕ) → (items ed).goes k ≡ true → (w : Word) × (j : ℕ) × ((items ed).after k w ≡ some j) × ((items ed).final j ≡ true)
+    goes_on_lem : (k : ℕ) → (items ed).goes k ≡ true → (w : Word) × (j : ℕ) × ((items ed).after k w ≡ Some j) × ((items ed).final j ≡ true)
     goes_on_lem k = go (ltb 0 k && not (single (rule_in ed k))) refl
       where
         go : (x : Bool) → (ltb 0 k && not (single (rule_in ed k))) ≡ x → (x || ltb k (length ed.keys)) ≡ true
-            → (w : Word) × (j : ℕ) × ((items ed).after k w ≡ some j) × ((items ed).final j ≡ true)
+            → (w : Word) × (j : ℕ) × ((items ed).after k w ≡ Some j) × ((items ed).final j ≡ true)
         go true q h =
             let a = both (ltb 0 k) (not (single (rule_in ed k))) q in
             let o = rule_one (rule_in ed k) in
@@ -233,10 +233,10 @@ module _ (ed : Edition18) where
               lt-ltb 0 (suc k) (omega arith),
             )
 
-    closed : (k : ℕ) → (items ed).goes k ≡ false → (w : Word) → (items ed).after k w ≡ none
+    closed : (k : ℕ) → (items ed).goes k ≡ false → (w : Word) → (items ed).after k w ≡ None
     closed k g w = go (holds 47 w) (ltb 0 k && not (single (rule_in ed k))) refl g
       where
-        off : (b : Bool) (n : ℕ) → b ≡ false → given b n ≡ none
+        off : (b : Bool) (n : ℕ) → b ≡ false → given b n ≡ None
         off true n e = absurd (true≢false e)
         off false n e = refl
 
@@ -246,7 +246,7 @@ module _ (ed : Edition18) where
         more_off false y z e = refl
 
         go : (x y : Bool) → (ltb 0 k && not (single (rule_in ed k))) ≡ y → (y || ltb k (length ed.keys)) ≡ false
-            → cond x (next k w) (given (more k w) k) ≡ none
+            → cond x (next k w) (given (more k w) k) ≡ None
         go x true q h = absurd (true≢false h)
         go true false q h =
             let l : length ed.keys ≤ k = ltb-false k (length ed.keys) h in
@@ -256,32 +256,32 @@ module _ (ed : Edition18) where
 
     -- THE LANGUAGE
 
-    choose : (b : Bool) (k : ℕ) (ws : List Word) → words_fit (items ed) ws (given b k) ≡ (b && words_fit (items ed) ws (some k))
+    choose : (b : Bool) (k : ℕ) (ws : List Word) → words_fit (items ed) ws (given b k) ≡ (b && words_fit (items ed) ws (Some k))
     choose true k ws = refl
     choose false k ws = none_fits (items ed) ws
 
     -- a word that is cut at an oblique, and the words behind it
-    item_fit : (k : ℕ) (w : Word) (ws : List Word) → ((j : ℕ) → 0 < j → words_fit (items ed) ws (some j) ≡ fit_more ed j ws)
+    item_fit : (k : ℕ) (w : Word) (ws : List Word) → ((j : ℕ) → 0 < j → words_fit (items ed) ws (Some j) ≡ fit_more ed j ws)
         → words_fit (items ed) ws (next k w)
         ≡ (ltb k (ranked w) && (under w && fit_more ed (ranked w) ws))
     item_fit k w ws ih =
         choose (item k (ranked w) w) (ranked w) ws
-        ∙ and_assoc (ltb k (ranked w)) (under w) (words_fit (items ed) ws (some (ranked w)))
+        ∙ and_assoc (ltb k (ranked w)) (under w) (words_fit (items ed) ws (Some (ranked w)))
         ∙ go (ltb k (ranked w)) refl
       where
         go : (x : Bool) → ltb k (ranked w) ≡ x
-            → (x && (under w && words_fit (items ed) ws (some (ranked w))))
+            → (x && (under w && words_fit (items ed) ws (Some (ranked w))))
             ≡ (x && (under w && fit_more ed (ranked w) ws))
         go true e =
             let l : k < ranked w = ltb-true k (ranked w) e in
             ap (λ (b : Bool). under w && b) (ih (ranked w) (omega arith))
         go false e = refl
 
-    more_fit : (ws : List Word) (k : ℕ) → 0 < k → words_fit (items ed) ws (some k) ≡ fit_more ed k ws
+    more_fit : (ws : List Word) (k : ℕ) → 0 < k → words_fit (items ed) ws (Some k) ≡ fit_more ed k ws
     more_fit [] k l = lt-ltb 0 k l
     more_fit (w ∷ ws) k l = go (holds 47 w) refl (more_fit ws)
       where
-        go : (x : Bool) → holds 47 w ≡ x → ((j : ℕ) → 0 < j → words_fit (items ed) ws (some j) ≡ fit_more ed j ws)
+        go : (x : Bool) → holds 47 w ≡ x → ((j : ℕ) → 0 < j → words_fit (items ed) ws (Some j) ≡ fit_more ed j ws)
             → words_fit (items ed) ws (cond x (next k w) (given (more k w) k)) ≡ fit_more ed k (w ∷ ws)
         go true h ih =
             item_fit k w ws ih
@@ -292,7 +292,7 @@ module _ (ed : Edition18) where
             ∙ ap (λ (b : Bool). b && (ltb k (ranked w) && (under w && fit_more ed (ranked w) ws))) h)
         go false h ih =
             choose (more k w) k ws
-            ∙ ap (λ (b : Bool). (b && more_fits (rule_in ed k) w) && words_fit (items ed) ws (some k)) (lt-ltb 0 k l)
+            ∙ ap (λ (b : Bool). (b && more_fits (rule_in ed k) w) && words_fit (items ed) ws (Some k)) (lt-ltb 0 k l)
             ∙ ap (λ (b : Bool). more_fits (rule_in ed k) w && b) (ih k l)
             ∙ sym (more_step ed k w ws ∙ ap (λ (b : Bool). cond b (fit_from ed k (w ∷ ws)) (more_fits (rule_in ed k) w && fit_more ed k ws)) h)
 
@@ -312,7 +312,7 @@ module _ (ed : Edition18) where
             (fit_step ed 0 w ws
             ∙ ap (λ (b : Bool). b && (ltb 0 (ranked w) && (under w && fit_more ed (ranked w) ws))) h)
 
-        go : (ws : List Word) → null ws ≡ false → words_fit (items ed) ws (some 0) ≡ fit_from ed 0 ws
+        go : (ws : List Word) → null ws ≡ false → words_fit (items ed) ws (Some 0) ≡ fit_from ed 0 ws
         go [] h = absurd (true≢false h)
         go (w ∷ ws) h = first w ws (holds 47 w) refl
 

@@ -2,7 +2,7 @@
 -- last key, 0 for none: a further word is one more of that key's, or a later key, an oblique and a word of its rule. Assumes nothing.
 use Rattle.std.specs.Prelude.{ℕ, zero, suc, ◌≡◌, refl, Bool, false, ◌&&◌, ◌||◌, not, cond, List, [], ◌∷◌, ◌++◌, ltb, length, drop}
 use Prim.Native.String.{String}
-use Rattle.std.proofs.Math.Option.{Option}
+use Rattle.std.specs.Prelude.{Option}
 use Rattle.alphabet.specs.Text.{bytes}
 use Rattle.alphabet.specs.Alphabet.{letter, sign, text, in_alphabet, white, one_of}
 use Rattle.text.specs.Words.{Word, split, holds, before, behind, leading}
@@ -10,7 +10,7 @@ use Rattle.shape.specs.Shape.{letters}
 use Rattle.shape.specs.Time.{time_fits, elapsed_hours}
 use Rattle.places.specs.Parts.{larger, no_more, fixed_place, time_place, passes}
 use Rattle.places.specs.Words.{Words, words_place}
-use Rattle.places.specs.Given.{given, or_zero}
+use Rattle.places.specs.Given.{given}
 use Rattle.entries.specs.Entries.{Entry, matched, any_of, entry_place, entries_place}
 use Rattle.code_places.specs.Codes.{codes_place}
 use Rattle.other.specs.declared.Rule.{Rule}
@@ -69,10 +69,6 @@ items ed =
       final = λ k. ltb 0 k;
       goes = λ k. (ltb 0 k && not (single (rule_in ed k))) || ltb k (length ed.keys);
     }
-
--- the rank of the key that a word belongs to; 0 where it may not stand there
-abbrev pub ranked_after : Edition18 → ℕ → Word → ℕ
-ranked_after ed k w = or_zero ((items ed).after k w)
 
 abbrev pub more_place : Edition18 → ℕ → Word → ℕ
 more_place ed k w = cond (ltb 0 k && not (single (rule_in ed k))) (rule_place (rule_in ed k) w) 0

@@ -1,18 +1,18 @@
 // The place of a content of field 18 that does not fit.
 #![tactic(auto)]
 
-ghost use Rattle.std.specs.Prelude.{◌≡◌, ◌<◌, [], ◌++◌, true, length, drop};
-ghost use Rattle.alphabet.specs.Alphabet.{sign, one_of};
+ghost use Rattle.std.specs.Prelude.{◌≡◌, [], ◌++◌, true, length, drop};
+ghost use Rattle.alphabet.specs.Alphabet.{one_of};
 ghost use Rattle.text.specs.Words.{before, cells, leading};
-ghost use Rattle.shape.specs.Time.{elapsed_hours};
-ghost use Rattle.places.specs.Parts.{fixed_place, time_place, passes};
+ghost use Rattle.places.specs.Parts.{passes};
 ghost use Rattle.entries.specs.Entries.{entry_place};
 ghost use Rattle.other.specs.Rules.{date, edition, base, sound_keys};
 ghost use Rattle.other.specs.declared.Rule.TheVariants.{Status, Approvals, Selcal, Address, Free};
-ghost use Rattle.other_places.specs.Places.{date_go, signs_time, rule_place, keyed, later_place, keys_place};
-ghost use Rattle.other_places.specs.Places.{items, ranked_after, more_place, items_word, items_place, place18};
+ghost use Rattle.other_places.specs.Places.{date_go, rule_place, keyed, later_place, keys_place};
+ghost use Rattle.other_places.specs.Places.{items, signs_time, more_place, items_word, items_place, place18};
 
 use other::Rule;
+use text::Kind;
 
 // Whether some bytes are a date with what six others have behind as many.
 fn date_with(p: &[u8], others: &[u8]) -> bool
@@ -32,47 +32,23 @@ fn date_with(p: &[u8], others: &[u8]) -> bool
 fn date_go(p: &[u8]) -> bool
     ensures { result ≡ date_go p.now }
 {
-    if date_with(p, b"000101") {
-        return true;
-    }
-    date_with(p, b"000100")
+    date_with(p, b"000101") || date_with(p, b"000100")
 }
 
 // DOF: the place of a date that is none.
 fn date_place(w: &[u8]) -> usize
     ensures { result ≡ passes date_go [] w.now }
 {
-    let mut i = 0;
-    while i < w.len() {
-        let e = i + 1;
-        if !date_go(&w[..e]) {
-            return i;
-        }
-        i = e;
-    }
-    i
+    places::passes(w, date_go)
 }
 
-// The place of so many signs and an elapsed time.
-fn signs_time(m: usize, w: &[u8]) -> usize
-    ensures { result ≡ fixed_place sign m (time_place elapsed_hours) w.now }
-{
-    let n = places::front_of(text::Kind::Sign, w);
-    if n < m {
-        return n;
-    }
-    m + places::time_place(shape::ELAPSED_HOURS, &w[m..])
-}
-
-// EET, DLE: the same for 2 to 11 signs, the largest.
+// EET, DLE: the place of 2 to 11 signs and an elapsed time, the largest.
 fn timed_place(w: &[u8]) -> usize
     ensures { result ≡ signs_time 10 w.now }
 {
-    let mut n = 0;
     let mut best = 0;
-    while n < 10 {
-        best = places::larger_of(signs_time(n + 2, w), best);
-        n += 1;
+    for n in 0..10 {
+        best = places::time_behind(Kind::Sign, n + 2, shape::ELAPSED_HOURS, w).max(best);
     }
     best
 }
@@ -81,43 +57,30 @@ fn timed_place(w: &[u8]) -> usize
 fn selcal_place(w: &[u8]) -> usize
     ensures { result ≡ rule_place Selcal w.now }
 {
-    let n = places::front_of(text::Kind::Letter, w);
-    if n < 4 {
-        return n;
-    }
-    4
+    places::run_place(4, Kind::Letter, w)
 }
 
 // How many bytes at the front are of a set.
 fn front_in(w: &[u8], set: &[u8]) -> usize
     ensures { result ≡ leading (λ b. one_of b set.now) w.now }
 {
-    let mut i = 0;
-    while i < w.len() {
-        if !shape::one_of(w[i], set) {
-            return i;
-        }
-        i += 1;
-    }
-    i
+    w.iter()
+        .position(|&b| !shape::one_of(b, set))
+        .unwrap_or(w.len())
 }
 
 // CODE: the place of six of 0..9 A..F.
 fn address_place(w: &[u8]) -> usize
     ensures { result ≡ rule_place Address w.now }
 {
-    let n = front_in(w, b"0123456789ABCDEF");
-    if n < 6 {
-        return n;
-    }
-    6
+    front_in(w, b"0123456789ABCDEF").min(6)
 }
 
 // Any text word.
 fn text_place(w: &[u8]) -> usize
     ensures { result ≡ rule_place Free w.now }
 {
-    places::front_of(text::Kind::Text, w)
+    places::front_of(Kind::Text, w)
 }
 
 // STS: how far one of these is followed.
@@ -175,14 +138,13 @@ fn more_place(rules: &[u8], k: usize, w: &[u8]) -> usize
 fn key_place(key: &[u8], rule: Rule, w: &[u8]) -> usize
     ensures { result ≡ entry_place (keyed key.now rule) w.now }
 {
-    let o = text::find(w, 0, b'/');
-    if o == w.len() {
-        return entries::matched_of(key, &w[..o]);
-    }
-    if !text::same_bytes(key, &w[..o]) {
-        return entries::matched_of(key, &w[..o]);
-    }
-    o + 1 + rule_place(rule, &w[o + 1..])
+    places::cut_place(
+        b'/',
+        |k| text::same_bytes(key, k),
+        |k| entries::matched_of(key, k),
+        |v| rule_place(rule, v),
+        w,
+    )
 }
 
 // The same for the key at place j, which a cell holds, where it stands behind the one at place k.
@@ -200,14 +162,10 @@ fn cell_place(rules: &[u8], k: usize, j: usize, cell: &[u8], w: &[u8]) -> usize
 fn keys_place(keys: &[u8], rules: &[u8], k: usize, w: &[u8]) -> usize
     ensures { result ≡ keys_place (edition (cells 4 keys.now) rules.now) k w.now }
 {
-    let mut at = 0;
-    let mut j = 1;
-    let mut best = 0;
-    while 4 <= keys.len() - at {
-        let e = at + 4;
-        best = places::larger_of(best, cell_place(rules, k, j, &keys[at..e], w));
-        at = e;
-        j += 1;
+    let mut best = 0usize;
+    for i in 0..keys.len() / 4 {
+        let at = 4 * i;
+        best = best.max(cell_place(rules, k, i + 1, &keys[at..at + 4], w));
     }
     best
 }
@@ -216,42 +174,38 @@ fn keys_place(keys: &[u8], rules: &[u8], k: usize, w: &[u8]) -> usize
 fn item_place(keys: &[u8], rules: &[u8], k: usize, w: &[u8]) -> usize
     ensures { result ≡ items_word (edition (cells 4 keys.now) rules.now) k w.now }
 {
-    places::larger_of(more_place(rules, k, w), keys_place(keys, rules, k, w))
+    more_place(rules, k, w).max(keys_place(keys, rules, k, w))
 }
 
-// The place of the key that a word belongs to, behind an item of the key at place k; 0 where it may not stand there.
-fn rank_after(keys: &[u8], rules: &[u8], k: usize, w: &[u8]) -> usize
-    ensures { result ≡ ranked_after (edition (cells 4 keys.now) rules.now) k w.now }
+// The place of the key that a word belongs to, behind an item of the key at place k, if the word may stand there.
+fn rank_after(keys: &[u8], rules: &[u8], k: usize, w: &[u8]) -> Option<usize>
+    ensures { result ≡ (items (edition (cells 4 keys.now) rules.now)).after k w.now }
 {
     let o = text::find(w, 0, b'/');
     if o == w.len() {
         if k == 0 {
-            return 0;
+            return None;
         }
         if other::more_fits(other::rule_in(rules, k), w) {
-            return k;
+            return Some(k);
         }
-        return 0;
+        return None;
     }
     let r = text::rank_in_cells(&w[..o], 4, keys);
     if r <= k {
-        return 0;
+        return None;
     }
     if !other::word_fits(other::rule_in(rules, r), &w[o + 1..]) {
-        return 0;
+        return None;
     }
-    r
+    Some(r)
 }
 
 // Whether a word may stand behind an item of the key at place k.
 fn goes_on(keys: &[u8], rules: &[u8], k: usize) -> bool
-    requires { 0 < k }
     ensures { result ≡ (items (edition (cells 4 keys.now) rules.now)).goes k }
 {
-    if !other::is_single(other::rule_in(rules, k)) {
-        return true;
-    }
-    k < keys.len() / 4
+    (0 < k && !other::is_single(other::rule_in(rules, k))) || k < keys.len() / 4
 }
 
 // The place of items that do not fit, in an edition.
@@ -259,35 +213,22 @@ fn place_edition(keys: &[u8], rules: &[u8], s: &[u8]) -> usize
     requires { sound_keys (edition (cells 4 keys.now) rules.now) ≡ true }
     ensures { result ≡ items_place (edition (cells 4 keys.now) rules.now) s.now }
 {
-    let mut at = 0;
-    let mut k = 0;
-    loop {
-        let e = text::find(s, at, b' ');
-        if e == s.len() {
-            return at + item_place(keys, rules, k, &s[at..e]);
-        }
-        let j = rank_after(keys, rules, k, &s[at..e]);
-        if j == 0 {
-            return at + item_place(keys, rules, k, &s[at..e]);
-        }
-        if !goes_on(keys, rules, j) {
-            return e;
-        }
-        k = j;
-        at = e + 1;
-    }
+    places::words_place(
+        0,
+        |k, w| rank_after(keys, rules, k, w),
+        |k| goes_on(keys, rules, k),
+        |k, w| item_place(keys, rules, k, w),
+        s,
+    )
 }
 
 // The place of a content of field 18 that does not fit.
 pub fn place_field18(s: &[u8]) -> usize
     ensures { result ≡ place18 base s.now }
 {
-    places::larger_of(
-        entries::matched_of(b"0", s),
-        place_edition(
-            b"STS PBN NAV COM DAT SUR DEP DESTDOF REG EET SEL TYP CODEDLE OPR ORGNPER ALTNRALTTALTRIF RMK ",
-            b"SP......D.EL.HE........",
-            s,
-        ),
-    )
+    entries::matched_of(b"0", s).max(place_edition(
+        b"STS PBN NAV COM DAT SUR DEP DESTDOF REG EET SEL TYP CODEDLE OPR ORGNPER ALTNRALTTALTRIF RMK ",
+        b"SP......D.EL.HE........",
+        s,
+    ))
 }

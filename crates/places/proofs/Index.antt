@@ -9,12 +9,14 @@ use lib.ListN.{length, take, drop, get_or, length-drop}
 use lib.Seq.{drop-drop}
 use native.Mathlib.Omega.{arith}
 use Rattle.text.specs.Words.{Word, null, split, up_to, holds, behind, leading}
-use native.Mathlib.Nat.{not-suc-le-zero}
+use native.Mathlib.Nat.{not-suc-le-zero, add-zero}
+use Rattle.places.proofs.Larger.{smaller_by}
+use lib.Dec.{leb}
 use borrow.Author.Tests.{lt-ltb, le-ltb, lt-leb, le-leb}
 use Rattle.text.proofs.Index.{drop_here, drop_end, rest, split_at, after_here, after_end, null-split, found, found_none, found_before, found_behind}
 use Rattle.places.specs.Words.{Words, onward, words_place}
 use Rattle.std.specs.List.{prefix_len, zip}
-use Rattle.places.specs.Parts.{along_by, first_place, no_more, fixed_place, tens, units, minutes_place, time_place, cut_place, then_place, passes}
+use Rattle.places.specs.Parts.{along_by, run_place, first_place, no_more, fixed_place, tens, units, minutes_place, time_place, cut_place, then_place, passes}
 
 -- FOLLOWING, over the pairs of bytes at one place
 pub along_zipped : (m : ℕ → ℕ → Bool) (t w : Word) → prefix_len (λ (p : ℕ × ℕ). m p.0 p.1) (zip t w) ≡ along_by m t w
@@ -154,6 +156,10 @@ module _ (p : ℕ → Bool) (n : ℕ) (pg : List ℕ → ℕ) (s : List ℕ) (m 
 
   pub fixed_whole : (r : ℕ) → n ≤ m → r ≡ pg (take (length s - n) (drop n s)) → n + r ≡ fixed_place p n pg s
   fixed_whole r h e = rw (← end, le-leb n m h) (ap (λ (k : ℕ). n + k) (e ∙ ap pg (rest s n)))
+
+-- and nothing behind them
+pub fixed_run : (p : ℕ → Bool) (n : ℕ) (s : List ℕ) → run_place n p s ≡ fixed_place p n no_more s
+fixed_run p n s = sym (smaller_by n (leading p s)) ∙ ap (λ (k : ℕ). cond (leb n (leading p s)) k (leading p s)) (sym (add-zero n))
 
 -- A TIME
 

@@ -4,7 +4,7 @@
 ghost use Rattle.std.specs.Prelude.{◌≡◌, ◌≤◌, ℕ, Bool, Option, [], length};
 ghost use Rattle.text.specs.Words.{Word, leading, split};
 ghost use Rattle.text.specs.Kinds.{of_kind};
-ghost use Rattle.places.specs.Parts.{run_place, along_by, along, largest, passes, cut_place, between, two_digits, tens, units, time_place};
+ghost use Rattle.places.specs.Parts.{run_place, along_by, along, largest, passes, cut_place, fixed_place, between, two_digits, tens, units, time_place};
 ghost use Rattle.places.specs.Words.{form, words_place};
 
 use text::Kind;
@@ -161,4 +161,15 @@ pub fn time_place(most: usize, w: &[u8]) -> usize
         [a, ..] if tens(most, *a) => 1,
         _ => 0,
     }
+}
+
+// The place of so many bytes of a kind and a time behind them.
+pub fn time_behind(k: Kind, m: usize, most: usize, w: &[u8]) -> usize
+    ensures { result ≡ fixed_place (of_kind k) m (time_place most) w.now }
+{
+    let n = front_of(k, w);
+    if n < m {
+        return n;
+    }
+    m + time_place(most, &w[m..])
 }

@@ -3,7 +3,7 @@ use Prim.Native.Nat.{ℕ, suc, ◌≤◌}
 use mathlib.Core.Path.{◌≡◌, refl, sym, ap, ◌∙◌, subst}
 use mathlib.Core.Bool.{Bool, true, false, ◌&&◌, ◌||◌, cond, false≢true, true≢false, and-false}
 use mathlib.Core.List.{List, [], ◌∷◌}
-use mathlib.Core.Option.{none, some}
+use Rattle.std.specs.Prelude.{None, Some}
 use native.Mathlib.Omega.{arith}
 use lib.Dec.{ltb, eqb}
 use lib.ListN.{length, take, drop}
@@ -171,7 +171,7 @@ word_is stage w = go (holds 47 w) refl
 reached_ended : (stage : Stage) → ended (reached stage) ≡ stands stage
 reached_ended stage = go (stands stage)
   where
-    go : (x : Bool) → ended (cond x (some stage) none) ≡ x
+    go : (x : Bool) → ended (cond x (Some stage) None) ≡ x
     go true = refl
     go false = refl
 
@@ -190,14 +190,14 @@ step_free stage w e = go (stands (further stage w)) refl (word_is stage w ∙ sy
     go true q h = text_free w (further_text stage w q)
     go false q h = begins_free stage w h
 
-reached_some : (r stage : Stage) → reached r ≡ some stage → (stands r ≡ true) × (r ≡ stage)
+reached_some : (r stage : Stage) → reached r ≡ Some stage → (stands r ≡ true) × (r ≡ stage)
 reached_some r stage = go (stands r) refl
   where
-    go : (x : Bool) → stands r ≡ x → cond x (some r) none ≡ some stage → (stands r ≡ true) × (r ≡ stage)
+    go : (x : Bool) → stands r ≡ x → cond x (Some r) None ≡ Some stage → (stands r ≡ true) × (r ≡ stage)
     go true q e = (q, cc)
     go false q e = let z : ◌≡◌ {A = ℕ} 0 1 = cc in absurd (omega arith)
 
-step_alive : (stage next : Stage) (w : Word) → walk.after stage w ≡ some next → (complete next || stands next) ≡ true
+step_alive : (stage next : Stage) (w : Word) → walk.after stage w ≡ Some next → (complete next || stands next) ≡ true
 step_alive stage next w e = let r = reached_some (step stage w) next e in go (complete next) (ap stands (sym r.1) ∙ r.0)
   where
     go : (x : Bool) → stands next ≡ true → (x || stands next) ≡ true
@@ -205,7 +205,7 @@ step_alive stage next w e = let r = reached_some (step stage w) next e in go (co
     go false h = h
 
 -- behind each a word may follow, and the content end there
-goes_on_lem : (stage : Stage) → stands stage ≡ true → (w : Word) × (next : Stage) × (walk.after stage w ≡ some next) × (complete next ≡ true)
+goes_on_lem : (stage : Stage) → stands stage ≡ true → (w : Word) × (next : Stage) × (walk.after stage w ≡ Some next) × (complete next ≡ true)
 unfolding step keyed text in_alphabet white
 goes_on_lem Start h = (bytes "C/A", Pilot, refl, refl)
 goes_on_lem Endurance h = (bytes "C/A", Pilot, refl, refl)
@@ -248,7 +248,7 @@ refused_step w = go (holds 47 w)
     go true = rw (last (keyed (before 47 w)))
     go false = refl
 
-closed : (stage : Stage) → stands stage ≡ false → (w : Word) → walk.after stage w ≡ none
+closed : (stage : Stage) → stands stage ≡ false → (w : Word) → walk.after stage w ≡ None
 closed stage h w = rw (fallen stage h, refused_step w)
 
 -- THE CONTENT is walked as it fits
@@ -260,13 +260,13 @@ walked_refused (w ∷ ws) = ap (λ (r : Stage). walked r ws) (refused_step w) �
 words_walked : (ws : List Word) (stage : Stage) → words_fit walk ws (reached stage) ≡ walked stage ws
 words_walked [] stage = go (stands stage) refl
   where
-    go : (x : Bool) → stands stage ≡ x → words_fit walk [] (cond x (some stage) none) ≡ complete stage
+    go : (x : Bool) → stands stage ≡ x → words_fit walk [] (cond x (Some stage) None) ≡ complete stage
     go true q = refl
     go false q = sym (ap complete (fallen stage q))
 words_walked (w ∷ ws) stage = go (stands stage) refl (words_walked ws (step stage w))
   where
     go : (x : Bool) → stands stage ≡ x → words_fit walk ws (reached (step stage w)) ≡ walked (step stage w) ws
-        → words_fit walk (w ∷ ws) (cond x (some stage) none) ≡ walked (step stage w) ws
+        → words_fit walk (w ∷ ws) (cond x (Some stage) None) ≡ walked (step stage w) ws
     go true q ih = ih
     go false q ih = sym (ap (λ (r : Stage). walked r (w ∷ ws)) (fallen stage q) ∙ walked_refused (w ∷ ws))
 

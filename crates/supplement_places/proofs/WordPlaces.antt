@@ -17,7 +17,7 @@ use Rattle.places.specs.Parts.{larger, first_fits, first_place, run_place}
 use Rattle.places.proofs.Place.{place_of_language, no_place, either_place}
 use Rattle.places.proofs.Leaves.{first_place_lem, run_place_lem, passes_place}
 use Rattle.places.proofs.Fixed.{time_place_lem}
-use Rattle.places.proofs.Larger.{larger_first}
+use Rattle.places.proofs.Larger.{larger_first, larger_second}
 use Rattle.places.proofs.Texts.{many_place, text_place}
 use Rattle.entries.specs.Entries.{matched}
 use Rattle.entries.proofs.Entries.{label_place_lem, same_swap}
@@ -74,7 +74,7 @@ cover_within (b ∷ s) = go (eqb 67 b) refl
     go : (x : Bool) → eqb 67 b ≡ x → larger (cond x 1 0) (leading letter (b ∷ s)) ≡ leading letter (b ∷ s)
     go true q =
         subst (λ (c : ℕ). larger 1 (leading letter (c ∷ s)) ≡ leading letter (c ∷ s)) (eqb-true 67 b q)
-        (rw (le-leb 1 (suc (leading letter s)) (omega arith)))
+        (larger_second 1 (suc (leading letter s)) (omega arith))
     go false q = larger_first (leading letter (b ∷ s))
 
 pub shaded_is : (w : Word) → (same cover w || colour w) ≡ stands (shaded w)
@@ -114,7 +114,7 @@ dinghies_right s =
     go w true = refl
     go w false = refl
 
-key_right : (k : Key) (s : List ℕ) → IsPlace (λ w. stands (first k w)) s (first_word_place k s)
+pub key_right : (k : Key) (s : List ℕ) → IsPlace (λ w. stands (first k w)) s (first_word_place k s)
 key_right E s = taken_right Endurance refl elapsed_fits s (first_word_place E s) (time_place_lem elapsed_hours s)
 key_right P s = taken_right Persons refl (count 3) s (first_word_place P s) (count_right 3 (omega arith) s)
 key_right R s = taken_right Radio refl (some_of radio_letters) s (first_word_place R s) (letters_right radio_letters 85 refl s)

@@ -2,7 +2,7 @@
 -- item that was read last, or it begins a later item. Assumes nothing.
 use Rattle.std.specs.Prelude.{ℕ, ◌≡◌, refl, Bool, true, false, cond, List, [], ltb, eqb}
 use Prim.Native.String.{String}
-use Rattle.std.proofs.Math.Option.{Option, none, some}
+use Rattle.std.specs.Prelude.{Option, None, Some}
 use Rattle.alphabet.specs.Text.{bytes}
 use Rattle.alphabet.specs.Alphabet.{letter, digit, text, in_alphabet, white}
 use Rattle.text.specs.Words.{Word, split, leading}
@@ -86,7 +86,7 @@ stands Pilot = true
 stands Refused = false
 
 abbrev pub reached : Stage → Option Stage
-reached stage = cond (stands stage) (some stage) none
+reached stage = cond (stands stage) (Some stage) None
 
 -- behind any words that may stand there, a further word may: another item, the capacity that is due, or text
 abbrev pub walk : Words

@@ -3,7 +3,8 @@
 
 ghost use Rattle.std.specs.Prelude.{◌≡◌, ◌≤◌, length};
 ghost use Rattle.supplement.specs.Field19.{by_letter};
-ghost use Rattle.supplement_places.specs.Places.{letters_place, first_word_place, further_place, item_place, word_place, stands as stands_at, place19};
+ghost use Rattle.supplement_places.specs.Places.{letters_place, first_word_place, further_place, comes, item_place};
+ghost use Rattle.supplement_places.specs.Places.{word_place, stands as stands_at, walk, place19};
 
 use supplement::Stage;
 use text::Kind;
@@ -12,15 +13,7 @@ use text::Kind;
 fn letters_place(set: &[u8], w: &[u8]) -> usize
     ensures { result ≡ letters_place set.now w.now }
 {
-    let mut i = 0;
-    while i < w.len() {
-        let e = i + 1;
-        if !supplement::is_some_of(set, &w[..e]) {
-            return i;
-        }
-        i = e;
-    }
-    i
+    places::passes(w, |front| supplement::is_some_of(set, front))
 }
 
 // The place in the first word of an item, behind its oblique.
@@ -33,10 +26,7 @@ fn first_place(key: u8, w: &[u8]) -> usize
         b'R' => letters_place(b"UVE", w),
         b'S' => letters_place(b"PDMJ", w),
         b'J' => letters_place(b"LF", w),
-        b'D' => places::larger_of(
-            places::run_place(2, Kind::Digit, w),
-            places::front_of(Kind::Letter, w),
-        ),
+        b'D' => places::run_place(2, Kind::Digit, w).max(places::front_of(Kind::Letter, w)),
         b'A' | b'N' | b'C' => places::front_of(Kind::Text, w),
         _ => 0,
     }
@@ -55,60 +45,50 @@ fn further_place(stage: Stage, w: &[u8]) -> usize
     }
 }
 
+// Whether the key may come next.
+fn comes(stage: Stage, key: u8) -> bool
+    ensures { result ≡ comes stage key }
+{
+    supplement::past(stage) < supplement::place(key)
+}
+
 // The place in a word that begins an item.
 fn item_place(stage: Stage, w: &[u8]) -> usize
     ensures { result ≡ item_place stage w.now }
 {
-    if w.len() == 0 {
-        return 0;
+    match w {
+        [key, b'/', rest @ ..] if comes(stage, *key) => 2 + first_place(*key, rest),
+        [key, ..] if comes(stage, *key) => 1,
+        _ => 0,
     }
-    let key = w[0];
-    if supplement::place(key) <= supplement::past(stage) {
-        return 0;
-    }
-    if w.len() == 1 {
-        return 1;
-    }
-    if w[1] != b'/' {
-        return 1;
-    }
-    2 + first_place(key, &w[2..])
 }
 
 // The place in a word.
 fn word_place(stage: Stage, w: &[u8]) -> usize
     ensures { (result ≡ word_place stage w.now) × (result ≤ length w.now) }
 {
-    places::larger_of(further_place(stage, w), item_place(stage, w))
+    further_place(stage, w).max(item_place(stage, w))
 }
 
 // Whether the words so far may stand there.
 fn stands(stage: Stage) -> bool
     ensures { result ≡ stands_at stage }
 {
-    match stage {
-        Stage::Refused => false,
-        _ => true,
-    }
+    !matches!(stage, Stage::Refused)
+}
+
+// The stage behind a word more, where one may stand there.
+fn stage_after(stage: Stage, w: &[u8]) -> Option<Stage>
+    ensures { result ≡ walk.after stage w.now }
+{
+    let next = supplement::step(stage, w);
+    if stands(next) { Some(next) } else { None }
 }
 
 // The place of a content of field 19 that does not fit.
+#[tactic(auto, unfolding(crate::specs::Places::place19))]
 pub fn place_field19(s: &[u8]) -> usize
     ensures { result ≡ place19 s.now }
 {
-    let mut at = 0;
-    let mut stage = Stage::Start;
-    loop {
-        let e = text::find(s, at, b' ');
-        let w = &s[at..e];
-        let here = at + word_place(stage, w);
-        if e == s.len() {
-            return here;
-        }
-        stage = supplement::step(stage, w);
-        if !stands(stage) {
-            return here;
-        }
-        at = e + 1;
-    }
+    places::words_place(Stage::Start, stage_after, stands, word_place, s)
 }

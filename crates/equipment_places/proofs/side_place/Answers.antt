@@ -10,4 +10,4 @@ unfolding side_place
 returns c =
     let alone = c.matched_of in
     let codes = c.codes_place_by in
-    c.larger_of.ensures ∙ ap (λ (p : ℕ). larger p codes.result) alone.ensures ∙ ap (larger _) codes.ensures
+    c.max.ensures ∙ ap (λ (p : ℕ). larger p codes.result) alone.ensures ∙ ap (larger _) codes.ensures

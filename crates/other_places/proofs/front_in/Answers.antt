@@ -1,23 +1,16 @@
 -- `other_places::front_in` meets its contract. Assumes nothing.
-use mathlib.Core.Path.{sym, ◌∙◌}
+use borrow.Author.Tests.{tests}
+use Rattle.std.proofs.Common.{rules, not}
+use Rattle.std.proofs.lemmas.Iterator.{YieldsList-from_slice}
+use Rattle.std.proofs.lemmas.Iterator.Search.{position_from_yields_List}
 use Rattle.alphabet.specs.Alphabet.{one_of}
-use Rattle.text.proofs.Index.{leading_here, leading_next, leading_end}
-use native.Mathlib.Omega.{arith}
+use Rattle.text.proofs.Iterated.{leading_found}
 use Rattle.other_places.proofs.front_in.Goals as goal
-
-pub returns-then-not-one_of : goal.returns-then-not-one_of
-returns-then-not-one_of c =
-    let a = c.args in
-    let off = sym c.one_of.ensures ∙ c.if-not-one_of.true in
-    omega (arith, leading_here (λ b. one_of b a.set.now) a.w.now c.loop-i.i c.loop-i-test.true off)
-
-pub loop-i-preserved : goal.loop-i-preserved
-loop-i-preserved c =
-    let a = c.args in
-    let on = sym c.one_of.ensures ∙ c.if-not-one_of.false in
-    omega (arith, leading_next (λ b. one_of b a.set.now) a.w.now c.loop-i.i c.loop-i-test.true on)
 
 pub returns : goal.returns
 returns c =
-    let a = c.args in
-    omega (arith, leading_end (λ b. one_of b a.set.now) a.w.now c.loop-i.i c.loop-i-test.false)
+    let w = c.args.w.now in
+    let set = c.args.set.now in
+    let found = position_from_yields_List (λ b. not (one_of b set)) _ _ c.position.result c.position.ensures.ran
+    (YieldsList-from_slice w (search rules)) (λ x b q k. search (rules, tests)) in
+    (leading_found (λ b. one_of b set) w c.position.result found c.unwrap_or.result c.unwrap_or.ensures).0

@@ -15,4 +15,4 @@ unfolding base place18
 returns c =
     let items = c.place_edition in
     let none = c.matched_of in
-    c.larger_of.ensures ∙ ap (λ x. larger x items.result) none.ensures ∙ ap (larger _) items.ensures
+    c.max.ensures ∙ ap (λ x. larger x items.result) none.ensures ∙ ap (larger _) items.ensures

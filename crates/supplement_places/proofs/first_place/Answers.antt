@@ -36,7 +36,7 @@ returns-in-74 c =
 pub returns-in-68 : goal.returns-in-68
 unfolding keyed
 returns-in-68 c =
-    rw c.in-68.is (c.larger_of.ensures ∙ ap₂ larger c.run_place-in-68.ensures c.front_of.ensures.0)
+    rw c.in-68.is (c.max.ensures ∙ ap₂ larger c.run_place-in-68.ensures c.front_of.ensures.0)
 
 pub returns-in-65 : goal.returns-in-65
 returns-in-65 c =

@@ -8,6 +8,6 @@ use Rattle.supplement_places.proofs.word_place.Goals as goal
 pub returns : goal.returns
 returns c =
     let a = c.args in
-    let e = c.larger_of.ensures ∙ ap₂ larger c.further_place.ensures c.item_place.ensures in
+    let e = c.max.ensures ∙ ap₂ larger c.further_place.ensures c.item_place.ensures in
     let l = word_within a.stage a.w.now in
     (e, omega (arith, e))

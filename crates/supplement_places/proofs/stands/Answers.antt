@@ -1,1 +1,0 @@
--- `supplement_places::stands` meets its contract. Assumes nothing.
