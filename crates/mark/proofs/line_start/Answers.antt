@@ -1,7 +1,6 @@
-use Rattle.std.proofs.Common.{rules, ◌-◌, length, take}
+use Rattle.std.proofs.Common.{rules, ◌-◌, take}
 use Rattle.std.specs.Prelude.{reverse}
 use mathlib.Core.Path.{ap, sym, ◌∙◌}
-use native.Mathlib.Omega.{arith}
 use borrow.Author.Tests.{tests}
 use lib.Seq.{length-take-le}
 use Rattle.std.proofs.lemmas.List.{length-reverse}
