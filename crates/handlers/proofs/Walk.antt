@@ -25,7 +25,7 @@ use Rattle.journal.specs.declared.Journal.{Journal}
 use Rattle.journal.specs.declared.Journal.TheVariants.{Nowhere, At}
 use Rattle.journal.specs.declared.Waiting.{Waiting}
 use Rattle.journal.specs.declared.Taken.{Taken}
-use Rattle.journal.specs.Lines.{Answers, Waits, fresh, Line, line_from, waits_in, ReadsOn}
+use Rattle.journal.specs.Lines.{Answers, Waits, fresh, Line, line_from, count, is_over, waits_in, has_ended, ReadsOn}
 use Rattle.journal.proofs.Lines.{Cut, cut_none, cut_next, cut_lines, cut_waits}
 use Rattle.handlers.specs.declared.Played.{Played}
 use Rattle.handlers.specs.Walk.{call_of, accepted_as, after_ask, after_line, accepts_ask, accepts_line, accepts, after_waits, after_lines, all_accepted}
@@ -80,10 +80,10 @@ module _ (j : Journal) (line : List ℕ) (ps : List Place) (lent : List ℕ) (z 
       record { board_is = done (sym (ap (λ (x : Option Ask). after_ask x line (board_in ps lent)) (sym e ∙ q) ∙ s)); sized = z }
 
 module _ (j : Journal) (w : Waiting) (line : List ℕ) (ps : List Place) (lent : List ℕ) where
-  pub ends_long : Sized ps lent → w.over ≡ true → Ends j (waits_in w line) ps lent ps lent
+  pub ends_long : Sized ps lent → is_over w ≡ true → Ends j (waits_in w line) ps lent ps lent
   ends_long z e = record { board_is = too_long e refl; sized = z }
 
-  pub ends_taken : (qs : List Place) (left : List ℕ) → w.over ≡ false → Takes j (take w.n line) ps lent qs left
+  pub ends_taken : (qs : List Place) (left : List ℕ) → is_over w ≡ false → Takes j (take (count w) line) ps lent qs left
       → Ends j (waits_in w line) ps lent qs left
   ends_taken qs left e k = record { board_is = taken e k.board_is; sized = k.sized }
 
@@ -94,12 +94,12 @@ pub goes_on_lem : (line : List ℕ) (ps : List Place) (lent : List ℕ) (a : Opt
 goes_on_lem line ps lent a call t left g e q k h =
     h ∙ ap accepted_as k.verdict_is ∙ ap (λ (x : Option Ask). accepts_ask x line (board_in ps lent)) (sym q ∙ e)
 
-pub ends_again : (w : Waiting) (line : List ℕ) (ps : List Place) (lent : List ℕ) (r : Played) (left : List ℕ) → w.over ≡ false
-    → TakesAgain (take w.n line) ps lent r left → EndsAgain (waits_in w line) ps lent r left
+pub ends_again : (w : Waiting) (line : List ℕ) (ps : List Place) (lent : List ℕ) (r : Played) (left : List ℕ) → is_over w ≡ false
+    → TakesAgain (take (count w) line) ps lent r left → EndsAgain (waits_in w line) ps lent r left
 ends_again w line ps lent r left o k =
     record {
       ends = ends_taken Nowhere w line ps lent r.board.places left o k.takes;
-      going_is = k.going_is ∙ sym (ap (λ (t : Bool). cond t false (accepts_line (board_in ps lent) (take w.n line))) o);
+      going_is = k.going_is ∙ sym (ap (λ (t : Bool). cond t false (accepts_line (board_in ps lent) (take (count w) line))) o);
     }
 
 -- one that cannot be played again
@@ -125,13 +125,13 @@ module _ (b : Rack) (r : Played) (e : r ≡ stopped b) where
         going_is = going_stopped ∙ sym (ap (λ (x : Option Ask). accepts_ask x line (board_in b.places lent)) (sym i ∙ q) ∙ n);
       }
 
-  pub ends_stopped : (w : Waiting) (line lent : List ℕ) → Sized b.places lent → w.over ≡ true → EndsAgain (waits_in w line) b.places lent r lent
+  pub ends_stopped : (w : Waiting) (line lent : List ℕ) → Sized b.places lent → is_over w ≡ true → EndsAgain (waits_in w line) b.places lent r lent
   ends_stopped w line lent z o =
       record {
         ends =
             subst (λ (qs : List Place). Ends Nowhere (waits_in w line) b.places lent qs lent) (sym places_stopped)
             (ends_long Nowhere w line b.places lent z o);
-        going_is = going_stopped ∙ sym (ap (λ (t : Bool). cond t false (accepts_line (board_in b.places lent) (take w.n line))) o);
+        going_is = going_stopped ∙ sym (ap (λ (t : Bool). cond t false (accepts_line (board_in b.places lent) (take (count w) line))) o);
       }
 
   pub plays_stopped : (left : List ℕ) → Sized b.places left → PlaysAgain r left
@@ -177,7 +177,7 @@ module _ (left : List ℕ) (t : Taken) (chunk line : List ℕ) (k : ReadsOn fres
   abbrev there : List ℕ
   there = left ++ k.more
 
-  ended_there : (line_from fresh there).ended ≡ t.ended
+  ended_there : (line_from fresh there).ended ≡ has_ended t.stage
   ended_there = sym (ap (λ (l : Line). l.ended) k.line_is)
 
   waits_there : waits_in t.waiting line ≡ (line_from fresh there).waits
@@ -194,7 +194,7 @@ pub serving_none : (j : Bool) (b : Board house) → Serving j b b
 serving_none j b = record { taken_bytes = []; lines = []; cut = cut_none; served = none_yet }
 
 module _ (j : Bool) (b c : Board house) (s : Serving j b c) (left : List ℕ) (t : Taken) (chunk line : List ℕ) (k : ReadsOn fresh left t chunk line) where
-  pub serving_next : (d : Board house) → t.ended ≡ true → Ended j c (waits_in t.waiting line) d → Serving j b d
+  pub serving_next : (d : Board house) → has_ended t.stage ≡ true → Ended j c (waits_in t.waiting line) d → Serving j b d
   serving_next d e n =
       record {
         taken_bytes = _;
@@ -203,7 +203,7 @@ module _ (j : Bool) (b c : Board house) (s : Serving j b c) (left : List ℕ) (t
         served = one_more_lem _ s.served (subst (λ (w : Waits). Ended j c w d) (waits_there left t chunk line k) n);
       }
 
-  pub serving_all : t.ended ≡ false → ServedAll j b c
+  pub serving_all : has_ended t.stage ≡ false → ServedAll j b c
   serving_all e =
       record {
         bytes = s.taken_bytes ++ there left t chunk line k;
@@ -236,7 +236,7 @@ playing_none b lent e =
     }
 
 module _ (c : Board house) (s : Playing c) (left : List ℕ) (t : Taken) (chunk line : List ℕ) (k : ReadsOn fresh left t chunk line) where
-  pub playing_next : (d : Board house) → t.ended ≡ true → Ended false c (waits_in t.waiting line) d → accepts c (waits_in t.waiting line) ≡ true
+  pub playing_next : (d : Board house) → has_ended t.stage ≡ true → Ended false c (waits_in t.waiting line) d → accepts c (waits_in t.waiting line) ≡ true
       → Playing d
   playing_next d e n a =
       let w : Waits = (line_from fresh (there left t chunk line k)).waits in
@@ -258,7 +258,7 @@ module _ (c : Board house) (s : Playing c) (left : List ℕ) (t : Taken) (chunk 
             ∙ a;
       }
 
-  pub playing_all : t.ended ≡ false → PlayedAll c t.waiting.n
+  pub playing_all : has_ended t.stage ≡ false → PlayedAll c (count t.waiting)
   playing_all e =
       let still : (line_from fresh (there left t chunk line k)).ended ≡ false = ended_there left t chunk line k ∙ e in
       let lines_are = cut_lines _ _ (there left t chunk line k) s.cut still in
@@ -267,6 +267,6 @@ module _ (c : Board house) (s : Playing c) (left : List ℕ) (t : Taken) (chunk 
         board_is = s.board_is ∙ sym (ap (after_lines (empty house)) lines_are);
         accepted = ap (all_accepted (empty house)) lines_are ∙ s.accepted;
         torn_is =
-            sym (length-take-le t.waiting.n line (omega (arith, k.lies.in_line, k.lies.line_long)))
+            sym (length-take-le (count t.waiting) line (omega (arith, k.lies.in_line, k.lies.line_long)))
             ∙ ap (λ (w : Waits). length w.pending) (waits_there left t chunk line k ∙ sym (cut_waits _ _ (there left t chunk line k) s.cut still));
       }

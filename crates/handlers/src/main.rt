@@ -6,12 +6,12 @@
 ghost use Rattle.std.specs.Prelude.{◌≡◌, true, false, ◌≤◌, length};
 ghost use Rattle.racks.specs.Places.{Sized};
 ghost use Rattle.board.specs.Turns.{Turned};
-ghost use Rattle.journal.specs.Lines.{waits_in};
+ghost use Rattle.journal.specs.Lines.{count, waits_in};
 ghost use Rattle.handlers.specs.Walk.{accepted_as, call_of, Makes, Takes, Ends, TakesAgain, EndsAgain, PlaysAgain, Serves};
 
 use board::{Turn, Verdict};
 use calls::{Ask, Call};
-use journal::{Journal, JournalFile, Reader, Waiting};
+use journal::{Journal, JournalFile, Reader, Stage, Waiting};
 use racks::Board;
 use say::Console;
 use std::io::Read;
@@ -104,17 +104,19 @@ fn end_line<R: Print>(
     line: &[u8],
     bytes: &mut [u8; 36000],
 ) -> Board
-    requires { (w.n ≤ length line.now) × Sized board.places bytes.old }
+    requires { (count w ≤ length line.now) × Sized board.places bytes.old }
     ensures { Ends journal.entry (waits_in w line.now) board.places bytes.old result.places bytes.new }
 {
-    if w.over {
-        say::print(console, b"TOO LONG\n");
-        return board;
+    match w {
+        Waiting::Holds(n) => take(console, board, journal, &line[..n], bytes),
+        Waiting::TooLong => {
+            say::print(console, b"TOO LONG\n");
+            board
+        }
     }
-    take(console, board, journal, &line[..w.n], bytes)
 }
 
-// Takes standard input to its end. A loop has to end, so the lines are counted down, from a number that no run uses up.
+// Takes standard input to its end. A loop has to end, so the lines are counted, to a number that no run reaches.
 fn serve<R: Print, I: Read>(
     console: &Console<'_, R>,
     from: &mut I,
@@ -129,16 +131,13 @@ fn serve<R: Print, I: Read>(
     let mut line = [0u8; 4096];
     let mut now = board;
     let mut reader = Reader { at: 0, got: 0 };
-    let mut turns = u64::MAX;
-    while turns > 0 {
-        turns -= 1;
+    for _ in 0..u64::MAX {
         let t = journal::next_of_input(console, from, reader, &mut chunk, &mut line);
-        if !t.ended {
+        let Stage::Ended = t.stage else {
             return now;
-        }
+        };
         reader = t.reader;
-        let w = t.waiting;
-        now = end_line(console, now, journal, w, &line, bytes);
+        now = end_line(console, now, journal, t.waiting, &line, bytes);
     }
     now
 }
@@ -184,13 +183,13 @@ fn stuck(board: Board) -> Played
 
 // A line of the journal has ended.
 fn replay_end(board: Board, w: Waiting, line: &[u8], bytes: &mut [u8; 36000]) -> Played
-    requires { (w.n ≤ length line.now) × Sized board.places bytes.old }
+    requires { (count w ≤ length line.now) × Sized board.places bytes.old }
     ensures { EndsAgain (waits_in w line.now) board.places bytes.old result bytes.new }
 {
-    if w.over {
-        return stuck(board);
+    match w {
+        Waiting::Holds(n) => replay_line(board, &line[..n], bytes),
+        Waiting::TooLong => stuck(board),
     }
-    replay_line(board, &line[..w.n], bytes)
 }
 
 // Plays the journal from the empty board to its end. What cannot be played again is said.
@@ -202,20 +201,17 @@ fn replay_all<R>(console: &Console<'_, R>, file: &JournalFile, bytes: &mut [u8; 
     let mut line = [0u8; 4096];
     let mut now = racks::empty();
     let mut reader = Reader { at: 0, got: 0 };
-    let mut turns = u64::MAX;
-    while turns > 0 {
-        turns -= 1;
+    for _ in 0..u64::MAX {
         let t = journal::next_of_journal(console, file, reader, &mut chunk, &mut line);
-        let w = t.waiting;
-        if !t.ended {
+        let Stage::Ended = t.stage else {
             return Played {
                 board: now,
-                torn: w.n,
-                going: !t.failed,
+                torn: t.waiting.count(),
+                going: !matches!(t.stage, Stage::Failed),
             };
-        }
+        };
         reader = t.reader;
-        let r = replay_end(now, w, &line, bytes);
+        let r = replay_end(now, t.waiting, &line, bytes);
         now = r.board;
         if !r.going {
             journal::complain_of_line(console);

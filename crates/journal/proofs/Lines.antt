@@ -1,10 +1,10 @@
 -- Lines: the laws of the next line at a place, of further reads, and of all lines, cut one by one. Assumes nothing.
 use Prim.Native.Nat.{ℕ, suc, ◌+◌, ◌≤◌, ◌<◌}
 use mathlib.Core.Path.{◌≡◌, refl, sym, ap, subst, ◌∙◌}
-use mathlib.Core.Bool.{Bool, true, false, not, cond, false≢true, true≢false}
+use mathlib.Core.Bool.{Bool, true, false, cond, false≢true, true≢false}
 use mathlib.Core.List.{List, [], ◌∷◌, ◌++◌, append-nil, append_assoc}
 use native.Mathlib.Omega.{arith}
-use lib.Dec.{eqb, ltb}
+use lib.Dec.{eqb}
 use lib.ListN.{length, take, drop, get_or, set}
 use lib.Seq.{take-suc-set, length-take-le, drop-cons, get_or-take}
 use borrow.Author.Tests.{eq-eqb, ne_eqb, lt-ltb, le-ltb}
@@ -12,9 +12,12 @@ use Rattle.text.proofs.Index.{drop_end}
 use Rattle.journal.specs.declared.Journal.{Journal}
 use Rattle.journal.specs.declared.Journal.TheVariants.{Nowhere}
 use Rattle.journal.specs.declared.Waiting.{Waiting}
+use Rattle.journal.specs.declared.Waiting.TheVariants.{Holds, TooLong}
+use Rattle.journal.specs.declared.Stage.{Stage}
+use Rattle.journal.specs.declared.Stage.TheVariants.{Ended, Open, Stopped, Failed}
 use Rattle.journal.specs.declared.Reader.{Reader}
 use Rattle.journal.specs.declared.Taken.{Taken}
-use Rattle.journal.specs.Lines.{Waits, fresh, pushed, Line, line_from, lines_from, waits_then, waits_in, left_in, Scans, ReadsOn, Answers}
+use Rattle.journal.specs.Lines.{Waits, fresh, pushed, Line, line_from, lines_from, waits_then, count, waits_in, left_in, has_ended, Scans, ReadsOn, Answers}
 
 -- A JOURNAL
 
@@ -23,29 +26,19 @@ answers_nowhere j e = subst (λ (x : Journal). Answers x true) (sym e) refl
 
 -- A BYTE
 
-module _ (w : Waiting) (line : List ℕ) (x : ℕ) (room : length line ≡ 4096) (inside : w.n ≤ 4096) where
-  pub pushed_over : w.over ≡ true → waits_in w line ≡ pushed (waits_in w line) x
-  pushed_over e = sym (ap (λ (b : Bool). cond b (waits_in w line) (next b)) e)
-    where
-      next : Bool → Waits
-      next b =
-          cond (ltb (length (take w.n line)) 4096) (record { pending = take w.n line ++ (x ∷ []); over = false }) (record { pending = []; over = true })
+pub pushed_on : (n : ℕ) (line : List ℕ) (x : ℕ) → length line ≡ 4096 → n < 4096 → waits_in (Holds (n + 1)) (set line n x) ≡ pushed (waits_in (Holds n) line) x
+pushed_on n line x room h =
+    let long : length (take n line) ≡ n = length-take-le n line (omega arith) in
+    let free : length (take n line) < 4096 = omega (arith, long, h) in
+    let plus : n + 1 ≡ suc n = omega arith in
+    rw (lt-ltb (length (take n line)) 4096 free)
+    (ap (λ (s : List ℕ). record { pending = s; over = false }) (ap (λ (k : ℕ). take k (set line n x)) plus ∙ take-suc-set line n x (omega arith)))
 
-  module _ (e : w.over ≡ false) where
-    pub pushed_full : w.n ≡ 4096 → waits_in (record { n = 0; over = true }) line ≡ pushed (waits_in w line) x
-    pushed_full h =
-        let long : length (take w.n line) ≡ w.n = length-take-le w.n line (omega arith) in
-        let full : 4096 ≤ length (take w.n line) = omega (arith, long) in
-        rw (e, le-ltb (length (take w.n line)) 4096 full)
-
-    pub pushed_on : (w.n ≡ 4096 → ⊥) → waits_in (record { n = w.n + 1; over = false }) (set line w.n x) ≡ pushed (waits_in w line) x
-    pushed_on h =
-        let long : length (take w.n line) ≡ w.n = length-take-le w.n line (omega arith) in
-        let free : length (take w.n line) < 4096 = omega (arith, long, h) in
-        let plus : w.n + 1 ≡ suc w.n = omega arith in
-        rw (e, lt-ltb (length (take w.n line)) 4096 free)
-        (ap (λ (s : List ℕ). record { pending = s; over = false })
-        (ap (λ (k : ℕ). take k (set line w.n x)) plus ∙ take-suc-set line w.n x (omega arith)))
+pub pushed_full : (n : ℕ) (line : List ℕ) (x : ℕ) → length line ≡ 4096 → n ≤ 4096 → 4096 ≤ n → waits_in TooLong line ≡ pushed (waits_in (Holds n) line) x
+pushed_full n line x room inside h =
+    let long : length (take n line) ≡ n = length-take-le n line (omega arith) in
+    let full : 4096 ≤ length (take n line) = omega (arith, long, h) in
+    rw (le-ltb (length (take n line)) 4096 full) refl
 
 -- THE NEXT LINE, from a place on: within, at its end, and where nothing is left
 
@@ -99,47 +92,38 @@ goes_on_lem (x ∷ s) w m e = go (eqb x 10) (goes_on_lem s (pushed w x) m) e
     go false r h = r h
 
 -- nothing more came
-pub reads_nothing : (w : Waiting) (failed : Bool) (t : Taken) (chunk line : List ℕ) → w.n ≤ 4096 → length chunk ≡ 4096 → length line ≡ 4096
-    → t ≡ record { reader = record { at = 0; got = 0 }; waiting = w; ended = false; going = false; failed = failed }
+pub reads_nothing : (w : Waiting) (stage : Stage) (t : Taken) (chunk line : List ℕ) → count w ≤ 4096 → length chunk ≡ 4096 → length line ≡ 4096
+    → has_ended stage ≡ false → t ≡ record { reader = record { at = 0; got = 0 }; waiting = w; stage = stage }
     → ReadsOn (waits_in w line) [] t chunk line
-reads_nothing w failed t chunk line inside chunk_long line_long e =
+reads_nothing w stage t chunk line inside chunk_long line_long going e =
     subst (λ (x : Taken). ReadsOn (waits_in w line) [] x chunk line) (sym e)
     (record {
       more = [];
-      line_is = refl;
-      going_open = λ g. absurd (false≢true g);
+      line_is = ap (λ (b : Bool). record { waits = waits_in w line; left = []; ended = b }) going;
       lies =
           record { in_order_lem = omega arith; in_chunk = omega arith; in_line = inside; chunk_long = chunk_long; line_long = line_long };
     })
 
 module _ (r : Reader) (w : Waiting) (chunk line : List ℕ) (t : Taken) (line' : List ℕ) (k : Scans r w chunk line t line') where
-  open_going : t.going ≡ true → t.ended ≡ false
-  open_going g = not_true t.ended (sym k.going_is ∙ g)
-    where
-      not_true : (b : Bool) → not b ≡ true → b ≡ false
-      not_true true e = sym e
-      not_true false e = refl
-
   -- within what was left
   pub reads_left : ReadsOn (waits_in w line) (left_in r chunk) t chunk line'
   reads_left =
       record {
         more = [];
         line_is = k.line_is ∙ ap (line_from (waits_in w line)) (sym (append-nil (left_in r chunk)));
-        going_open = open_going;
         lies = k.lies;
       }
 
   -- within what was read
   pub reads_some : ReadsOn (waits_in w line) [] t chunk line'
-  reads_some = record { more = left_in r chunk; line_is = k.line_is; going_open = open_going; lies = k.lies }
+  reads_some = record { more = left_in r chunk; line_is = k.line_is; lies = k.lies }
 
 -- one read behind the other
 pub reads_more : (w : Waits) (left : List ℕ) (t : Taken) (chunk line : List ℕ) (u : Taken) (chunk' line' : List ℕ) → ReadsOn w left t chunk line
-    → t.going ≡ true → ReadsOn (waits_in t.waiting line) [] u chunk' line' → ReadsOn w left u chunk' line'
+    → t.stage ≡ Open → ReadsOn (waits_in t.waiting line) [] u chunk' line' → ReadsOn w left u chunk' line'
 reads_more w left t chunk line u chunk' line' k g n =
     let s : List ℕ = left ++ k.more in
-    let still : (line_from w s).ended ≡ false = sym (ap (λ (l : Line). l.ended) k.line_is) ∙ k.going_open g in
+    let still : (line_from w s).ended ≡ false = sym (ap (λ (l : Line). l.ended) k.line_is) ∙ ap has_ended g in
     record {
       more = k.more ++ n.more;
       line_is =
@@ -147,7 +131,6 @@ reads_more w left t chunk line u chunk' line' k g n =
           ∙ ap (λ (v : Waits). line_from v n.more) (ap (λ (l : Line). l.waits) k.line_is)
           ∙ sym (goes_on_lem s w n.more still)
           ∙ ap (line_from w) (append_assoc left k.more n.more);
-      going_open = n.going_open;
       lies = n.lies;
     }
 
@@ -159,13 +142,19 @@ pub onward_none : (t : Taken) (chunk line : List ℕ) → Onward t chunk line t 
 onward_none t chunk line = record { on = λ w left k. k }
 
 pub onward_next : (t : Taken) (chunk line : List ℕ) (u : Taken) (chunk' line' : List ℕ) (v : Taken) (chunk'' line'' : List ℕ)
-    → Onward t chunk line u chunk' line' → u.going ≡ true → ReadsOn (waits_in u.waiting line') [] v chunk'' line'' → Onward t chunk line v chunk'' line''
+    → Onward t chunk line u chunk' line' → u.stage ≡ Open → ReadsOn (waits_in u.waiting line') [] v chunk'' line'' → Onward t chunk line v chunk'' line''
 onward_next t chunk line u chunk' line' v chunk'' line'' o g n =
     record { on = λ w left k. reads_more w left u chunk' line' v chunk'' line'' (o.on w left k) g n }
 
+pub not_ended : (s : Stage) → (s ≡ Ended → ⊥) → has_ended s ≡ false
+not_ended Ended n = absurd (n refl)
+not_ended Open n = refl
+not_ended Stopped n = refl
+not_ended Failed n = refl
+
 -- the end of the input ends a line too
-pub reads_last : (w : Waits) (left : List ℕ) (t : Taken) (chunk line : List ℕ) → ReadsOn w left t chunk line → t.ended ≡ false
-    → ReadsOn w left (record { reader = record { at = 0; got = 0 }; waiting = t.waiting; ended = true; going = false; failed = false }) chunk line
+pub reads_last : (w : Waits) (left : List ℕ) (t : Taken) (chunk line : List ℕ) → ReadsOn w left t chunk line → has_ended t.stage ≡ false
+    → ReadsOn w left (record { reader = record { at = 0; got = 0 }; waiting = t.waiting; stage = Ended }) chunk line
 reads_last w left t chunk line k o =
     let s : List ℕ = left ++ k.more in
     let still : (line_from w s).ended ≡ false = sym (ap (λ (l : Line). l.ended) k.line_is) ∙ o in
@@ -175,7 +164,6 @@ reads_last w left t chunk line k o =
           ap (λ (v : Waits). record { waits = v; left = []; ended = true }) (ap (λ (l : Line). l.waits) k.line_is)
           ∙ sym (goes_on_lem s w (10 ∷ []) still)
           ∙ ap (line_from w) (append_assoc left k.more (10 ∷ []));
-      going_open = λ g. absurd (false≢true g);
       lies =
           record {
             in_order_lem = omega arith;

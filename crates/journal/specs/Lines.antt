@@ -4,6 +4,9 @@ use Rattle.alphabet.specs.Text.{bytes}
 use Rattle.journal.specs.declared.Journal.{Journal}
 use Rattle.journal.specs.declared.Journal.TheVariants.{Nowhere, At}
 use Rattle.journal.specs.declared.Waiting.{Waiting}
+use Rattle.journal.specs.declared.Waiting.TheVariants.{Holds, TooLong}
+use Rattle.journal.specs.declared.Stage.{Stage}
+use Rattle.journal.specs.declared.Stage.TheVariants.{Ended, Open, Stopped, Failed}
 use Rattle.journal.specs.declared.Reader.{Reader}
 use Rattle.journal.specs.declared.Taken.{Taken}
 
@@ -44,20 +47,41 @@ waits_then w (x ∷ s) = waits_then (cond (eqb x 10) fresh (pushed w x)) s
 
 -- AS THE PROGRAM HAS THEM: a line in the first bytes of a buffer, and what was read and is left in a part of another
 
+-- how many bytes of a line are there; none of one that is too long
+abbrev pub count : Waiting → ℕ
+count (Holds n) = n
+count TooLong = 0
+
+abbrev pub is_over : Waiting → Bool
+is_over (Holds n) = false
+is_over TooLong = true
+
 abbrev pub waits_in : Waiting → List ℕ → Waits
-waits_in w line = record { pending = take w.n line; over = w.over }
+waits_in w line = record { pending = take (count w) line; over = is_over w }
+
+abbrev pub has_ended : Stage → Bool
+has_ended Ended = true
+has_ended Open = false
+has_ended Stopped = false
+has_ended Failed = false
+
+abbrev pub is_open : Stage → Bool
+is_open Ended = false
+is_open Open = true
+is_open Stopped = false
+is_open Failed = false
 
 abbrev pub left_in : Reader → List ℕ → List ℕ
 left_in r chunk = drop r.at (take r.got chunk)
 
 abbrev pub line_in : Taken → List ℕ → List ℕ → Line
-line_in t chunk line = record { waits = waits_in t.waiting line; left = left_in t.reader chunk; ended = t.ended }
+line_in t chunk line = record { waits = waits_in t.waiting line; left = left_in t.reader chunk; ended = has_ended t.stage }
 
 -- the buffers, as the types give them, and what is said to lie in them
 pub record Lies (r : Reader) (w : Waiting) (chunk line : List ℕ) : Type 0 where
   pub in_order_lem : r.at ≤ r.got
   pub in_chunk : r.got ≤ 4096
-  pub in_line : w.n ≤ 4096
+  pub in_line : count w ≤ 4096
   pub chunk_long : length chunk ≡ 4096
   pub line_long : length line ≡ 4096
 
@@ -66,14 +90,13 @@ pub record Lies (r : Reader) (w : Waiting) (chunk line : List ℕ) : Type 0 wher
 -- within what was read
 pub record Scans (r : Reader) (w : Waiting) (chunk line : List ℕ) (t : Taken) (line' : List ℕ) : Type 0 where
   pub line_is : line_in t chunk line' ≡ line_from (waits_in w line) (left_in r chunk)
-  pub going_is : t.going ≡ not t.ended
+  pub open_is : is_open t.stage ≡ not (has_ended t.stage)
   pub lies : Lies t.reader t.waiting chunk line'
 
 -- by further reads. What a read gives no contract says; so there are bytes, those of all further reads one behind the other, and none is lost
 pub record ReadsOn (w : Waits) (left : List ℕ) (t : Taken) (chunk line : List ℕ) : Type 0 where
   pub more : List ℕ
   pub line_is : line_in t chunk line ≡ line_from w (left ++ more)
-  pub going_open : t.going ≡ true → t.ended ≡ false
   pub lies : Lies t.reader t.waiting chunk line
 
 -- without a journal nothing is lost

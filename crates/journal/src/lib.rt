@@ -1,8 +1,8 @@
 // Lines of the program `handlers`, read from standard input or from its journal, and the journal: a file with a line for each call that was accepted.
 #![tactic(auto)]
 
-ghost use Rattle.std.specs.Prelude.{◌≡◌, true, false, [], ◌≤◌, length};
-ghost use Rattle.journal.specs.Lines.{Answers, fresh, pushed, waits_in, left_in, Lies, Scans, ReadsOn};
+ghost use Rattle.std.specs.Prelude.{◌≡◌, [], ◌≤◌, length};
+ghost use Rattle.journal.specs.Lines.{Answers, fresh, pushed, count, waits_in, left_in, Lies, Scans, ReadsOn};
 
 use say::Console;
 use std::cell::Cell;
@@ -30,9 +30,21 @@ pub enum Journal<'a> {
 
 // A line as far as it has come: how many bytes of it are in the buffer; or that it is too long.
 #[derive(Clone, Copy)]
-pub struct Waiting {
-    pub n: usize,
-    pub over: bool,
+pub enum Waiting {
+    Holds(usize),
+    TooLong,
+}
+
+impl Waiting {
+    // How many bytes of the line are in the buffer; none of one that is too long.
+    pub fn count(self) -> usize
+        ensures { result ≡ count self }
+    {
+        match self {
+            Waiting::Holds(n) => n,
+            Waiting::TooLong => 0,
+        }
+    }
 }
 
 // What was read and is left: the bytes from one place of the buffer to another.
@@ -42,34 +54,36 @@ pub struct Reader {
     pub got: usize,
 }
 
-// A line that was read, and what is left behind it: whether it has ended, whether to read on, and whether the rest of it cannot be had.
+// How far the reading of a line has come: it has ended; it goes on in what is read next; there is no more of it; or the rest of it cannot be had.
+#[derive(Clone, Copy)]
+pub enum Stage {
+    Ended,
+    Open,
+    Stopped,
+    Failed,
+}
+
+// A line that was read, and what is left behind it.
 #[derive(Clone, Copy)]
 pub struct Taken {
     pub reader: Reader,
     pub waiting: Waiting,
-    pub ended: bool,
-    pub going: bool,
-    pub failed: bool,
+    pub stage: Stage,
 }
 
 // READING A LINE
 
 // A further byte of a line that has not ended.
 fn push(w: Waiting, b: u8, line: &mut [u8]) -> Waiting
-    requires { (w.n ≤ 4096) × (length line.old ≡ 4096) }
-    ensures { (waits_in result line.new ≡ pushed (waits_in w line.old) b) × (result.n ≤ 4096) }
+    requires { (count w ≤ 4096) × (length line.old ≡ 4096) }
+    ensures { (waits_in result line.new ≡ pushed (waits_in w line.old) b) × (count result ≤ 4096) }
 {
-    if w.over {
-        return w;
-    }
-    let n = w.n;
-    if n == MOST_LINE {
-        return Waiting { n: 0, over: true };
-    }
-    line[n] = b;
-    Waiting {
-        n: n + 1,
-        over: false,
+    match w {
+        Waiting::Holds(n) if n < MOST_LINE => {
+            line[n] = b;
+            Waiting::Holds(n + 1)
+        }
+        _ => Waiting::TooLong,
     }
 }
 
@@ -79,41 +93,32 @@ fn scan(reader: Reader, w: Waiting, chunk: &[u8], line: &mut [u8]) -> Taken
     ensures { Scans reader w chunk.now line.old result line.new }
 {
     let got = reader.got;
-    let mut at = reader.at;
-    let mut v = w;
-    while at < got {
-        let b = chunk[at];
-        at += 1;
-        if b == b'\n' {
+    let mut waiting = w;
+    for i in reader.at..got {
+        if chunk[i] == b'\n' {
             return Taken {
-                reader: Reader { at, got },
-                waiting: v,
-                ended: true,
-                going: false,
-                failed: false,
+                reader: Reader { at: i + 1, got },
+                waiting,
+                stage: Stage::Ended,
             };
         }
-        v = push(v, b, line);
+        waiting = push(waiting, chunk[i], line);
     }
     Taken {
-        reader: Reader { at, got },
-        waiting: v,
-        ended: false,
-        going: true,
-        failed: false,
+        reader: Reader { at: got, got },
+        waiting,
+        stage: Stage::Open,
     }
 }
 
 // No more of a line that has not ended.
-fn stopped(w: Waiting, failed: bool) -> Taken
-    ensures { result ≡ record { reader = record { at = 0; got = 0 }; waiting = w; ended = false; going = false; failed = failed } }
+fn stopped(waiting: Waiting, stage: Stage) -> Taken
+    ensures { result ≡ record { reader = record { at = 0; got = 0 }; waiting = waiting; stage = stage } }
 {
     Taken {
         reader: Reader { at: 0, got: 0 },
-        waiting: w,
-        ended: false,
-        going: false,
-        failed,
+        waiting,
+        stage,
     }
 }
 
@@ -125,22 +130,20 @@ fn read_on<I: Read>(
     chunk: &mut [u8],
     line: &mut [u8],
 ) -> Taken
-    requires { (w.n ≤ 4096) × (length chunk.old ≡ 4096) × (length line.old ≡ 4096) }
+    requires { (count w ≤ 4096) × (length chunk.old ≡ 4096) × (length line.old ≡ 4096) }
     ensures { ReadsOn (waits_in w line.old) [] result chunk.new line.new }
 {
-    if w.over {
-        if !long {
-            return stopped(w, true);
-        }
+    if !long && matches!(w, Waiting::TooLong) {
+        return stopped(w, Stage::Failed);
     }
     match from.read(chunk) {
-        Ok(0) => stopped(w, false),
+        Ok(0) => stopped(w, Stage::Stopped),
         Ok(n) => scan(Reader { at: 0, got: n }, w, chunk, line),
-        Err(_) => stopped(w, true),
+        Err(_) => stopped(w, Stage::Failed),
     }
 }
 
-// The next line, from what is left of the last read and from further reads. A loop has to end, so these are counted down, from a number that none uses up.
+// The next line, from what is left of the last read and from further reads. A loop has to end, so these are counted, to a number that none reaches.
 fn next_line<I: Read>(
     from: &mut I,
     long: bool,
@@ -148,25 +151,22 @@ fn next_line<I: Read>(
     chunk: &mut [u8],
     line: &mut [u8],
 ) -> Taken
-    requires { Lies reader (record { n = 0; over = false }) chunk.old line.old }
+    requires { Lies reader (Waiting.Holds 0) chunk.old line.old }
     ensures { ReadsOn fresh (left_in reader chunk.old) result chunk.new line.new }
 {
-    let mut t = scan(reader, Waiting { n: 0, over: false }, chunk, line);
-    let mut turns = u64::MAX;
-    while turns > 0 && t.going {
-        let w = t.waiting;
-        t = read_on(from, long, w, chunk, line);
-        turns -= 1;
+    let mut t = scan(reader, Waiting::Holds(0), chunk, line);
+    for _ in 0..u64::MAX {
+        let Stage::Open = t.stage else {
+            return t;
+        };
+        t = read_on(from, long, t.waiting, chunk, line);
     }
     t
 }
 
 // Whether something of a line has come.
 fn has_begun(w: Waiting) -> bool {
-    if w.over {
-        return true;
-    }
-    w.n != 0
+    !matches!(w, Waiting::Holds(0))
 }
 
 // The next line of standard input; its last one needs no end. A read that fails looks like the end, and is said.
@@ -181,24 +181,18 @@ pub fn next_of_input<R, I: Read>(
     ensures { ReadsOn fresh (left_in reader chunk.old) result chunk.new line.new }
 {
     let t = next_line(from, true, reader, chunk, line);
-    if t.failed {
+    if let Stage::Failed = t.stage {
         say::complain(console, b"beechdoublet: standard input cannot be read\n");
     }
-    let w = t.waiting;
-    let ended = t.ended;
-    if ended {
-        return t;
-    }
-    if has_begun(w) {
-        return Taken {
+    match t.stage {
+        Stage::Ended => t,
+        _ if has_begun(t.waiting) => Taken {
             reader: Reader { at: 0, got: 0 },
-            waiting: w,
-            ended: true,
-            going: false,
-            failed: false,
-        };
+            waiting: t.waiting,
+            stage: Stage::Ended,
+        },
+        _ => t,
     }
-    t
 }
 
 // Says that a line of the journal cannot be played again.
@@ -211,11 +205,12 @@ pub fn complain_of_line<R>(console: &Console<'_, R>) {
 
 // Says why the next line of the journal cannot be had: it is too long, or a read failed.
 fn complain_of<R>(console: &Console<'_, R>, w: Waiting) {
-    if w.over {
-        complain_of_line(console);
-        return;
+    match w {
+        Waiting::TooLong => complain_of_line(console),
+        Waiting::Holds(_) => {
+            say::complain(console, b"beechdoublet: the journal cannot be read\n")
+        }
     }
-    say::complain(console, b"beechdoublet: the journal cannot be read\n");
 }
 
 // The next line of the journal. One that is too long is not read on, and a read that fails is said.
@@ -231,9 +226,8 @@ pub fn next_of_journal<R>(
 {
     let mut file = &journal.file;
     let t = next_line(&mut file, false, reader, chunk, line);
-    if t.failed {
-        let w = t.waiting;
-        complain_of(console, w);
+    if let Stage::Failed = t.stage {
+        complain_of(console, t.waiting);
     }
     t
 }
@@ -254,10 +248,10 @@ fn keep_at(journal: &JournalFile, line: &[u8]) -> bool {
         return false;
     }
     let mut file = &journal.file;
-    match file.seek(SeekFrom::End(0)) {
-        Ok(end) => append_or_cut(journal, line, end),
-        Err(_) => false,
-    }
+    let Ok(end) = file.seek(SeekFrom::End(0)) else {
+        return false;
+    };
+    append_or_cut(journal, line, end)
 }
 
 // Appends a line to a file, or cuts it back to its end.
@@ -285,10 +279,11 @@ pub fn keep(journal: Journal<'_>, line: &[u8]) -> bool
 
 // Opens the journal, and makes it where it is missing.
 fn open_or_make<R: Files<File = File>>(rt: &R, path: &str) -> io::Result<File> {
-    match OpenOptions::new().read(true).write(true).open(rt, path) {
-        Ok(file) => Ok(file),
-        Err(_) => File::create_new(rt, path),
-    }
+    OpenOptions::new()
+        .read(true)
+        .write(true)
+        .open(rt, path)
+        .or_else(|_| File::create_new(rt, path))
 }
 
 // The journal, to be read and kept. There is none where it cannot be opened, which is said.
@@ -297,16 +292,14 @@ fn open_at<R: Files<File = File>>(
     rt: &R,
     path: &str,
 ) -> Option<JournalFile> {
-    match open_or_make(rt, path) {
-        Ok(file) => Some(JournalFile {
-            file,
-            lost: Cell::new(false),
-        }),
-        Err(_) => {
-            say::complain(console, b"beechdoublet: the journal cannot be opened\n");
-            None
-        }
-    }
+    let Ok(file) = open_or_make(rt, path) else {
+        say::complain(console, b"beechdoublet: the journal cannot be opened\n");
+        return None;
+    };
+    Some(JournalFile {
+        file,
+        lost: Cell::new(false),
+    })
 }
 
 // The name of the journal is longer than 4,096 bytes, or is no text.
@@ -321,10 +314,7 @@ fn no_name<R>(console: &Console<'_, R>) -> Option<JournalFile> {
 // Whether the program has an argument, which names a journal.
 pub fn is_named<R: Env>(rt: &R) -> bool {
     let mut path = [0u8; 4096];
-    match rt.arg(1, &mut path) {
-        Err(FillError::NotPresent) => false,
-        _ => true,
-    }
+    !matches!(rt.arg(1, &mut path), Err(FillError::NotPresent))
 }
 
 // The same of the journal that the program's argument names.
@@ -333,22 +323,20 @@ pub fn open_named<R: Env + Files<File = File>>(
     rt: &R,
 ) -> Option<JournalFile> {
     let mut path = [0u8; 4096];
-    match rt.arg(1, &mut path) {
-        Ok(n) => match str::from_utf8(&path[..n]) {
-            Ok(text) => open_at(console, rt, text),
-            Err(_) => no_name(console),
-        },
-        Err(_) => no_name(console),
-    }
+    let Ok(n) = rt.arg(1, &mut path) else {
+        return no_name(console);
+    };
+    let Ok(text) = str::from_utf8(&path[..n]) else {
+        return no_name(console);
+    };
+    open_at(console, rt, text)
 }
 
 // Goes back n bytes in a file.
 fn go_back(file: &File, n: usize) -> io::Result<()> {
     let mut from = file;
-    let mut left = n;
-    while left > 0 {
+    for _ in 0..n {
         from.seek(SeekFrom::Current(-1))?;
-        left -= 1;
     }
     Ok(())
 }

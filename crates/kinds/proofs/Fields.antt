@@ -6,7 +6,7 @@ use mathlib.Core.List.{List, [], ◌∷◌, ◌++◌}
 use native.Mathlib.Omega.{arith}
 use borrow.Author.Tests.{eqb-true, eqb-false, leb-true}
 use lib.Dec.{eqb, leb}
-use lib.ListN.{length, get_or, length-append, get_or-eq_default}
+use lib.ListN.{length, drop, get_or, length-append, get_or-eq_default}
 use lib.Seq.{ext_get_or}
 use Rattle.text.specs.Words.{all}
 use Rattle.text.proofs.Tests.{both}
@@ -43,12 +43,25 @@ row_at [] (suc k) (suc j) h = row_at [] k j (omega arith)
 row_at (f ∷ fs) k zero h = refl
 row_at (f ∷ fs) k (suc j) h = row_at fs k j (omega arith)
 
-pub row_of : (t : MessageType) (n : ℕ) (fs : List Form) (k : ℕ) → ((j : ℕ) → form_at t n j ≡ get_or fs j Field22) → length (fs ++ entries k) ≡ most_fields
-    → RowFor t n (fs ++ entries k)
-row_of t n fs k e l j = (
-  λ h. row_at fs k j (omega (arith, l)) ∙ sym (e j),
-  λ h. sym (e j ∙ get_or-eq_default fs Field22 {n = j} (omega (arith, l, length-append fs (entries k)))),
-)
+drop_entries : (n k : ℕ) → n ≤ k → drop n (entries k) ≡ entries (k - n)
+drop_entries zero k h = ap entries (omega arith)
+drop_entries (suc n) zero h = absurd (omega arith)
+drop_entries (suc n) (suc k) h = let less : k - n ≡ suc k - suc n = omega arith in drop_entries n k (omega arith) ∙ ap entries less
+
+entries_long : (k : ℕ) → length (entries k) ≡ k
+entries_long zero = refl
+entries_long (suc k) = ap suc (entries_long k)
+
+pub filled_at : (fs gs : List Form) (n j : ℕ) → gs ≡ fs → n ≡ length fs → n ≤ most_fields → j < most_fields
+    → get_or (gs ++ drop n (entries most_fields)) j Field3 ≡ get_or fs j Field22
+filled_at fs gs n j e l h k =
+    let long : j < length (fs ++ entries (most_fields - n)) = omega (arith, l, h, k, length-append fs (entries (most_fields - n)), entries_long (most_fields - n)) in
+    rw (e, drop_entries n most_fields h) (row_at fs (most_fields - n) j long)
+
+-- the forms that a type has are those of a row
+pub row_filled : (t : MessageType) (n : ℕ) (fs row : List Form) → length fs ≤ most_fields → ((j : ℕ) → form_at t n j ≡ get_or fs j Field22)
+    → ((j : ℕ) → j < most_fields → get_or row j Field3 ≡ get_or fs j Field22) → RowFor t n row
+row_filled t n fs row l e f j = (λ h. f j h ∙ sym (e j), λ h. sym (e j ∙ get_or-eq_default fs Field22 {n = j} (omega (arith, l, h))))
 
 -- the contract of a row determines it
 pub row_one : (t : MessageType) (n : ℕ) (fs gs : List Form) → length fs ≡ most_fields → length gs ≡ most_fields → RowFor t n fs → RowFor t n gs → fs ≡ gs

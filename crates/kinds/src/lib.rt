@@ -1,8 +1,9 @@
 // The message types: their names, their fields in order, their least and greatest counts, and what they do to a strip.
 #![tactic(auto)]
 
-ghost use Rattle.std.specs.Prelude.{◌≡◌};
-ghost use Rattle.kinds.specs.Kinds.{least_of, greatest_of, role_of, RowFor, form_at, number_of, type_ranked, type_named};
+ghost use Rattle.std.specs.Prelude.{◌≡◌, ℕ, ◌<◌, ◌≤◌, get_or};
+ghost use Rattle.kinds.specs.declared.Form.TheVariants.{Field3, Field22};
+ghost use Rattle.kinds.specs.Kinds.{name_of, least_of, greatest_of, role_of, most_fields, RowFor, form_at, number_of, type_ranked, type_named};
 
 // The types that are read.
 #[derive(Clone, Copy)]
@@ -87,9 +88,9 @@ pub enum Named {
     NoType,
 }
 
-// THE FORMS OF EACH TYPE'S FIELDS, in order
+// THE FORMS OF EACH TYPE'S FIELDS, in order; entries of field 22 may follow
 
-const PLAN_ROW: [Form; MessageType::MOST_FIELDS] = [
+const PLAN_FORMS: [Form; 9] = [
     Form::Field3,
     Form::Field7,
     Form::Field8,
@@ -99,96 +100,75 @@ const PLAN_ROW: [Form; MessageType::MOST_FIELDS] = [
     Form::Field15,
     Form::Field16Plan,
     Form::Field18,
-    Form::Field22,
-    Form::Field22,
-    Form::Field22,
-    Form::Field22,
 ];
 
 // CNL, DLA, DEP, RQS, and CHG, where entries follow.
-const BRIEF_ROW: [Form; MessageType::MOST_FIELDS] = [
+const BRIEF_FORMS: [Form; 5] = [
     Form::Field3,
     Form::Field7,
     Form::Field13,
     Form::Field16,
     Form::Field18,
-    Form::Field22,
-    Form::Field22,
-    Form::Field22,
-    Form::Field22,
-    Form::Field22,
-    Form::Field22,
-    Form::Field22,
-    Form::Field22,
 ];
 
-const REQUEST_ROW: [Form; MessageType::MOST_FIELDS] = [
+const REQUEST_FORMS: [Form; 5] = [
     Form::Field3,
     Form::Field7,
     Form::Field13Open,
     Form::Field16,
     Form::Field18,
-    Form::Field22,
-    Form::Field22,
-    Form::Field22,
-    Form::Field22,
-    Form::Field22,
-    Form::Field22,
-    Form::Field22,
-    Form::Field22,
 ];
 
-const ARRIVAL_ROW: [Form; MessageType::MOST_FIELDS] = [
-    Form::Field3,
-    Form::Field7,
-    Form::Field13,
-    Form::Field17,
-    Form::Field22,
-    Form::Field22,
-    Form::Field22,
-    Form::Field22,
-    Form::Field22,
-    Form::Field22,
-    Form::Field22,
-    Form::Field22,
-    Form::Field22,
-];
+// ARR, where field 16 is absent if there are four fields.
+const ARRIVAL_FORMS: [Form; 4] = [Form::Field3, Form::Field7, Form::Field13, Form::Field17];
 
-const DIVERTED_ROW: [Form; MessageType::MOST_FIELDS] = [
+const DIVERTED_FORMS: [Form; 5] = [
     Form::Field3,
     Form::Field7,
     Form::Field13,
     Form::Field16,
     Form::Field17,
-    Form::Field22,
-    Form::Field22,
-    Form::Field22,
-    Form::Field22,
-    Form::Field22,
-    Form::Field22,
-    Form::Field22,
-    Form::Field22,
 ];
 
-const SUPPLEMENT_ROW: [Form; MessageType::MOST_FIELDS] = [
+const SUPPLEMENT_FORMS: [Form; 6] = [
     Form::Field3,
     Form::Field7,
     Form::Field13,
     Form::Field16Plan,
     Form::Field18,
     Form::Field19,
-    Form::Field22,
-    Form::Field22,
-    Form::Field22,
-    Form::Field22,
-    Form::Field22,
-    Form::Field22,
-    Form::Field22,
 ];
+
+// A row of forms, with entries behind the last one.
+fn filled<const N: usize>(forms: [Form; N]) -> [Form; MessageType::MOST_FIELDS]
+    requires { N ≤ most_fields }
+    ensures { (j : ℕ) → j < most_fields → get_or result j Field3 ≡ get_or forms.entry j Field22 }
+{
+    let mut row = [Form::Field22; MessageType::MOST_FIELDS];
+    row[..N].copy_from_slice(&forms);
+    row
+}
 
 impl MessageType {
     // The most fields that a message of any type may have.
     pub const MOST_FIELDS: usize = 13;
+
+    // Its name.
+    pub fn letters(self) -> [u8; 3]
+        ensures { result ≡ name_of self }
+    {
+        match self {
+            MessageType::Fpl => *b"FPL",
+            MessageType::Chg => *b"CHG",
+            MessageType::Cnl => *b"CNL",
+            MessageType::Dla => *b"DLA",
+            MessageType::Dep => *b"DEP",
+            MessageType::Arr => *b"ARR",
+            MessageType::Rqp => *b"RQP",
+            MessageType::Rqs => *b"RQS",
+            MessageType::Spl => *b"SPL",
+        }
+    }
 
     pub fn least(self) -> usize
         ensures { result ≡ least_of self }
@@ -196,13 +176,13 @@ impl MessageType {
         match self {
             MessageType::Fpl => 9,
             MessageType::Chg => 6,
-            MessageType::Cnl => 5,
-            MessageType::Dla => 5,
-            MessageType::Dep => 5,
             MessageType::Arr => 4,
-            MessageType::Rqp => 5,
-            MessageType::Rqs => 5,
             MessageType::Spl => 6,
+            MessageType::Cnl
+            | MessageType::Dla
+            | MessageType::Dep
+            | MessageType::Rqp
+            | MessageType::Rqs => 5,
         }
     }
 
@@ -212,13 +192,13 @@ impl MessageType {
         match self {
             MessageType::Fpl => 9,
             MessageType::Chg => MessageType::MOST_FIELDS,
-            MessageType::Cnl => 5,
-            MessageType::Dla => 5,
-            MessageType::Dep => 5,
-            MessageType::Arr => 5,
-            MessageType::Rqp => 5,
-            MessageType::Rqs => 5,
             MessageType::Spl => 6,
+            MessageType::Cnl
+            | MessageType::Dla
+            | MessageType::Dep
+            | MessageType::Arr
+            | MessageType::Rqp
+            | MessageType::Rqs => 5,
         }
     }
 
@@ -232,9 +212,7 @@ impl MessageType {
             MessageType::Dla => Role::Delays,
             MessageType::Dep => Role::Departs,
             MessageType::Arr => Role::Arrives,
-            MessageType::Rqp => Role::Neither,
-            MessageType::Rqs => Role::Neither,
-            MessageType::Spl => Role::Neither,
+            MessageType::Rqp | MessageType::Rqs | MessageType::Spl => Role::Neither,
         }
     }
 
@@ -243,15 +221,15 @@ impl MessageType {
         ensures { RowFor self count result }
     {
         match self {
-            MessageType::Fpl => PLAN_ROW,
-            MessageType::Chg => BRIEF_ROW,
-            MessageType::Cnl => BRIEF_ROW,
-            MessageType::Dla => BRIEF_ROW,
-            MessageType::Dep => BRIEF_ROW,
+            MessageType::Fpl => filled(PLAN_FORMS),
+            MessageType::Chg
+            | MessageType::Cnl
+            | MessageType::Dla
+            | MessageType::Dep
+            | MessageType::Rqs => filled(BRIEF_FORMS),
             MessageType::Arr => arrival_row(count),
-            MessageType::Rqp => REQUEST_ROW,
-            MessageType::Rqs => BRIEF_ROW,
-            MessageType::Spl => SUPPLEMENT_ROW,
+            MessageType::Rqp => filled(REQUEST_FORMS),
+            MessageType::Spl => filled(SUPPLEMENT_FORMS),
         }
     }
 
@@ -278,11 +256,9 @@ impl Form {
             Form::Field8 => 8,
             Form::Field9 => 9,
             Form::Field10 => 10,
-            Form::Field13 => 13,
-            Form::Field13Open => 13,
+            Form::Field13 | Form::Field13Open => 13,
             Form::Field15 => 15,
-            Form::Field16 => 16,
-            Form::Field16Plan => 16,
+            Form::Field16 | Form::Field16Plan => 16,
             Form::Field17 => 17,
             Form::Field18 => 18,
             Form::Field19 => 19,
@@ -296,9 +272,9 @@ fn arrival_row(count: usize) -> [Form; MessageType::MOST_FIELDS]
     ensures { RowFor MessageType.Arr count result }
 {
     if count == 4 {
-        return ARRIVAL_ROW;
+        return filled(ARRIVAL_FORMS);
     }
-    DIVERTED_ROW
+    filled(DIVERTED_FORMS)
 }
 
 // The types that are read, in the order of the standard types.

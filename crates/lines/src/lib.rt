@@ -47,17 +47,8 @@ fn put_refused(number: u8, field: u8, place: usize, out: &mut [u8]) -> usize
 fn opening_of(t: MessageType) -> [u8; 7]
     ensures { result ≡ opening t }
 {
-    match t {
-        MessageType::Fpl => *b"OK FPL ",
-        MessageType::Chg => *b"OK CHG ",
-        MessageType::Cnl => *b"OK CNL ",
-        MessageType::Dla => *b"OK DLA ",
-        MessageType::Dep => *b"OK DEP ",
-        MessageType::Arr => *b"OK ARR ",
-        MessageType::Rqp => *b"OK RQP ",
-        MessageType::Rqs => *b"OK RQS ",
-        MessageType::Spl => *b"OK SPL ",
-    }
+    let [a, b, c] = t.letters();
+    [b'O', b'K', b' ', a, b, c, b' ']
 }
 
 // Writes what stands around a spelling of n bytes that is in its place already.

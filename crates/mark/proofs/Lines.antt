@@ -1,12 +1,22 @@
--- The line of a place and how it is shown, at an index: where each stops, the next step and the end; how long the lines are. Assumes nothing.
+-- The line of a place and how it is shown; how long the lines are. Assumes nothing.
 use Prim.Native.Nat.{ℕ, zero, suc, ◌+◌, ◌-◌, ◌<◌, ◌≤◌, min}
 use mathlib.Core.Path.{◌≡◌, refl, sym, ap, ◌∙◌}
-use mathlib.Core.Bool.{true, false}
+use mathlib.Core.Bool.{Bool, true, false, cond}
 use mathlib.Core.List.{List, [], ◌∷◌, ◌++◌, append-nil}
 use native.Mathlib.Omega.{arith}
 use native.Mathlib.Numerals.{add-one}
 use lib.ListN.{length, take, drop, get_or, length-append, length-take, length-drop}
-use Rattle.text.proofs.Index.{drop_here, drop_end}
+use Rattle.std.specs.Prelude.{Option, Some, None, reverse, replicate}
+use Rattle.std.specs.List.{position_or_len}
+use Rattle.std.specs.Option.{unwrap_or}
+use lib.Dec.{ltb}
+use lib.Seq.{length-take-le}
+use Rattle.std.proofs.Math.Seq.{take-suc}
+use Rattle.std.proofs.lemmas.List.{reverse-append}
+use Rattle.std.proofs.lemmas.List.Recursion.{is_position_or_len}
+use Rattle.std.proofs.lemmas.List.Sums.{prefix_len-le-length}
+use Rattle.std.proofs.lemmas.Bool.{ltb-false}
+use Rattle.text.specs.Lent.{front}
 use Rattle.outer.specs.Outer.{most}
 use Rattle.kinds.specs.declared.MessageType.{MessageType}
 use Rattle.message.specs.declared.Answer.{Answer}
@@ -15,34 +25,36 @@ use Rattle.message.specs.Reading.{answer_of}
 use Rattle.lines.specs.Lines.{line_of as listing_line}
 use Rattle.mark.specs.Mark.{ends_line, line_start, ahead, line_end, shown_as, shown_all, blanks, shown_line, mark_line, drawn_at, drawn, drawn_for, marked_of}
 
--- WHERE THE LINE BEGINS
+-- WHERE THE LINE BEGINS AND ENDS
 
-pub start_here : (s : List ℕ) (i : ℕ) → 0 < i → ends_line (get_or s (i - 1) 0) ≡ true → line_start s i ≡ i
-start_here s zero h e = absurd (omega arith)
-start_here s (suc i) h e =
-    let p : suc i - 1 ≡ i = omega arith in
-    rw (sym (ap (λ (k : ℕ). ends_line (get_or s k 0)) p) ∙ e)
+ahead_place : (s : List ℕ) → ahead s ≡ position_or_len ends_line s
+ahead_place s =
+    is_position_or_len ahead ends_line refl
+    (λ b t. let one : suc (ahead t) ≡ 1 + ahead t = omega arith in ap (λ n. cond (ends_line b) 0 n) one) s
 
-pub start_before : (s : List ℕ) (i : ℕ) → 0 < i → ends_line (get_or s (i - 1) 0) ≡ false → line_start s i ≡ line_start s (i - 1)
-start_before s zero h e = absurd (omega arith)
-start_before s (suc i) h e =
-    let p : suc i - 1 ≡ i = omega arith in
-    rw (sym (ap (λ (k : ℕ). ends_line (get_or s k 0)) p) ∙ e, p)
+unwrapped : (t : Bool) (p n : ℕ) → (t ≡ false → p ≡ n) → unwrap_or (cond t (Some p) None) n ≡ p
+unwrapped true p n z = refl
+unwrapped false p n z = sym (z refl)
 
-pub start_first : (s : List ℕ) (i : ℕ) → i ≤ 0 → line_start s i ≡ 0
-start_first s zero h = refl
-start_first s (suc i) h = absurd (omega arith)
+-- what `position` found, and the length where it found none
+pub ahead_found : (s : List ℕ) (r : Option ℕ) → r ≡ cond (ltb (position_or_len ends_line s) (length s)) (Some (position_or_len ends_line s)) None
+    → (n : ℕ) → n ≡ length s → (u : ℕ) → u ≡ unwrap_or r n → u ≡ ahead s
+ahead_found s r f n l u e =
+    let p = position_or_len ends_line s in
+    let b : p ≤ length s = prefix_len-le-length _ s in
+    e ∙ ap (λ r. unwrap_or r n) f ∙ unwrapped (ltb p (length s)) p n (λ h. omega (arith, b, l, ltb-false p (length s) h)) ∙ sym (ahead_place s)
 
--- WHERE IT ENDS
-
-pub ahead_stop : (s : List ℕ) (i : ℕ) → i < length s → ends_line (get_or s i 0) ≡ true → ahead (drop i s) ≡ 0
-ahead_stop s i h e = rw (drop_here s i h, e)
-
-pub ahead_next : (s : List ℕ) (i : ℕ) → i < length s → ends_line (get_or s i 0) ≡ false → ahead (drop i s) ≡ suc (ahead (drop (i + 1) s))
-ahead_next s i h e = rw (drop_here s i h, e)
-
-pub ahead_end : (s : List ℕ) (i : ℕ) → length s ≤ i → ahead (drop i s) ≡ 0
-ahead_end s i h = rw (drop_end s i h)
+-- the line begins so many bytes back as stand there behind the last CR or LF
+pub start_back : (s : List ℕ) (place : ℕ) → place ≤ length s → line_start s place ≡ place - ahead (reverse (take place s))
+start_back s zero h = omega arith
+start_back s (suc i) h =
+    let x = get_or s i 0 in
+    let turned : reverse (take (suc i) s) ≡ x ∷ reverse (take i s) = ap reverse (take-suc s i 0 (omega arith)) ∙ reverse-append (take i s) (x ∷ []) in
+    go (ends_line x) (start_back s i (omega arith)) ∙ ap (λ t. suc i - ahead t) (sym turned)
+  where
+    go : (t : Bool) → line_start s i ≡ i - ahead (reverse (take i s)) → cond t (suc i) (line_start s i) ≡ suc i - cond t 0 (suc (ahead (reverse (take i s))))
+    go true e = omega arith
+    go false e = omega arith
 
 -- HOW IT IS SHOWN
 
@@ -62,13 +74,14 @@ pub length_blanks : (n : ℕ) → length (blanks n) ≡ n
 length_blanks zero = refl
 length_blanks (suc n) = ap suc (length_blanks n)
 
-blanks_from : (n i : ℕ) → i < n → drop i (blanks n) ≡ 32 ∷ drop (suc i) (blanks n)
-blanks_from zero i h = absurd (omega arith)
-blanks_from (suc n) zero h = refl
-blanks_from (suc n) (suc i) h = blanks_from n i (omega arith)
-
-pub blanks_next : (n i : ℕ) → i < n → drop i (blanks n) ≡ (32 ∷ []) ++ drop (i + 1) (blanks n)
-blanks_next n i h = rw (add-one i) (blanks_from n i h)
+-- as `fill` writes them
+pub blanks_filled : (n : ℕ) (out w : List ℕ) → n ≤ length out → w ≡ replicate (length (take n out)) 32 → w ++ drop n out ≡ front (blanks n) out
+unfolding front
+blanks_filled n out w h e = rw (e, length-take-le n out h, same n) (ap (λ k. blanks n ++ drop k out) (sym (length_blanks n)))
+  where
+    same : (n : ℕ) → replicate n 32 ≡ blanks n
+    same zero = refl
+    same (suc n) = ap (λ s. 32 ∷ s) (same n)
 
 -- HOW LONG THE LINES ARE
 

@@ -27,29 +27,21 @@ use message::Answer;
 use say::Console;
 use std::process::ExitCode;
 
+#[tactic(auto, unfolding(crate::specs::Mark::ends_line))]
 fn ends_line(b: u8) -> bool
     ensures { result ≡ ends_line b }
 {
-    if b == b'\r' {
-        return true;
-    }
-    b == b'\n'
+    matches!(b, b'\r' | b'\n')
 }
 
-// Where the line begins on which a place stands.
+// Where the line begins on which a place stands: behind the last CR or LF before it.
 fn line_start(s: &[u8], place: usize) -> usize
     requires { place ≤ length s.now }
     ensures value { result ≡ line_start s.now place }
     ensures upper_bound { result ≤ place }
 {
-    let mut i = place;
-    while 0 < i {
-        if ends_line(s[i - 1]) {
-            return i;
-        }
-        i -= 1;
-    }
-    0
+    let before = s[..place].iter().rev().position(|&b| ends_line(b));
+    place - before.unwrap_or(place)
 }
 
 // Where that line ends.
@@ -58,30 +50,24 @@ fn line_end(s: &[u8], place: usize) -> usize
     ensures value { result ≡ line_end s.now place }
     ensures lower_bound { (place ≤ result) × (result ≤ length s.now) }
 {
-    let mut i = place;
-    while i < s.len() {
-        if ends_line(s[i]) {
-            return i;
-        }
-        i += 1;
-    }
-    i
+    let behind = &s[place..];
+    place
+        + behind
+            .iter()
+            .position(|&b| ends_line(b))
+            .unwrap_or(behind.len())
 }
 
 // A byte as it is shown.
+#[tactic(auto, unfolding(crate::specs::Mark::shown_as))]
 fn shown(b: u8) -> u8
     ensures { result ≡ shown_as b }
 {
-    if b == b'\t' {
-        return b' ';
+    match b {
+        b'\t' => b' ',
+        b' '..=b'~' => b,
+        _ => b'?',
     }
-    if b < b' ' {
-        return b'?';
-    }
-    if b'~' < b {
-        return b'?';
-    }
-    b
 }
 
 // Writes the bytes of a line, as they are shown, at the front of `out`.
@@ -89,12 +75,10 @@ fn put_shown(line: &[u8], out: &mut [u8]) -> usize
     requires { length line.now ≤ length out.old }
     ensures { (result ≡ length (shown_all line.now)) × (out.new ≡ front (shown_all line.now) out.old) }
 {
-    let mut i = 0;
-    while i < line.len() {
+    for i in 0..line.len() {
         out[i] = shown(line[i]);
-        i += 1;
     }
-    i
+    line.len()
 }
 
 // Writes so many blanks at the front of `out`.
@@ -102,12 +86,8 @@ fn put_blanks(count: usize, out: &mut [u8]) -> usize
     requires { count ≤ length out.old }
     ensures { (result ≡ length (blanks count)) × (out.new ≡ front (blanks count) out.old) }
 {
-    let mut i = 0;
-    while i < count {
-        out[i] = b' ';
-        i += 1;
-    }
-    i
+    out[..count].fill(b' ');
+    count
 }
 
 // The line as it is shown, and its LF.

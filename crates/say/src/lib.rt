@@ -184,17 +184,8 @@ pub fn state<R: Print>(console: &Console<'_, R>, s: State) {
 }
 
 fn type_of<R: Print>(console: &Console<'_, R>, t: MessageType) {
-    match t {
-        MessageType::Fpl => print(console, b"OK FPL"),
-        MessageType::Chg => print(console, b"OK CHG"),
-        MessageType::Cnl => print(console, b"OK CNL"),
-        MessageType::Dla => print(console, b"OK DLA"),
-        MessageType::Dep => print(console, b"OK DEP"),
-        MessageType::Arr => print(console, b"OK ARR"),
-        MessageType::Rqp => print(console, b"OK RQP"),
-        MessageType::Rqs => print(console, b"OK RQS"),
-        MessageType::Spl => print(console, b"OK SPL"),
-    }
+    print(console, b"OK ");
+    print(console, &t.letters());
 }
 
 // The end of a line: a space and the spelling.

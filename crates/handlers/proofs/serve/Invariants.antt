@@ -5,10 +5,7 @@ use Rattle.handlers.specs.Walk.{keeps}
 use Rattle.handlers.proofs.Walk.{Serving}
 use Rattle.handlers.proofs.serve.Given as goal
 
-abbrev pub invariant-loop-turns : goal.invariant-loop-turns
-invariant-loop-turns g l =
+abbrev pub invariant-loop : goal.invariant-loop
+invariant-loop g l =
     (l.reader.at ≤ l.reader.got) × (l.reader.got ≤ 4096) × Sized l.now.places l.bytes
     × Serving (keeps l.fn.journal) (board_in l.fn.board.places l.fn.bytes) (board_in l.now.places l.bytes)
-
-abbrev pub decreases-loop-turns : goal.decreases-loop-turns
-decreases-loop-turns g l = l.turns

@@ -2,8 +2,5 @@
 use Rattle.journal.specs.Lines.{ReadsOn, fresh, left_in}
 use Rattle.journal.proofs.next_line.Given as goal
 
-abbrev pub invariant-loop-turns : goal.invariant-loop-turns
-invariant-loop-turns g l = ReadsOn fresh (left_in l.fn.reader l.fn.chunk) l.t l.chunk l.line
-
-abbrev pub decreases-loop-turns : goal.decreases-loop-turns
-decreases-loop-turns g l = l.turns
+abbrev pub invariant-loop : goal.invariant-loop
+invariant-loop g l = ReadsOn fresh (left_in l.fn.reader l.fn.chunk) l.t l.chunk l.line

@@ -1,8 +1,8 @@
 use Prim.Native.Nat.{◌+◌, ◌≤◌, ◌<◌}
-use mathlib.Core.Path.{◌≡◌, ap, ◌∙◌}
+use mathlib.Core.Path.{◌≡◌, ap, sym, ◌∙◌}
 use mathlib.Core.List.{[], ◌∷◌}
 use native.Mathlib.Omega.{arith}
-use lib.ListN.{length, get_or, drop, set, length-set}
+use lib.ListN.{length, get_or, drop, set}
 use Rattle.text.proofs.Lent.{store, next_out, whole_out}
 use Rattle.mark.specs.Mark.{shown_as, shown_all}
 use Rattle.mark.proofs.Lines.{length_shown, shown_next}
@@ -16,14 +16,14 @@ loop-i-preserved c =
     let h : l.i < length line = c.loop-i-test.true in
     let x = get_or line l.i 0 in
     let w : l.i ≤ length (shown_all line) = omega (arith, h, length_shown line) in
-    let stored = ap (λ y. set l.out l.i y) c.shown.ensures ∙ store l.out l.i (shown_as x) (omega (arith, h, l.invariant.1, c.requires)) in
+    let stored = ap (λ y. set l.out l.i y) c.shown.ensures ∙ store l.out l.i (shown_as x) (omega (arith, h, l.auto.out, c.requires)) in
     let left = drop (l.i + 1) (shown_all line) in
-    let next = next_out (shown_all line) a.out.now l.out l.i l.invariant.2 w (shown_as x ∷ []) left (shown_next line l.i h) in
-    (omega (arith, h), simp length-set l.invariant.1, stored ∙ next)
+    let next = next_out (shown_all line) a.out.now l.out l.i l.invariant w (shown_as x ∷ []) left (shown_next line l.i h) in
+    stored ∙ next
 
 pub returns : goal.returns
 returns c =
     let l = c.loop-i in
     let line = c.args.line.now in
-    let z : l.i ≡ length (shown_all line) = omega (arith, length_shown line, l.invariant.0, c.loop-i-test.false) in
-    (z, whole_out _ _ _ _ l.invariant.2 z)
+    let e : l.i ≡ length (shown_all line) = omega (arith, length_shown line, l.auto.i-end, c.loop-i-test.false) in
+    (sym (length_shown line), whole_out _ _ _ _ l.invariant e)
