@@ -8,7 +8,6 @@ ghost use Rattle.force.specs.InForce.{AtEntries, put_in};
 ghost use Rattle.dates.specs.Dates.{Puts};
 ghost use Rattle.amending.specs.Amended.{dated_by, content_in, new_strip};
 
-use force::Found;
 use kinds::Role;
 use text::Cursor;
 
@@ -50,8 +49,8 @@ fn put_changed<'a>(own: &'a [u8], said: &'a [u8], first: Cursor, k: usize, out: 
     ensures { Puts (content_in Role.Changes own.now said.now k) result out.old out.new }
 {
     match force::named_from(said, first, k) {
-        Found::At { from, to } => put_entry(own, &said[from..to], k, out),
-        Found::Nowhere => text::put(own, out),
+        Some(at) => put_entry(own, &said[at.from..at.to], k, out),
+        None => text::put(own, out),
     }
 }
 

@@ -9,6 +9,7 @@ use lib.Dec.{eqb}
 use lib.ListN.{length, take, drop, length-drop}
 use lib.Seq.{length-take-le, drop-drop, take-take}
 use borrow.Author.Tests.{eq-eqb, ne_eqb}
+use Rattle.std.specs.Prelude.{Some, None}
 use Rattle.text.specs.Words.{Word, split, same, up_to}
 use Rattle.text.proofs.Tests.{same-eq}
 use Rattle.space.specs.Fields.{inner}
@@ -20,7 +21,7 @@ use Rattle.state.specs.declared.Strip.{Strip}
 use Rattle.opening.specs.declared.Opening.{Opening}
 use Rattle.opening.specs.declared.Opening.TheVariants.{Read, Refused as NotOpened}
 use Rattle.opening.specs.Opening.{opening_of}
-use Rattle.force.specs.declared.Found.TheVariants.{At, Nowhere}
+use Rattle.force.specs.declared.Span.{Span}
 use Rattle.force.specs.InForce.{in_force, named_by, bare, place_of, FoundIn}
 use Rattle.force.proofs.Walk.{in_chg, in_plan, place_at, drop-take}
 use Rattle.strip.specs.Updating.{differences, differs}
@@ -46,14 +47,14 @@ module _ (plan said : List ℕ) (k : ℕ) where
       → length (in_force plan said k) ≡ to - from
   long s from to l b c = sym (ap length c) ∙ length-take-le (to - from) (drop from s) (omega (arith, l, b, length-drop from s))
 
-  pub in_change : (from to : ℕ) → FoundIn said k (At from to) → Stood (InChange (from + 1) (to + 1))
-  in_change from to h =
-      let c = in_chg plan said k from to h in
-      let f : suc from ≡ from + 1 = omega arith in
-      let t : suc from + length (in_force plan said k) ≡ to + 1 = omega (arith, h.0, long said from to h.0 h.1 c) in
-      (sym (ap (λ (o : Option ℕ). stands_in o plan said k) h.3 ∙ ap₂ InChange f t), one_less said from to h.0 h.1 c)
+  pub in_change : (s : Span) → FoundIn said k (Some s) → Stood (InChange (s.from + 1) (s.to + 1))
+  in_change s h =
+      let c = in_chg plan said k s h in
+      let f : suc s.from ≡ s.from + 1 = omega arith in
+      let t : suc s.from + length (in_force plan said k) ≡ s.to + 1 = omega (arith, h.0, long said s.from s.to h.0 h.1 c) in
+      (sym (ap (λ (o : Option ℕ). stands_in o plan said k) h.3 ∙ ap₂ InChange f t), one_less said s.from s.to h.0 h.1 c)
 
-  pub in_strip : (at e : ℕ) → FoundIn said k Nowhere → at ≤ length plan → drop at plan ≡ behind_hyphen k plan
+  pub in_strip : (at e : ℕ) → FoundIn said k None → at ≤ length plan → drop at plan ≡ behind_hyphen k plan
       → e ≡ at + up_to 45 (drop at plan) → at ≤ e → e ≤ length plan → Stood (InStrip (at + 1) (e + 1))
   in_strip at e h l d end ae el =
       let c = in_plan plan said k at e h d end in
@@ -64,10 +65,10 @@ module _ (plan said : List ℕ) (k : ℕ) where
 -- A DESTINATION ALONE, in the CHG's text
 
 module _ (said : List ℕ) (k : ℕ) where
-  pub bare_there : (from to : ℕ) → FoundIn said k (At from to) → bare k (take (to - from) (drop from said)) ≡ is_bare k (named_by said k)
-  bare_there from to h = sym (ap (is_bare k) h.2)
+  pub bare_there : (s : Span) → FoundIn said k (Some s) → bare k (take (s.to - s.from) (drop s.from said)) ≡ is_bare k (named_by said k)
+  bare_there s h = sym (ap (is_bare k) h.2)
 
-  pub bare_nowhere : FoundIn said k Nowhere → false ≡ is_bare k (named_by said k)
+  pub bare_nowhere : FoundIn said k None → false ≡ is_bare k (named_by said k)
   bare_nowhere h = sym (ap (is_bare k) h.0)
 
 -- 12, 17 AND 8

@@ -8,7 +8,6 @@ ghost use Rattle.space.specs.Fields.{inner};
 ghost use Rattle.outer.specs.Outer.{most};
 ghost use Rattle.asked.specs.Parts.{Shows, ShowsText};
 
-use force::Found;
 use kinds::{MessageType, Role};
 use opening::Opening;
 use state::Strip;
@@ -41,15 +40,7 @@ fn rank_of(number: u8) -> usize
 fn is_change(t: MessageType) -> bool
     ensures { result ≡ is_change t }
 {
-    match t.role() {
-        Role::Changes => true,
-        Role::Files => false,
-        Role::Delays => false,
-        Role::Cancels => false,
-        Role::Departs => false,
-        Role::Arrives => false,
-        Role::Neither => false,
-    }
+    matches!(t.role(), Role::Changes)
 }
 
 // Where the field of rank k stands, from the texts between the parentheses; a text begins one byte behind its message.
@@ -59,11 +50,11 @@ fn stands(plan: &[u8], said: &[u8], k: usize) -> Asked
     ensures shows_text { ShowsText result plan.now said.now (in_force plan.now said.now k) }
 {
     match force::named(said, k) {
-        Found::At { from, to } => Asked::InChange {
-            from: from + 1,
-            to: to + 1,
+        Some(at) => Asked::InChange {
+            from: at.from + 1,
+            to: at.to + 1,
         },
-        Found::Nowhere => {
+        None => {
             let c = force::seek(plan, k);
             let at = c.at;
             let e = c.end(plan, b'-');
@@ -80,8 +71,8 @@ fn named_bare(said: &[u8], k: usize) -> bool
     ensures { result ≡ is_bare k (named_by said.now k) }
 {
     match force::named(said, k) {
-        Found::At { from, to } => force::is_bare(k, &said[from..to]),
-        Found::Nowhere => false,
+        Some(at) => force::is_bare(k, &said[at.from..at.to]),
+        None => false,
     }
 }
 

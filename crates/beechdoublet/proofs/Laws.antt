@@ -4,11 +4,13 @@ use Prim.Native.Nat.{ℕ, ◌-◌, ◌≤◌}
 use mathlib.Core.Path.{◌≡◌, refl, sym, ap, ap₂, subst, ◌∙◌}
 use mathlib.Core.Bool.{Bool, true, false, ◌&&◌, cond}
 use mathlib.Core.List.{List}
-use mathlib.Core.Option.{Option, none, some}
+use mathlib.Core.Option as maybe
+use mathlib.Core.Option.{none, some}
 use native.Mathlib.Omega.{arith}
 use lib.Dec.{eqb, ltb, leb}
 use lib.ListN.{length, drop, get_or}
 use borrow.Author.Tests.{ne_eqb, lt-ltb, le-ltb, ltb-true, ltb-false, leb-true}
+use Rattle.std.specs.Prelude.{Option, Some, None}
 use Rattle.kinds.specs.declared.MessageType.{MessageType}
 use Rattle.kinds.specs.declared.MessageType.TheVariants.{Fpl}
 use Rattle.kinds.specs.declared.Role.TheVariants.{Changes}
@@ -38,8 +40,7 @@ use Rattle.asked.specs.declared.Asked.TheVariants.{InStrip, InChange, Refused as
 use Rattle.asked.specs.Asking.{rank_of, stands_in, stands_as, field_as, is_bare, bare_as, flight_as, is_change, type_as, opened_as, asked_of}
 use Rattle.parts.specs.declared.Part.{Part}
 use Rattle.parts.specs.declared.Part.TheVariants.{At, Refused as NoField}
-use Rattle.dates.specs.declared.FlightDate.{FlightDate}
-use Rattle.dates.specs.declared.FlightDate.TheVariants.{Known as OnDay, Unknown as NoDay}
+use Rattle.dates.specs.declared.Date.{Date}
 use Rattle.parts.specs.declared.PlanParts.{PlanParts}
 use Rattle.parts.specs.declared.Planned.{Planned}
 use Rattle.parts.specs.declared.Planned.TheVariants.{Parts, Refused as NoPlan}
@@ -151,7 +152,7 @@ told_whole asked = go (ltb asked 256) refl
 pub asked_whole_lem : (asked : ℕ) → asked_whole asked (NotShown 8 (byte_of asked) 0) ≡ NotShown 8 asked 0
 asked_whole_lem asked = ap (λ (k : ℕ). NotShown 8 k 0) (told_whole asked)
 
-place_told : (o : Option ℕ) (plan said : List ℕ) (k : ℕ) → Told (stands_in o plan said k)
+place_told : (o : maybe.Option ℕ) (plan said : List ℕ) (k : ℕ) → Told (stands_in o plan said k)
 place_told (some at) plan said k = tt
 place_told none plan said k = tt
 
@@ -252,14 +253,15 @@ part_zero m n = go (field_of m n) (part_given m n)
 
 -- THE PARTS OF A PLAN
 
-date_one : (a b : FlightDate) → date_numbers a ≡ date_numbers b → a ≡ b
-date_one (OnDay y m d) (OnDay y' m' d') e = cc
-date_one (OnDay y m d) NoDay e = let z : ◌≡◌ {A = ℕ} 1 0 = cc in absurd (omega arith)
-date_one NoDay (OnDay y m d) e = let z : ◌≡◌ {A = ℕ} 0 1 = cc in absurd (omega arith)
-date_one NoDay NoDay e = refl
+date_one : (a b : Option Date) → date_numbers a ≡ date_numbers b → a ≡ b
+date_one (Some d) (Some f) e =
+    ap (λ (ns : List ℕ). Some (record { year = get_or ns 1 0; month = get_or ns 2 0; day = get_or ns 3 0 })) e
+date_one (Some d) None e = let z : ◌≡◌ {A = ℕ} 1 0 = cc in absurd (omega arith)
+date_one None (Some d) e = let z : ◌≡◌ {A = ℕ} 0 1 = cc in absurd (omega arith)
+date_one None None e = refl
 
 -- the parts that a row of numbers has
-abbrev parts_back : List ℕ → FlightDate → PlanParts
+abbrev parts_back : List ℕ → Option Date → PlanParts
 parts_back ns d =
     record {
       identification = record { from = get_or ns 3 0; to = get_or ns 4 0 };

@@ -1,5 +1,5 @@
 -- An answer as plain numbers, for callers in other languages (include/beechdoublet.h gives each number its name). Assumes nothing.
-use Rattle.std.specs.Prelude.{ℕ, ◌≡◌, refl, ◌&&◌, cond, List, [], ◌∷◌, eqb, ltb}
+use Rattle.std.specs.Prelude.{ℕ, ◌≡◌, refl, ◌&&◌, cond, List, [], ◌∷◌, eqb, ltb, Option, Some, None}
 use Rattle.kinds.specs.declared.MessageType.{MessageType}
 use Rattle.kinds.specs.declared.MessageType.TheVariants.{Fpl, Chg, Cnl, Dla, Dep, Arr, Rqp, Rqs, Spl}
 use Rattle.message.specs.declared.Answer.{Answer}
@@ -11,8 +11,7 @@ use Rattle.asked.specs.declared.Asked.TheVariants.{InStrip, InChange, Refused as
 use Rattle.state.specs.declared.State.TheVariants.{Filed}
 use Rattle.parts.specs.declared.Part.{Part}
 use Rattle.parts.specs.declared.Part.TheVariants.{At, Refused as NoField}
-use Rattle.dates.specs.declared.FlightDate.{FlightDate}
-use Rattle.dates.specs.declared.FlightDate.TheVariants.{Known, Unknown}
+use Rattle.dates.specs.declared.Date.{Date}
 use Rattle.parts.specs.declared.PlanParts.{PlanParts}
 use Rattle.parts.specs.declared.Planned.{Planned}
 use Rattle.parts.specs.declared.Planned.TheVariants.{Parts, Refused as NoPlan}
@@ -87,9 +86,9 @@ part_whole asked (NoField number field place) = NoField number (field_told asked
 -- THE PARTS OF A PLAN: number, field, place; 7: from, to; 9: how many, and the type's from, to; 13: aerodrome, off-block minute; 16: aerodrome,
 -- elapsed minutes, how many alternates, the first, the second; 18: date known (1, or 0), year, month, day
 
-abbrev pub date_numbers : FlightDate → List ℕ
-date_numbers (Known year month day) = 1 ∷ year ∷ month ∷ day ∷ []
-date_numbers Unknown = 0 ∷ 0 ∷ 0 ∷ 0 ∷ []
+abbrev pub date_numbers : Option Date → List ℕ
+date_numbers (Some d) = 1 ∷ d.year ∷ d.month ∷ d.day ∷ []
+date_numbers None = 0 ∷ 0 ∷ 0 ∷ 0 ∷ []
 
 abbrev pub parts_numbers : PlanParts → List ℕ
 parts_numbers p =
@@ -139,7 +138,7 @@ parts : (plan_numbers
       aircraft = record { count = 2; kind = record { from = 15; to = 19 } };
       departure = record { aerodrome = 28; time = record { 0 = 570 } };
       destination = record { aerodrome = 59; elapsed = record { 0 = 60 }; alternates = 2; first = 68; second = 73 };
-      date = Known 2024 2 29;
+      date = Some (record { year = 2024; month = 2; day = 29 });
     }))
     ≡ 0 ∷ 0 ∷ 0 ∷ 5 ∷ 10 ∷ 2 ∷ 15 ∷ 19 ∷ 28 ∷ 570 ∷ 59 ∷ 60 ∷ 2 ∷ 68 ∷ 73 ∷ 1 ∷ 2024 ∷ 2 ∷ 29 ∷ [])
     × (plan_numbers (NoPlan 14 0 0) ≡ 14 ∷ 0 ∷ 0 ∷ 0 ∷ 0 ∷ 0 ∷ 0 ∷ 0 ∷ 0 ∷ 0 ∷ 0 ∷ 0 ∷ 0 ∷ 0 ∷ 0 ∷ 0 ∷ 0 ∷ 0 ∷ 0 ∷ [])

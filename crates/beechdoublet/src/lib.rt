@@ -18,7 +18,7 @@ ghost use Rattle.beechdoublet.specs.Causes.{flag, set_numbers, key_number, cause
 
 use asked::Asked;
 use causes::{Cause, Key};
-use dates::FlightDate;
+use dates::Date;
 use handed::Handed;
 use kinds::MessageType;
 use message::Answer;
@@ -176,13 +176,13 @@ fn tell_part(p: Part, asked: u64, answer: &mut [u64; 6]) -> u8
     }
 }
 
-// The numbers of a date.
-fn date_numbers(d: FlightDate) -> [u64; 4]
+// The numbers of a date, if there is one.
+fn date_numbers(d: Option<Date>) -> [u64; 4]
     ensures { result ≡ date_numbers d }
 {
     match d {
-        FlightDate::Known { year, month, day } => [1, year as u64, month as u64, day as u64],
-        FlightDate::Unknown => [0, 0, 0, 0],
+        Some(d) => [1, d.year as u64, d.month as u64, d.day as u64],
+        None => [0, 0, 0, 0],
     }
 }
 

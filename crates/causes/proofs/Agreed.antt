@@ -7,6 +7,7 @@ use native.Mathlib.Omega.{arith}
 use lib.Dec.{leb, eqb, ltb}
 use lib.ListN.{length, get_or}
 use borrow.Author.Tests.{leb-true, eqb-false, ne_eqb}
+use Rattle.std.specs.Prelude.{Option, Some, None}
 use Rattle.text.specs.Words.{Word, split}
 use Rattle.space.specs.Fields.{inner}
 use Rattle.outer.specs.Outer.{most}
@@ -17,13 +18,12 @@ use Rattle.kinds.specs.Kinds.{role_of, plan9, plan13, plan16, plan18}
 use Rattle.message.specs.declared.Answer.{Answer}
 use Rattle.message.specs.declared.Answer.TheVariants.{Accepted as ReadAs, Refused as NotRead}
 use Rattle.message.specs.Reading.{unexplained_in, answer_of}
+use Rattle.state.specs.declared.Event.{Event}
 use Rattle.state.specs.declared.Strip.{Strip}
 use Rattle.state.specs.State.{sound, allowed_in, next_of}
 use Rattle.opening.specs.declared.Opening.TheVariants.{Refused as NotOpened}
 use Rattle.opening.specs.Opening.{text_said, canonical_plan, read_as, opening_of}
 use Rattle.amending.specs.Amended.{amended}
-use Rattle.strip.specs.declared.Offered.{Offered}
-use Rattle.strip.specs.declared.Offered.TheVariants.{Says, Unfit}
 use Rattle.strip.specs.declared.Updated.TheVariants.{Accepted, Refused}
 use Rattle.strip.specs.Updating.{event_of, differences, differs, room_as, amended_as, event_as, offered_as, opened_as, update_of}
 use Rattle.causes.specs.declared.Key.TheVariants.{Typ, Dep, Dest, Altn}
@@ -73,9 +73,9 @@ module _ (held : Strip) (room : ℕ) where
   unfolding offered_cause offered_as
   offered_agrees role plan said = go (event_of role (split 45 said))
     where
-      go : (o : Offered) → Agree held (event_cause o role plan held said) (event_as o role plan held said room)
-      go Unfit = refl
-      go (Says e) = told (differs (differences role (split 45 plan) (split 45 said))) refl (allowed_in held e)
+      go : (o : Option Event) → Agree held (event_cause o role plan held said) (event_as o role plan held said room)
+      go None = refl
+      go (Some e) = told (differs (differences role (split 45 plan) (split 45 said))) refl (allowed_in held e)
         where
           told : (a : Bool) → differs (differences role (split 45 plan) (split 45 said)) ≡ a → (b : Bool)
               → Agree held

@@ -5,6 +5,7 @@ use mathlib.Core.Bool.{Bool, true, false, cond}
 use mathlib.Core.List.{List, []}
 use lib.ListN.{get_or}
 use borrow.Author.Tests.{eq-eqb, ne_eqb}
+use Rattle.std.specs.Prelude.{Option, Some, None}
 use Rattle.text.specs.Words.{Word, split}
 use Rattle.space.specs.Fields.{inner}
 use Rattle.kinds.specs.declared.MessageType.{MessageType}
@@ -20,8 +21,6 @@ use Rattle.opening.specs.declared.Opening.TheVariants.{Read, Refused as NotOpene
 use Rattle.opening.specs.Opening.{text_said, opening_of}
 use Rattle.amending.specs.Amended.{amended}
 use Rattle.strip.specs.declared.Differences.{Differences}
-use Rattle.strip.specs.declared.Offered.{Offered}
-use Rattle.strip.specs.declared.Offered.TheVariants.{Says, Unfit}
 use Rattle.strip.specs.Updating.{event_of, differences, differs}
 use Rattle.causes.specs.declared.Key.{Key}
 use Rattle.causes.specs.declared.Key.TheVariants.{Typ, Dep, Dest, Altn}
@@ -61,15 +60,15 @@ module _ (role : Role) (plan : List ℕ) (held : Strip) (said : List ℕ) where
   abbrev found : Differences
   found = differences role (split 45 plan) (split 45 said)
 
-  pub unfit : event_of role (split 45 said) ≡ Unfit → NothingMore ≡ offered_cause role plan held said
+  pub unfit : event_of role (split 45 said) ≡ None → NothingMore ≡ offered_cause role plan held said
   unfolding offered_cause
-  unfit e = sym (ap (λ (o : Offered). event_cause o role plan held said) e)
+  unfit e = sym (ap (λ (o : Option Event). event_cause o role plan held said) e)
 
-  module _ (e : Event) (says : event_of role (split 45 said) ≡ Says e) where
+  module _ (e : Event) (says : event_of role (split 45 said) ≡ Some e) where
     said_so : (a b : Bool) → differs found ≡ a → allowed_in held e ≡ b
         → offered_cause role plan held said ≡ cond a (Another found) (cond b (amended_cause (amended role plan said)) (Forbidden held.state))
     unfolding offered_cause
-    said_so a b p q = ap (λ (o : Offered). event_cause o role plan held said) says ∙ rw (p, q)
+    said_so a b p q = ap (λ (o : Option Event). event_cause o role plan held said) says ∙ rw (p, q)
 
     pub differing : (d : Differences) → d ≡ found → differs d ≡ true → Another d ≡ offered_cause role plan held said
     differing d is h = ap Another is ∙ sym (said_so true (allowed_in held e) (sym (ap differs is) ∙ h) refl)

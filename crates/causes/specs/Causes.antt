@@ -1,6 +1,6 @@
 -- Why an update is refused (document 02, request 8): for 12 what differs, for 10 the missing key, for 13 the state found; other numbers, and an
 -- accepted update, show nothing more. The room lent plays no part. Assumes nothing.
-use Rattle.std.specs.Prelude.{ℕ, ◌≡◌, refl, Bool, true, false, cond, List, [], ◌∷◌, eqb, get_or}
+use Rattle.std.specs.Prelude.{ℕ, ◌≡◌, refl, Bool, true, false, cond, List, [], ◌∷◌, eqb, get_or, Option, Some, None}
 use Rattle.alphabet.specs.Text.{bytes}
 use Rattle.alphabet.specs.Alphabet.{one_of}
 use Rattle.text.specs.Words.{Word, split}
@@ -14,6 +14,7 @@ use Rattle.plan.specs.Unexplained.{without_dest, unexplained}
 use Rattle.message.specs.Reading.{unexplained_in}
 use Rattle.forms.specs.Field22.{labels}
 use Rattle.force.specs.InForce.{named_by}
+use Rattle.state.specs.declared.Event.{Event}
 use Rattle.state.specs.declared.State.TheVariants.{Departed}
 use Rattle.state.specs.declared.Strip.{Strip}
 use Rattle.state.specs.State.{just_filed, allowed_in}
@@ -21,8 +22,6 @@ use Rattle.opening.specs.declared.Opening.{Opening}
 use Rattle.opening.specs.declared.Opening.TheVariants.{Read, Refused as NotOpened}
 use Rattle.opening.specs.Opening.{text_said, opening_of}
 use Rattle.amending.specs.Amended.{amended}
-use Rattle.strip.specs.declared.Offered.{Offered}
-use Rattle.strip.specs.declared.Offered.TheVariants.{Says, Unfit}
 use Rattle.strip.specs.declared.Updated.{Updated}
 use Rattle.strip.specs.declared.Updated.TheVariants.{Accepted, Refused}
 use Rattle.strip.specs.Updating.{event_of, differences, differs}
@@ -43,9 +42,9 @@ abbrev pub amended_cause : List Word → Cause
 amended_cause cs = cond (eqb (unexplained_in cs) 0) NothingMore (Missing (key_for (unexplained_in cs) cs))
 
 -- 12: what differs; 13: the state found
-abbrev pub event_cause : Offered → Role → List ℕ → Strip → List ℕ → Cause
-event_cause Unfit role plan held said = NothingMore
-event_cause (Says e) role plan held said =
+abbrev pub event_cause : Option Event → Role → List ℕ → Strip → List ℕ → Cause
+event_cause None role plan held said = NothingMore
+event_cause (Some e) role plan held said =
     cond (differs (differences role (split 45 plan) (split 45 said))) (Another (differences role (split 45 plan) (split 45 said)))
     (cond (allowed_in held e) (amended_cause (amended role plan said))
     (Forbidden held.state))

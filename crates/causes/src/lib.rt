@@ -11,7 +11,7 @@ ghost use Rattle.causes.specs.Causes.{key_for, amended_cause, offered_cause, cau
 use kinds::Role;
 use opening::Opening;
 use state::{State, Strip};
-use strip::{Differences, Offered};
+use strip::Differences;
 
 // A key of field 18 that a field wants and does not find.
 #[derive(Clone, Copy)]
@@ -22,7 +22,8 @@ pub enum Key {
     Altn,
 }
 
-// What is shown of an update's answer beside its numbers.
+// What is shown of an update's answer beside its numbers. Not an Option of the other three: each of the four has its line (`say_cause`) and its number
+// in C, and whoever takes a cause tells all four apart in one match.
 #[derive(Clone, Copy)]
 pub enum Cause {
     NothingMore,
@@ -71,8 +72,8 @@ fn offered_cause<'a>(role: Role, held: Strip, plan: &'a [u8], said: &'a [u8]) ->
     ensures { result ≡ offered_cause role plan.now held said.now }
 {
     match strip::event_of(role, said) {
-        Offered::Unfit => Cause::NothingMore,
-        Offered::Says(e) => {
+        None => Cause::NothingMore,
+        Some(e) => {
             let found = strip::differences_in(role, plan, said);
             if found.any() {
                 return Cause::Another(found);

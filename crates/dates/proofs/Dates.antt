@@ -9,6 +9,7 @@ use native.Mathlib.Omega.{arith}
 use lib.Dec.{ltb}
 use lib.ListN.{length, take, drop}
 use borrow.Author.Tests.{ltb-true, lt-ltb}
+use Rattle.std.specs.Prelude.{Option, Some, None, is_some}
 use Rattle.text.specs.Words.{Word, all, split, join, null}
 use Rattle.text.proofs.Tests.{both, and_both}
 use Rattle.shape.specs.Numbers.{value}
@@ -16,13 +17,12 @@ use Rattle.shape.specs.Shape.{fits, wide}
 use Rattle.shape.proofs.Index.{fits_lengths}
 use Rattle.other.specs.declared.Rule.{Rule}
 use Rattle.other.specs.declared.Rule.TheVariants.{Day}
-use Rattle.other.specs.Rules.{Date, base, rank_in, rule_in, word_fits, more_fits, year_month_day, year, month, spell_date, date}
+use Rattle.other.specs.Rules.{Date, base, rank_in, rule_in, word_fits, more_fits, year_month_day, year, spell_date, date}
 use Rattle.other.specs.Field18.{Worded, group, items_fit, fits18, under, has_key, words_under}
 use Rattle.other.proofs.Dates.{date_spelled}
 use Rattle.other.proofs.ByKey.{has_item, under_item, standing_fit, no_words}
-use Rattle.dates.specs.declared.FlightDate.{FlightDate}
-use Rattle.dates.specs.declared.FlightDate.TheVariants.{Known, Unknown}
-use Rattle.dates.specs.Dates.{dof, date_in, flight_date, is_known}
+use Rattle.dates.specs.declared.Date as flight
+use Rattle.dates.specs.Dates.{dof, date_in, flight_date}
 
 -- A WORD THAT IS A DATE
 
@@ -42,9 +42,9 @@ unfolding date
 no_day = refl
 
 -- dates of one day are one word
-abbrev day_back : FlightDate → Date
-day_back (Known y m d) = record { year = y - 2000; month = m; day = d }
-day_back Unknown = record { year = 0; month = 0; day = 0 }
+abbrev day_back : Option flight.Date → Date
+day_back (Some f) = record { year = f.year - 2000; month = f.month; day = f.day }
+day_back None = record { year = 0; month = 0; day = 0 }
 
 day_word : (w : Word) → date w ≡ true → spell_date (day_back (flight_date w)) ≡ w
 day_word w e =
@@ -52,7 +52,7 @@ day_word w e =
     rw (e, n) (date_spelled w e)
 
 pub one_date : (v w : Word) → date v ≡ true → date w ≡ true → flight_date v ≡ flight_date w → v ≡ w
-one_date v w p q e = sym (day_word v p) ∙ ap (λ (f : FlightDate). spell_date (day_back f)) e ∙ day_word w q
+one_date v w p q e = sym (day_word v p) ∙ ap (λ (f : Option flight.Date). spell_date (day_back f)) e ∙ day_word w q
 
 -- UNDER DOF
 
@@ -118,10 +118,10 @@ module _ (s : List ℕ) (e : fits18 s ≡ true) where
       ∙ d.0
 
   -- a date is known exactly where field 18 has the item, and then it is a real one
-  pub date_known_there : is_known (flight_date (date_in s)) ≡ has_key s dof
+  pub date_known_there : is_some (flight_date (date_in s)) ≡ has_key s dof
   date_known_there = go (has_key s dof) refl
     where
-      go : (b : Bool) → has_key s dof ≡ b → is_known (flight_date (date_in s)) ≡ b
+      go : (b : Bool) → has_key s dof ≡ b → is_some (flight_date (date_in s)) ≡ b
       go true q = rw (dof_date q)
       go false q = rw (no_words s dof q, no_day)
 
@@ -135,9 +135,10 @@ module _ (s : List ℕ) (e : fits18 s ≡ true) where
 
 -- AS THE CODE READS IT: w is the word
 
-pub day_none : (v w : Word) → w ≡ v → date w ≡ false → Unknown ≡ flight_date v
+pub day_none : (v w : Word) → w ≡ v → date w ≡ false → None ≡ flight_date v
 day_none v w is e = rw (← is, e)
 
 pub day_known : (v w : Word) → w ≡ v → date w ≡ true → (y mo d : ℕ)
-    → y ≡ value (take 2 (drop 0 w)) → mo ≡ value (take 2 (drop 2 w)) → d ≡ value (take 2 (drop 4 w)) → Known (2000 + y) mo d ≡ flight_date v
+    → y ≡ value (take 2 (drop 0 w)) → mo ≡ value (take 2 (drop 2 w)) → d ≡ value (take 2 (drop 4 w))
+    → Some (record { year = 2000 + y; month = mo; day = d }) ≡ flight_date v
 day_known v w is e y mo d ey emo ed = rw (ey, emo, ed, ← is, e)

@@ -1,13 +1,13 @@
 -- The date in field 18 (document 02, request 5): the word under DOF, and what a content becomes that takes a date. Assumes nothing.
-use Rattle.std.specs.Prelude.{ℕ, ◌+◌, ◌≤◌, ◌≡◌, refl, Bool, true, false, cond, List, [], ◌∷◌, ◌++◌, length, take, drop}
+use Rattle.std.specs.Prelude.{ℕ, ◌+◌, ◌≤◌, ◌≡◌, refl, cond, List, [], ◌∷◌, ◌++◌, length, take, drop, Option, Some, None}
+use Rattle.std.specs.Bool.{then_some}
 use Rattle.alphabet.specs.Text.{bytes}
 use Rattle.text.specs.Words.{Word, split, join, holds, before, same, elem}
 use Rattle.text.specs.Lent.{front}
 use Rattle.shape.specs.Shape.{letters}
 use Rattle.other.specs.Rules.{base, rank_in, year, month, day_of, days_in, date}
 use Rattle.other.specs.Field18.{words_under}
-use Rattle.dates.specs.declared.FlightDate.{FlightDate}
-use Rattle.dates.specs.declared.FlightDate.TheVariants.{Known, Unknown}
+use Rattle.dates.specs.declared.Date.{Date}
 use Rattle.dates.specs.declared.Place.{Place}
 use Rattle.dates.specs.declared.Place.TheVariants.{Instead, Before, Last}
 
@@ -20,12 +20,8 @@ abbrev pub date_in : List ℕ → Word
 date_in s = words_under s dof
 
 -- the day that a word is, if it is a real date
-abbrev pub flight_date : Word → FlightDate
-flight_date w = cond (date w) (Known (2000 + year w) (month w) (day_of w)) Unknown
-
-abbrev pub is_known : FlightDate → Bool
-is_known (Known y m d) = true
-is_known Unknown = false
+abbrev pub flight_date : Word → Option Date
+flight_date w = then_some (date w) (record { year = 2000 + year w; month = month w; day = day_of w })
 
 -- A CONTENT THAT TAKES A DATE: the date replaces the content's, or is put in its place in the key order, and `0` gives way to it
 
@@ -79,7 +75,7 @@ of_contents : (date_in (bytes "STS/HOSP DOF/240229 RMK/A B") ≡ bytes "240229")
 unfolding words_under
 of_contents = (refl, refl, refl)
 
-days : (flight_date (bytes "240229") ≡ Known 2024 2 29) × (flight_date (bytes "230229") ≡ Unknown) × (flight_date [] ≡ Unknown)
+days : (flight_date (bytes "240229") ≡ Some (record { year = 2024; month = 2; day = 29 })) × (flight_date (bytes "230229") ≡ None) × (flight_date [] ≡ None)
 unfolding date days_in letters
 days = (refl, refl, refl)
 

@@ -7,15 +7,12 @@ ghost use Rattle.dates.specs.Dates.{date_in, flight_date, key_in, keys_behind, w
 
 use other::Rule;
 
-// A day, or none.
+// A day, its year counted in full.
 #[derive(Clone, Copy)]
-pub enum FlightDate {
-    Known {
-        year: usize,
-        month: usize,
-        day: usize,
-    },
-    Unknown,
+pub struct Date {
+    pub year: usize,
+    pub month: usize,
+    pub day: usize,
 }
 
 // The word under DOF; nothing where there is none.
@@ -25,19 +22,19 @@ pub fn date_word<'a>(s: &'a [u8]) -> &'a [u8]
     other::words_of(s, b"DOF")
 }
 
-// The day that it is.
-pub fn date_in(s: &[u8]) -> FlightDate
+// The day that it is, if it is one.
+pub fn date_in(s: &[u8]) -> Option<Date>
     ensures { result ≡ flight_date (date_in s.now) }
 {
     let w = date_word(s);
     if !other::word_fits(Rule::Day, w) {
-        return FlightDate::Unknown;
+        return None;
     }
-    FlightDate::Known {
+    Some(Date {
         year: 2000 + shape::two(w, 0),
         month: shape::two(w, 2),
         day: shape::two(w, 4),
-    }
+    })
 }
 
 // The key of a word that begins an item; nothing of any other.

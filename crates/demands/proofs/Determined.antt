@@ -7,6 +7,7 @@ use mathlib.Core.Option.{some-injective, some-ne-none}
 use native.Mathlib.Omega.{arith}
 use lib.ListN.{length, take, drop, length-drop}
 use lib.Seq.{length-take-le}
+use Rattle.std.specs.Prelude.{Option, Some, None}
 use Rattle.text.specs.Words.{up_to, before}
 use Rattle.text.specs.Places.{Stepped}
 use Rattle.text.specs.Lent.{front}
@@ -26,8 +27,7 @@ use Rattle.lines.specs.Lines.{Tells}
 use Rattle.state.specs.declared.Strip.{Strip}
 use Rattle.opening.specs.declared.Opening.{Opening}
 use Rattle.opening.specs.Opening.{opening_of, scratch_after}
-use Rattle.force.specs.declared.Found.{Found}
-use Rattle.force.specs.declared.Found.TheVariants.{At, Nowhere}
+use Rattle.force.specs.declared.Span.{Span}
 use Rattle.force.specs.InForce.{in_force, AtEntries, FoundIn}
 use Rattle.strip.specs.declared.Updated.{Updated}
 use Rattle.strip.specs.Updating.{update_of, out_after as updated_out}
@@ -140,18 +140,18 @@ seek_one j s = cursor_one s (behind_hyphen j s)
 pub first_entry_one : (chg : List ℕ) → Determines Cursor (λ r. AtEntries chg r.at)
 first_entry_one chg = cursor_one chg (behind_hyphen first_entry chg)
 
-pub named_one : (chg : List ℕ) (k : ℕ) → Determines Found (FoundIn chg k)
-named_one chg k (At a b) (At c d) p q =
-    let from : a ≡ c = some-injective a c (sym p.3 ∙ q.3) in
-    let same : take (b - a) (drop a chg) ≡ take (d - c) (drop c chg) = some-injective _ _ (sym p.2 ∙ q.2) in
-    let long : b - a ≡ d - c
-    = sym (length-take-le (b - a) (drop a chg) (omega (arith, p.1, length-drop a chg))) ∙ ap length same
-    ∙ length-take-le (d - c) (drop c chg) (omega (arith, q.1, length-drop c chg)) in
-    let to : b ≡ d = omega (arith, from, long, p.0, q.0) in
-    ap₂ At from to
-named_one chg k (At a b) Nowhere p q = absurd (some-ne-none a (sym p.3 ∙ q.1))
-named_one chg k Nowhere (At c d) p q = absurd (some-ne-none c (sym q.3 ∙ p.1))
-named_one chg k Nowhere Nowhere p q = refl
+pub named_one : (chg : List ℕ) (k : ℕ) → Determines (Option Span) (FoundIn chg k)
+named_one chg k (Some s) (Some t) p q =
+    let from : s.from ≡ t.from = some-injective s.from t.from (sym p.3 ∙ q.3) in
+    let same : take (s.to - s.from) (drop s.from chg) ≡ take (t.to - t.from) (drop t.from chg) = some-injective _ _ (sym p.2 ∙ q.2) in
+    let long : s.to - s.from ≡ t.to - t.from
+    = sym (length-take-le (s.to - s.from) (drop s.from chg) (omega (arith, p.1, length-drop s.from chg))) ∙ ap length same
+    ∙ length-take-le (t.to - t.from) (drop t.from chg) (omega (arith, q.1, length-drop t.from chg)) in
+    let to : s.to ≡ t.to = omega (arith, from, long, p.0, q.0) in
+    ap₂ (λ (i j : ℕ). Some (record { from = i; to = j })) from to
+named_one chg k (Some s) None p q = absurd (some-ne-none s.from (sym p.3 ∙ q.1))
+named_one chg k None (Some t) p q = absurd (some-ne-none t.from (sym q.3 ∙ p.1))
+named_one chg k None None p q = refl
 
 -- A PART AND WHERE IT STANDS: its bytes, the slice that it is in, and its place there
 

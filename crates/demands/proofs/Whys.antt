@@ -7,6 +7,7 @@ use native.Mathlib.Omega.{arith}
 use lib.Dec.{eqb, ltb}
 use lib.ListN.{take, drop, get_or}
 use borrow.Author.Tests.{ltb-true, ltb-false}
+use Rattle.std.specs.Prelude as rust
 use Rattle.alphabet.specs.Alphabet.{one_of}
 use Rattle.text.specs.Words.{Word, split, before, null, same}
 use Rattle.text.proofs.Tests.{both, and_both, same-eq, same_self}
@@ -23,6 +24,7 @@ use Rattle.plan.specs.Unexplained.{unexplained}
 use Rattle.message.specs.declared.Answer.{Answer}
 use Rattle.message.specs.Reading.{unexplained_in, answer_of}
 use Rattle.message.proofs.Reached.{accepted_taken}
+use Rattle.state.specs.declared.Event.{Event}
 use Rattle.state.specs.declared.State.{State}
 use Rattle.state.specs.declared.Strip.{Strip}
 use Rattle.state.specs.State.{allowed_in}
@@ -30,8 +32,6 @@ use Rattle.opening.specs.declared.Opening.TheVariants.{Refused as NotOpened}
 use Rattle.opening.specs.Opening.{text_said, read_as, opening_of}
 use Rattle.amending.specs.Amended.{amended}
 use Rattle.strip.specs.declared.Differences.{Differences}
-use Rattle.strip.specs.declared.Offered.{Offered}
-use Rattle.strip.specs.declared.Offered.TheVariants.{Says, Unfit}
 use Rattle.strip.specs.declared.Updated.TheVariants.{Refused}
 use Rattle.strip.specs.Updating.{event_of, compares_time, compares_date, other_day, differences, differs, update_of}
 use Rattle.causes.specs.declared.Key.{Key}
@@ -292,9 +292,9 @@ module _ (role : Role) (plan : List ℕ) (held : Strip) (said : List ℕ) where
       by_tests false true = in_plan (eqb (unexplained_in (amended role plan said)) 0)
       by_tests false false = tt
 
-      go : (o : Offered) → From compared (amended role plan said) (event_cause o role plan held said)
-      go Unfit = tt
-      go (Says e) = by_tests (differs compared) (allowed_in held e)
+      go : (o : rust.Option Event) → From compared (amended role plan said) (event_cause o role plan held said)
+      go rust.None = tt
+      go (rust.Some e) = by_tests (differs compared) (allowed_in held e)
 
 fit_plain : (role : Role) → fit_role role ≡ true → plain role ≡ true
 fit_plain Changes e = refl

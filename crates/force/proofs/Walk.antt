@@ -9,6 +9,8 @@ use lib.Dec.{eqb}
 use lib.ListN.{length, take, drop, length-drop}
 use lib.Seq.{take-nil, drop-drop, length-take-le}
 use borrow.Author.Tests.{eq-eqb, ne_eqb}
+use Rattle.std.specs.Prelude.{Some, None}
+use Rattle.std.specs.Prelude as rust
 use Rattle.text.specs.Words.{Word, split, up_to, before, behind}
 use Rattle.text.specs.Places.{Stepped}
 use Rattle.text.proofs.Index.{split_at, after_here, after_end, piece}
@@ -16,8 +18,7 @@ use Rattle.space.specs.Hyphens.{behind_hyphen}
 use Rattle.message.proofs.Nth.{cut_at, field_at_lem}
 use Rattle.kinds.specs.Kinds.{first_entry}
 use Rattle.forms.specs.Field22.{labels, which_of}
-use Rattle.force.specs.declared.Found.{Found}
-use Rattle.force.specs.declared.Found.TheVariants.{At, Nowhere}
+use Rattle.force.specs.declared.Span.{Span}
 use Rattle.force.specs.InForce.{entries_of, lookup, lookup_at, named_by, named_at, field_at, in_force, place_of, FoundIn}
 
 -- TO A FIELD
@@ -92,7 +93,7 @@ module _ {chg : List ℕ} {k at e : ℕ} (some-rank : 0 < k) (w : Seeking chg k 
     place_is : at + (length (take (e - at) (drop at chg)) - length (behind 47 (take (e - at) (drop at chg)))) ≡ at + b
     place_is = omega (arith, step.inside, ap length step.over, length-drop b (take (e - at) (drop at chg)))
 
-    pub found_here : FoundIn chg k (At (at + b) e)
+    pub found_here : FoundIn chg k (Some (record { from = at + b; to = e }))
     unfolding named_by named_at
     found_here = (
       omega (arith, short),
@@ -105,7 +106,7 @@ module _ {chg : List ℕ} {k at e : ℕ} (some-rank : 0 < k) (w : Seeking chg k 
     not_here : eqb (which_of (take (e - at) (drop at chg))) k ≡ false
     not_here = ne_eqb (which_of (take (e - at) (drop at chg))) k (λ z. other (is-rank ∙ z))
 
-    pub found_nowhere : length chg ≤ e → FoundIn chg k Nowhere
+    pub found_nowhere : length chg ≤ e → FoundIn chg k None
     unfolding named_by named_at
     found_nowhere h = (
       rw unnamed (sym w.content ∙ rw (split_at 45 chg at e end, not_here, after_end 45 chg e h)),
@@ -129,20 +130,20 @@ module _ {chg : List ℕ} {k at e : ℕ} (some-rank : 0 < k) (w : Seeking chg k 
         }
 
 -- no entry names the field of rank 0
-pub none_named : (chg : List ℕ) (k : ℕ) → k ≡ 0 → FoundIn chg k Nowhere
+pub none_named : (chg : List ℕ) (k : ℕ) → k ≡ 0 → FoundIn chg k None
 unfolding named_by named_at
 none_named chg k z = (rw (eq-eqb k 0 z), rw (eq-eqb k 0 z))
 
 -- THE FIELD IN FORCE
 
-pub as_found : (chg : List ℕ) (k : ℕ) {r f : Found} → FoundIn chg k r → r ≡ f → FoundIn chg k f
+pub as_found : (chg : List ℕ) (k : ℕ) {r f : rust.Option Span} → FoundIn chg k r → r ≡ f → FoundIn chg k f
 as_found chg k h e = subst (FoundIn chg k) e h
 
 module _ (plan chg : List ℕ) (k : ℕ) where
-  pub in_chg : (from to : ℕ) → FoundIn chg k (At from to) → take (to - from) (drop from chg) ≡ in_force plan chg k
-  in_chg from to h = sym (ap (λ (o : Option Word). get_or o (field_at plan k)) h.2)
+  pub in_chg : (s : Span) → FoundIn chg k (Some s) → take (s.to - s.from) (drop s.from chg) ≡ in_force plan chg k
+  in_chg s h = sym (ap (λ (o : Option Word). get_or o (field_at plan k)) h.2)
 
-  pub in_plan : (at e : ℕ) → FoundIn chg k Nowhere → drop at plan ≡ behind_hyphen k plan → e ≡ at + up_to 45 (drop at plan)
+  pub in_plan : (at e : ℕ) → FoundIn chg k None → drop at plan ≡ behind_hyphen k plan → e ≡ at + up_to 45 (drop at plan)
       → take (e - at) (drop at plan) ≡ in_force plan chg k
   in_plan at e h d end =
       piece 45 plan at e end ∙ ap (before 45) d ∙ sym (field_at_lem k plan) ∙ sym (ap (λ (o : Option Word). get_or o (field_at plan k)) h.0)

@@ -2,7 +2,8 @@
 -- A plan and a CHG are given by their texts, which stand between the parentheses. The fields that an entry can name have ranks 1 to 8, and the plan's
 -- field of rank k is its k-th, counted from 0: the field of rank 0 is field 3, which no entry names. Assumes nothing.
 use Rattle.std.specs.Prelude.{ℕ, zero, suc, ◌+◌, ◌-◌, ◌≤◌, ◌≡◌, refl, Bool, true, false, ◌&&◌, cond, List, [], ◌∷◌, ◌++◌, map, ltb, eqb, length, take, drop}
-use Rattle.std.specs.Prelude.{get_or, set}
+use Rattle.std.specs.Prelude.{get_or, set, Some, None}
+use Rattle.std.specs.Prelude as rust
 use Rattle.std.proofs.Math.Option
 use Rattle.std.proofs.Math.Option.{Option, none, some}
 use Rattle.alphabet.specs.Text.{bytes}
@@ -13,8 +14,7 @@ use Rattle.aerodromes.specs.Aerodromes.{four_letters}
 use Rattle.aerodromes.specs.Field16.{fits16}
 use Rattle.kinds.specs.Kinds.{plan7, plan16, first_entry}
 use Rattle.forms.specs.Field22.{labels, which_of}
-use Rattle.force.specs.declared.Found.{Found}
-use Rattle.force.specs.declared.Found.TheVariants.{At, Nowhere}
+use Rattle.force.specs.declared.Span.{Span}
 
 -- THE ENTRIES of a CHG stand behind its fields 3, 7, 13, 16 and 18
 
@@ -57,9 +57,10 @@ abbrev pub AtEntries : List ℕ → ℕ → Type 0
 AtEntries chg at = (at ≤ length chg) × (drop at chg ≡ behind_hyphen first_entry chg)
 
 -- what finding an entry gives: the ends of its content
-abbrev pub FoundIn : List ℕ → ℕ → Found → Type 0
-FoundIn chg k (At from to) = (from ≤ to) × (to ≤ length chg) × (named_by chg k ≡ some (take (to - from) (drop from chg))) × (named_at chg k ≡ some from)
-FoundIn chg k Nowhere = (named_by chg k ≡ none) × (named_at chg k ≡ none)
+abbrev pub FoundIn : List ℕ → ℕ → rust.Option Span → Type 0
+FoundIn chg k (Some s) =
+    (s.from ≤ s.to) × (s.to ≤ length chg) × (named_by chg k ≡ some (take (s.to - s.from) (drop s.from chg))) × (named_at chg k ≡ some s.from)
+FoundIn chg k None = (named_by chg k ≡ none) × (named_at chg k ≡ none)
 
 -- THE AMENDED PLAN: an entry's content stands in the place of the plan's own; four letters alone for field 16 are a new destination, and what stands
 -- behind the plan's own destination stays (document 02, request 2)

@@ -8,11 +8,11 @@ ghost use Rattle.force.specs.InForce.{AtEntries, FoundIn, bare};
 use kinds::Form;
 use text::Cursor;
 
-// Where the content of an entry stands in a CHG.
+// Bytes of a text or a message: the first, and behind the last.
 #[derive(Clone, Copy)]
-pub enum Found {
-    At { from: usize, to: usize },
-    Nowhere,
+pub struct Span {
+    pub from: usize,
+    pub to: usize,
 }
 
 // The cursor at field j of a text; at the end where there are fewer.
@@ -29,8 +29,8 @@ pub fn first_entry(chg: &[u8]) -> Cursor
     seek(chg, kinds::FIRST_ENTRY)
 }
 
-// The content of the first entry that names the field of rank k, where the entries begin at `first`.
-fn find_entry(chg: &[u8], first: Cursor, k: usize) -> Found
+// Where the content of the first entry stands that names the field of rank k, where the entries begin at `first`.
+fn find_entry(chg: &[u8], first: Cursor, k: usize) -> Option<Span>
     requires { (0 < k) × AtEntries chg.now first.at }
     ensures { FoundIn chg.now k result }
 {
@@ -41,31 +41,31 @@ fn find_entry(chg: &[u8], first: Cursor, k: usize) -> Found
         let entry = &chg[at..e];
         if forms::rank_in(Form::Field22, entry) == k {
             let content = Cursor { at: 0 }.next(entry, b'/');
-            return Found::At {
+            return Some(Span {
                 from: at + content.at,
                 to: e,
-            };
+            });
         }
         if e == chg.len() {
-            return Found::Nowhere;
+            return None;
         }
         c = c.next(chg, b'-');
     }
 }
 
-// What a CHG has for the field of rank k, where its entries begin at `first`. Rank 0 is field 3, which no entry names.
-pub fn named_from(chg: &[u8], first: Cursor, k: usize) -> Found
+// Where a CHG has a content for the field of rank k, where its entries begin at `first`. Rank 0 is field 3, which no entry names.
+pub fn named_from(chg: &[u8], first: Cursor, k: usize) -> Option<Span>
     requires { AtEntries chg.now first.at }
     ensures { FoundIn chg.now k result }
 {
     if k == 0 {
-        return Found::Nowhere;
+        return None;
     }
     find_entry(chg, first, k)
 }
 
-// What a CHG has for the field of rank k.
-pub fn named(chg: &[u8], k: usize) -> Found
+// Where a CHG has a content for the field of rank k.
+pub fn named(chg: &[u8], k: usize) -> Option<Span>
     ensures { FoundIn chg.now k result }
 {
     named_from(chg, first_entry(chg), k)

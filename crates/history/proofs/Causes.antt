@@ -7,7 +7,7 @@ use native.Mathlib.Omega.{arith}
 use lib.Dec.{eqb, ltb, leb}
 use lib.ListN.{length, take, drop, get_or}
 use borrow.Author.Tests.{leb-true, leb-false, le-leb, ltb-true, ltb-false, lt-ltb, le-ltb, eqb-true, eqb-false, eq-eqb, ne_eqb}
-use Rattle.std.specs.Prelude.{Option}
+use Rattle.std.specs.Prelude.{Option, Some, None}
 use Rattle.text.specs.Words.{Word, split, before, all, same}
 use Rattle.text.proofs.Tests.{both, same-eq, same_self}
 use Rattle.shape.specs.declared.Clock.{Clock}
@@ -45,8 +45,6 @@ use Rattle.state.specs.State.{permits, allowed_in, next_of, sound, sound_event}
 use Rattle.state.proofs.Laws.{depart_sound, arrive_sound}
 use Rattle.opening.specs.declared.Opening.TheVariants.{Refused as NotOpened}
 use Rattle.opening.specs.Opening.{canonical_plan, text_said, read_as, opening_of}
-use Rattle.strip.specs.declared.Offered.{Offered}
-use Rattle.strip.specs.declared.Offered.TheVariants.{Says, Unfit}
 use Rattle.strip.specs.declared.Updated.{Updated}
 use Rattle.strip.specs.declared.Updated.TheVariants.{Accepted, Refused}
 use Rattle.amending.specs.Amended.{amended}
@@ -154,16 +152,16 @@ event Files ds = Change
 event Neither ds = Change
 
 module _ (t : MessageType) (n : ℕ) (ds : List Word) (f : Fitting t n ds) where
-  event_told : (role : Role) → role_of t ≡ role → fit_role role ≡ true → event_of role ds ≡ Says (event role ds)
+  event_told : (role : Role) → role_of t ≡ role → fit_role role ≡ true → event_of role ds ≡ Some (event role ds)
   event_told Changes q e = refl
   event_told Delays q e = refl
   event_told Cancels q e = refl
   event_told Departs q e =
-      ap (λ (r : Option Clock). Says (Depart (time_of r))) (clock13 (get_or ds brief13 []) (departure_time t n ds f q))
+      ap (λ (r : Option Clock). Some (Depart (time_of r))) (clock13 (get_or ds brief13 []) (departure_time t n ds f q))
   event_told Arrives q e =
       let k = landed t n ds f q in
-      ap (λ (w : Word). Says (Arrive (aerodrome_in w) (time_of (clock_at w)))) k.0
-      ∙ ap (λ (r : Option Clock). Says (Arrive (aerodrome_in (landing ds)) (time_of r))) (clock17 (landing ds) k.1)
+      ap (λ (w : Word). Some (Arrive (aerodrome_in w) (time_of (clock_at w)))) k.0
+      ∙ ap (λ (r : Option Clock). Some (Arrive (aerodrome_in (landing ds)) (time_of r))) (clock17 (landing ds) k.1)
   event_told Files q e = absurd (false≢true e)
   event_told Neither q e = absurd (false≢true e)
 
@@ -176,7 +174,7 @@ module _ (t : MessageType) (n : ℕ) (ds : List Word) (f : Fitting t n ds) where
   event_sound Files q = refl
   event_sound Neither q = refl
 
-unfit_role : (role : Role) (ds : List Word) → fit_role role ≡ false → event_of role ds ≡ Unfit
+unfit_role : (role : Role) (ds : List Word) → fit_role role ≡ false → event_of role ds ≡ None
 unfit_role Changes ds e = absurd (false≢true (sym e))
 unfit_role Delays ds e = absurd (false≢true (sym e))
 unfit_role Cancels ds e = absurd (false≢true (sym e))
@@ -344,7 +342,7 @@ module _ (strip : List ℕ) (s : Strip) (m : List ℕ) (room : ℕ) (p : Proper 
     unfit_update : fit_type t ≡ false → update_of strip s m room ≡ Refused 14 0 0
     unfit_update e =
         type_update
-        ∙ ap (λ (o : Offered). event_as o (role_of t) (inner strip) s (text_said t m) room) (unfit_role (role_of t) (split 45 (text_said t m)) e)
+        ∙ ap (λ (o : Option Event). event_as o (role_of t) (inner strip) s (text_said t m) room) (unfit_role (role_of t) (split 45 (text_said t m)) e)
 
     module _ (e : fit_type t ≡ true) where
       heard : split 45 (text_said t m) ≡ contents m
@@ -365,7 +363,7 @@ module _ (strip : List ℕ) (s : Strip) (m : List ℕ) (room : ℕ) (p : Proper 
       fit_update : update_of strip s m room ≡ answered_by (contents strip) (contents m) (allowed s.state t) (nine (amended_on strip m))
       fit_update =
           type_update
-          ∙ ap (λ (o : Offered). event_as o (role_of t) (inner strip) s (text_said t m) room)
+          ∙ ap (λ (o : Option Event). event_as o (role_of t) (inner strip) s (text_said t m) room)
           (ap (event_of (role_of t)) heard ∙ event_told t (count_of m) (contents m) read_fitting (role_of t) refl e)
           ∙ ap₂
           (λ (x y : List Word). answered_by x y (allowed_in s (event (role_of t) (contents m))) (amended (role_of t) (inner strip) (text_said t m)))

@@ -248,15 +248,7 @@ fn unexplained_by(plan: &[u8], ends: &FieldEnds) -> u8
 pub fn is_plan(t: MessageType) -> bool
     ensures { result ≡ is_plan t }
 {
-    match t.role() {
-        Role::Files => true,
-        Role::Changes => false,
-        Role::Delays => false,
-        Role::Cancels => false,
-        Role::Departs => false,
-        Role::Arrives => false,
-        Role::Neither => false,
-    }
+    matches!(t.role(), Role::Files)
 }
 
 // Where an FPL has field 9, 13 or 16.

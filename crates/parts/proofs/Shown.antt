@@ -24,7 +24,7 @@ use Rattle.kinds.proofs.Fields.{forms_length}
 use Rattle.message.specs.Reading.{count_of, is_plan}
 use Rattle.message.proofs.Plans.{plan_type}
 use Rattle.force.proofs.Walk.{drop-take}
-use Rattle.parts.specs.declared.Span.{Span}
+use Rattle.force.specs.declared.Span.{Span}
 use Rattle.parts.specs.declared.Part.TheVariants.{At, Refused as NoField}
 use Rattle.parts.specs.declared.Planned.TheVariants.{Parts, Refused as NoPlan}
 use Rattle.parts.specs.declared.Taken.{Taken}

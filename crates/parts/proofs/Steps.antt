@@ -8,6 +8,7 @@ use lib.Dec.{ltb, leb}
 use lib.ListN.{length, take, drop, get_or, length-map}
 use lib.Seq.{length-take-le}
 use borrow.Author.Tests.{lt-ltb, le-ltb, leb-true}
+use Rattle.std.specs.Prelude.{Option}
 use Rattle.text.specs.Words.{Word, up_to, before}
 use Rattle.text.proofs.Index.{find_here, find_next, find_end, up_to-le}
 use Rattle.text.proofs.Tests.{both}
@@ -19,7 +20,7 @@ use Rattle.head.specs.Field7.{record7}
 use Rattle.head.specs.Field9.{number, aircraft, count_of as count_of9, fits9, record9}
 use Rattle.aerodromes.specs.Field13.{fits13, record13}
 use Rattle.aerodromes.specs.Field16.{fits16plan, record16plan}
-use Rattle.dates.specs.declared.FlightDate.{FlightDate}
+use Rattle.dates.specs.declared.Date.{Date}
 use Rattle.dates.specs.Dates.{date_in, flight_date}
 use Rattle.kinds.specs.declared.MessageType.{MessageType}
 use Rattle.kinds.specs.declared.MessageType.TheVariants.{Fpl}
@@ -31,7 +32,7 @@ use Rattle.kinds.proofs.Fields.{forms_length}
 use Rattle.records.specs.Records.{fit_all}
 use Rattle.forms.specs.Forms.{field_of as form_of}
 use Rattle.message.specs.Reading.{count_of}
-use Rattle.parts.specs.declared.Span.{Span}
+use Rattle.force.specs.declared.Span.{Span}
 use Rattle.parts.specs.declared.Part.TheVariants.{At, Refused as NoField}
 use Rattle.parts.specs.declared.Aircraft.{Aircraft}
 use Rattle.parts.specs.declared.OffBlock.{OffBlock}
@@ -182,7 +183,7 @@ pub date_at : (m : List ℕ) (w : Word) → w ≡ content_in m plan18 → flight
 unfolding plan_of
 date_at m w f = ap (λ (v : Word). flight_date (date_in v)) f
 
-pub plan_is : (m : List ℕ) (i : Span) (a : Aircraft) (b : OffBlock) (d : Destination) (t : FlightDate)
+pub plan_is : (m : List ℕ) (i : Span) (a : Aircraft) (b : OffBlock) (d : Destination) (t : Option Date)
     → i ≡ (plan_of m).identification → a ≡ (plan_of m).aircraft → b ≡ (plan_of m).departure → d ≡ (plan_of m).destination → t ≡ (plan_of m).date
     → record { identification = i; aircraft = a; departure = b; destination = d; date = t } ≡ plan_of m
 plan_is m i a b d t ei ea eb ed et = rw (ei, ea, eb, ed, et)

@@ -1,6 +1,6 @@
 -- The parts of a message that is its own spelling: where a field stands, by its number, and of a plan the parts that the desk works with, by the
 -- records of its fields. Assumes nothing.
-use Rattle.std.specs.Prelude.{ℕ, suc, ◌+◌, ◌≤◌, ◌≡◌, refl, Bool, true, false, cond, List, [], map, ltb, length, take, drop, get_or}
+use Rattle.std.specs.Prelude.{ℕ, suc, ◌+◌, ◌≤◌, ◌≡◌, refl, Bool, true, false, cond, List, [], map, ltb, length, take, drop, get_or, Some, None}
 use Rattle.alphabet.specs.Text.{bytes}
 use Rattle.alphabet.specs.Alphabet.{white}
 use Rattle.text.specs.Words.{Word, same, up_to, holds}
@@ -16,7 +16,6 @@ use Rattle.aerodromes.specs.Field16.{Field16Plan, record16plan}
 use Rattle.shape.specs.Shape.{letters}
 use Rattle.other.specs.Rules.{days_in, date}
 use Rattle.other.specs.Field18.{words_under}
-use Rattle.dates.specs.declared.FlightDate.TheVariants.{Known, Unknown}
 use Rattle.dates.specs.Dates.{date_in, flight_date}
 use Rattle.kinds.specs.declared.MessageType.{MessageType}
 use Rattle.kinds.specs.declared.MessageType.TheVariants.{Fpl, Chg, Cnl}
@@ -27,7 +26,7 @@ use Rattle.message.specs.declared.Answer.TheVariants.{Accepted, Refused as NotRe
 use Rattle.message.specs.Reading.{count_of, is_plan, spelling_of, answer_of}
 use Rattle.message.specs.Message.{fields_of}
 use Rattle.force.specs.InForce.{place_of}
-use Rattle.parts.specs.declared.Span.{Span}
+use Rattle.force.specs.declared.Span.{Span}
 use Rattle.parts.specs.declared.Part.{Part}
 use Rattle.parts.specs.declared.Part.TheVariants.{At, Refused as NoField}
 use Rattle.parts.specs.declared.Aircraft.{Aircraft}
@@ -176,7 +175,7 @@ parts : plan_of plan
       aircraft = record { count = 1; kind = record { from = 14; to = 18 } };
       departure = record { aerodrome = 28; time = record { 0 = 570 } };
       destination = record { aerodrome = 59; elapsed = record { 0 = 60 }; alternates = 1; first = 68; second = 0 };
-      date = Unknown;
+      date = None;
     }
 unfolding plan_of words_under date days_in letters behind_hyphen reduced reduced_from stands_for_run opens closes white
 parts = refl
@@ -187,7 +186,7 @@ more_parts : plan_of (bytes "(FPL-ABC12/A7777-IS-12FK27/M-S/S-EHAM2359-N0440F310
       aircraft = record { count = 12; kind = record { from = 22; to = 26 } };
       departure = record { aerodrome = 33; time = record { 0 = 1439 } };
       destination = record { aerodrome = 56; elapsed = record { 0 = 60 }; alternates = 2; first = 65; second = 70 };
-      date = Known 2024 2 29;
+      date = Some (record { year = 2024; month = 2; day = 29 });
     }
 unfolding plan_of words_under date days_in letters behind_hyphen reduced reduced_from stands_for_run opens closes white
 more_parts = refl

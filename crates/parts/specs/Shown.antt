@@ -20,7 +20,7 @@ use Rattle.records.specs.Records.{Records}
 use Rattle.forms.specs.Forms.{field_of as form_of}
 use Rattle.message.specs.Reading.{count_of}
 use Rattle.message.specs.Message.{Message, spelling}
-use Rattle.parts.specs.declared.Span.{Span}
+use Rattle.force.specs.declared.Span.{Span}
 use Rattle.parts.specs.declared.Part.{Part}
 use Rattle.parts.specs.declared.Part.TheVariants.{At, Refused as NoField}
 use Rattle.parts.specs.declared.PlanParts.{PlanParts}

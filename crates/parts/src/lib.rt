@@ -15,17 +15,13 @@ ghost use Rattle.parts.specs.Parts.{taken_of, Own, span_of, span_at, field_in, f
 ghost use Rattle.parts.specs.Parts.{aircraft_as, off_block_as, destination_as, plan_of, planned_as, planned_of};
 ghost use Rattle.parts.specs.Shown.{Shows, ShowsPlan};
 
-use dates::FlightDate;
+use dates::Date;
 use kinds::MessageType;
 use message::Answer;
 use shape::{Clock, Elapsed};
 
-// Bytes of a message: the first, and behind the last.
-#[derive(Clone, Copy)]
-pub struct Span {
-    pub from: usize,
-    pub to: usize,
-}
+// A span of a message.
+pub use force::Span;
 
 // Where a field's content stands, or the refusal.
 #[derive(Clone, Copy)]
@@ -58,14 +54,14 @@ pub struct Destination {
     pub second: usize,
 }
 
-// The parts of a plan; the date is DOF's in field 18.
+// The parts of a plan; the date is DOF's in field 18, if it has one.
 #[derive(Clone, Copy)]
 pub struct PlanParts {
     pub identification: Span,
     pub aircraft: Aircraft,
     pub departure: OffBlock,
     pub destination: Destination,
-    pub date: FlightDate,
+    pub date: Option<Date>,
 }
 
 #[derive(Clone, Copy)]

@@ -6,6 +6,7 @@ use mathlib.Core.List.{List}
 use lib.Dec.{eqb, ltb}
 use lib.ListN.{length}
 use borrow.Author.Tests.{ne_eqb, lt-ltb, le-ltb}
+use Rattle.std.specs.Prelude.{Option, Some, None}
 use Rattle.text.specs.Words.{split}
 use Rattle.text.specs.Lent.{front}
 use Rattle.space.specs.Fields.{inner}
@@ -23,8 +24,6 @@ use Rattle.opening.specs.declared.Opening.TheVariants.{Read, Refused as NotOpene
 use Rattle.opening.specs.Opening.{text_said, opening_of}
 use Rattle.opening.proofs.Plan.{opened}
 use Rattle.amending.specs.Amended.{amended, new_strip}
-use Rattle.strip.specs.declared.Offered.{Offered}
-use Rattle.strip.specs.declared.Offered.TheVariants.{Says, Unfit}
 use Rattle.strip.specs.declared.Updated.{Updated}
 use Rattle.strip.specs.declared.Updated.TheVariants.{Accepted, Refused}
 use Rattle.strip.specs.Updating.{event_of, differences, differs, strip_after}
@@ -87,20 +86,20 @@ module _ (role : Role) (p : List ℕ) (held : Strip) (s out : List ℕ) where
   turned_down : (number : ℕ) → offer-due ≡ Refused number 0 0 → Offers role held p s out (Refused number 0 0) out
   turned_down number e = told offer-due (Refused number 0 0) role p s out out e refl
 
-  by-event : (o : Offered) → event_of role (split 45 s) ≡ o → offer-due ≡ event_as o role p held s (length out)
+  by-event : (o : Option Event) → event_of role (split 45 s) ≡ o → offer-due ≡ event_as o role p held s (length out)
   unfolding offered_as
-  by-event o e = ap (λ (x : Offered). event_as x role p held s (length out)) e
+  by-event o e = ap (λ (x : Option Event). event_as x role p held s (length out)) e
 
-  pub unfit : event_of role (split 45 s) ≡ Unfit → Offers role held p s out (Refused 14 0 0) out
-  unfit e = turned_down 14 (by-event Unfit e)
+  pub unfit : event_of role (split 45 s) ≡ None → Offers role held p s out (Refused 14 0 0) out
+  unfit e = turned_down 14 (by-event None e)
 
-  module _ (e : Event) (is-event : event_of role (split 45 s) ≡ Says e) where
+  module _ (e : Event) (is-event : event_of role (split 45 s) ≡ Some e) where
     abbrev by_state : Bool → Updated
     by_state b = cond b (amended_as (amended role p s) (next_of held e) (length out)) (Refused 13 0 0)
 
     by_differences : (b : Bool) → differs (differences role (split 45 p) (split 45 s)) ≡ b
         → offer-due ≡ cond b (Refused 12 0 0) (by_state (allowed_in held e))
-    by_differences b d = by-event (Says e) is-event ∙ ap (λ (x : Bool). cond x (Refused 12 0 0) (by_state (allowed_in held e))) d
+    by_differences b d = by-event (Some e) is-event ∙ ap (λ (x : Bool). cond x (Refused 12 0 0) (by_state (allowed_in held e))) d
 
     pub differing : differs (differences role (split 45 p) (split 45 s)) ≡ true → Offers role held p s out (Refused 12 0 0) out
     differing d = turned_down 12 (by_differences true d)

@@ -1,5 +1,5 @@
 -- Document 01's strip, and what messages do to it, computed. Assumes nothing.
-use Rattle.std.specs.Prelude.{◌≡◌, refl, true, false, List, ℕ}
+use Rattle.std.specs.Prelude.{◌≡◌, refl, true, false, List, ℕ, Some, None}
 use Rattle.alphabet.specs.Text.{bytes}
 use Rattle.text.specs.Words.{split}
 use Rattle.shape.specs.Time.{time_fits}
@@ -14,16 +14,15 @@ use Rattle.plan.specs.Unexplained.{unexplained}
 use Rattle.message.specs.Reading.{unexplained_in}
 use Rattle.force.specs.InForce.{named_by}
 use Rattle.amending.specs.Amended.{amended}
-use Rattle.strip.specs.declared.Offered.TheVariants.{Says, Unfit}
 use Rattle.strip.specs.Updating.{event_of, differences, differs}
 
 abbrev filed : List ℕ
 filed = bytes "FPL-ABC12-IS-B738/M-SDFG/S-EHAM0930-N0440F310 DCT PAM DCT-EDDF0100 EDDK-0"
 
 -- what a DEP and an ARR say of the state; an RQP is not fit
-events : (event_of (role_of Dep) (split 45 (bytes "DEP-ABC12-EHAM0941-EDDF-0")) ≡ Says (Depart (record { 0 = 581 })))
-    × (event_of (role_of Arr) (split 45 (bytes "ARR-ABC12-EHAM0930-EDDK1042")) ≡ Says (Arrive (aerodrome_in (bytes "EDDK")) (record { 0 = 642 })))
-    × (event_of (role_of Rqp) (split 45 (bytes "RQP-ABC12-EHAM-EDDF-0")) ≡ Unfit)
+events : (event_of (role_of Dep) (split 45 (bytes "DEP-ABC12-EHAM0941-EDDF-0")) ≡ Some (Depart (record { 0 = 581 })))
+    × (event_of (role_of Arr) (split 45 (bytes "ARR-ABC12-EHAM0930-EDDK1042")) ≡ Some (Arrive (aerodrome_in (bytes "EDDK")) (record { 0 = 642 })))
+    × (event_of (role_of Rqp) (split 45 (bytes "RQP-ABC12-EHAM-EDDF-0")) ≡ None)
 unfolding time_fits
 events = (refl, refl, refl)
 

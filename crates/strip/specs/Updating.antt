@@ -1,6 +1,6 @@
 -- An update of the strip (document 01, "The strip"): the answer, the strip's record and every byte of the output, from the strip, its record, the
 -- message and the room lent. A plan and what a message says are given by their texts, which stand between the parentheses. Assumes nothing.
-use Rattle.std.specs.Prelude.{ℕ, ◌-◌, Bool, true, false, ◌&&◌, ◌||◌, not, cond, List, [], eqb, ltb, length, take, drop, get_or, Option}
+use Rattle.std.specs.Prelude.{ℕ, ◌-◌, Bool, true, false, ◌&&◌, ◌||◌, not, cond, List, [], eqb, ltb, length, take, drop, get_or, Option, Some, None}
 use Rattle.std.specs.Option.{unwrap_or}
 use Rattle.text.specs.Words.{Word, split, before, null, same}
 use Rattle.text.specs.Lent.{front}
@@ -19,14 +19,13 @@ use Rattle.message.specs.declared.Answer.{Answer}
 use Rattle.message.specs.declared.Answer.TheVariants.{Accepted as ReadAs, Refused as NotRead}
 use Rattle.message.specs.Reading.{unexplained_in, answer_of}
 use Rattle.state.specs.declared.Strip.{Strip}
+use Rattle.state.specs.declared.Event.{Event}
 use Rattle.state.specs.declared.Event.TheVariants.{Change, Delay, Cancel, Depart, Arrive}
 use Rattle.state.specs.State.{allowed_in, next_of}
 use Rattle.opening.specs.declared.Opening.{Opening}
 use Rattle.opening.specs.declared.Opening.TheVariants.{Read, Refused as NotOpened}
 use Rattle.opening.specs.Opening.{text_said, opening_of}
 use Rattle.amending.specs.Amended.{amended, new_strip}
-use Rattle.strip.specs.declared.Offered.{Offered}
-use Rattle.strip.specs.declared.Offered.TheVariants.{Says, Unfit}
 use Rattle.strip.specs.declared.Differences.{Differences}
 use Rattle.strip.specs.declared.Updated.{Updated}
 use Rattle.strip.specs.declared.Updated.TheVariants.{Accepted, Refused}
@@ -41,14 +40,14 @@ abbrev pub arrival : List Word → Word
 arrival cs = get_or cs (length cs - 1) []
 
 -- a delay, a departure at the time of its field 13, an arrival as in its field 17, and so on; the other types are not fit
-abbrev pub event_of : Role → List Word → Offered
-event_of Changes cs = Says Change
-event_of Delays cs = Says Delay
-event_of Cancels cs = Says Cancel
-event_of Departs cs = Says (Depart (time_of (clock_at (get_or cs brief13 []))))
-event_of Arrives cs = Says (Arrive (aerodrome_in (arrival cs)) (time_of (clock_at (arrival cs))))
-event_of Files cs = Unfit
-event_of Neither cs = Unfit
+abbrev pub event_of : Role → List Word → Option Event
+event_of Changes cs = Some Change
+event_of Delays cs = Some Delay
+event_of Cancels cs = Some Cancel
+event_of Departs cs = Some (Depart (time_of (clock_at (get_or cs brief13 []))))
+event_of Arrives cs = Some (Arrive (aerodrome_in (arrival cs)) (time_of (clock_at (arrival cs))))
+event_of Files cs = None
+event_of Neither cs = None
 
 -- MUST EQUAL THE STRIP'S: identification, 13 aerodrome, destination; for CHG, CNL and ARR the time in 13 too; for CHG, CNL and DEP the date in 18, where
 -- both carry one
@@ -102,9 +101,9 @@ room_as new next room =
 abbrev pub amended_as : List Word → Strip → ℕ → Updated
 amended_as cs next room = cond (eqb (unexplained_in cs) 0) (room_as (message_of cs) next room) (Refused 10 (unexplained_in cs) 0)
 
-abbrev pub event_as : Offered → Role → List ℕ → Strip → List ℕ → ℕ → Updated
-event_as Unfit role plan held said room = Refused 14 0 0
-event_as (Says e) role plan held said room =
+abbrev pub event_as : Option Event → Role → List ℕ → Strip → List ℕ → ℕ → Updated
+event_as None role plan held said room = Refused 14 0 0
+event_as (Some e) role plan held said room =
     cond (differs (differences role (split 45 plan) (split 45 said))) (Refused 12 0 0)
     (cond (allowed_in held e) (amended_as (amended role plan said) (next_of held e) room)
     (Refused 13 0 0))

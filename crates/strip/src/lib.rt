@@ -13,13 +13,6 @@ use opening::Opening;
 use shape::Clock;
 use state::{Event, Strip};
 
-// What a message of a type does to the state, or that its type is not fit for an update.
-#[derive(Clone, Copy)]
-pub enum Offered {
-    Says(Event),
-    Unfit,
-}
-
 // Which of the values that are compared differ from the strip's.
 #[derive(Clone, Copy)]
 pub struct Differences {
@@ -60,39 +53,27 @@ fn time_in(s: &[u8]) -> Clock
     aerodromes::clock(s).unwrap_or(Clock(0))
 }
 
-// What a message says of the state, from the text of its spelling.
-pub fn event_of(role: Role, said: &[u8]) -> Offered
+// What a message says of the state, from the text of its spelling; nothing where its type is not fit for an update.
+pub fn event_of(role: Role, said: &[u8]) -> Option<Event>
     ensures { result ≡ event_of role (split 45 said.now) }
 {
     match role {
-        Role::Changes => Offered::Says(Event::Change),
-        Role::Delays => Offered::Says(Event::Delay),
-        Role::Cancels => Offered::Says(Event::Cancel),
-        Role::Departs => Offered::Says(Event::Depart(time_in(amending::field(
-            said,
-            kinds::BRIEF_13,
-        )))),
+        Role::Changes => Some(Event::Change),
+        Role::Delays => Some(Event::Delay),
+        Role::Cancels => Some(Event::Cancel),
+        Role::Departs => Some(Event::Depart(time_in(amending::field(said, kinds::BRIEF_13)))),
         Role::Arrives => {
             let landed = last_field(said);
-            Offered::Says(Event::Arrive(aerodromes::Aerodrome::of(landed), time_in(landed)))
+            Some(Event::Arrive(aerodromes::Aerodrome::of(landed), time_in(landed)))
         }
-        Role::Files => Offered::Unfit,
-        Role::Neither => Offered::Unfit,
+        Role::Files | Role::Neither => None,
     }
 }
 
 fn compares_time(role: Role) -> bool
     ensures { result ≡ compares_time role }
 {
-    match role {
-        Role::Changes => true,
-        Role::Cancels => true,
-        Role::Arrives => true,
-        Role::Delays => false,
-        Role::Departs => false,
-        Role::Files => false,
-        Role::Neither => false,
-    }
+    matches!(role, Role::Changes | Role::Cancels | Role::Arrives)
 }
 
 // Whether the time in field 13 is compared, and differs.
@@ -108,15 +89,7 @@ fn time_differs(role: Role, a: &[u8], b: &[u8]) -> bool
 fn compares_date(role: Role) -> bool
     ensures { result ≡ compares_date role }
 {
-    match role {
-        Role::Changes => true,
-        Role::Cancels => true,
-        Role::Departs => true,
-        Role::Delays => false,
-        Role::Arrives => false,
-        Role::Files => false,
-        Role::Neither => false,
-    }
+    matches!(role, Role::Changes | Role::Cancels | Role::Departs)
 }
 
 // Whether the dates in two contents of field 18 are compared, and differ: both carry one, and they are not the same.
@@ -225,12 +198,12 @@ fn offer<'a>(role: Role, held: Strip, plan: &'a [u8], said: &'a [u8], out: &mut 
     ensures { Offers role held plan.now said.now out.old result out.new }
 {
     match event_of(role, said) {
-        Offered::Unfit => Updated::Refused {
+        None => Updated::Refused {
             number: 14,
             field: 0,
             place: 0,
         },
-        Offered::Says(e) => {
+        Some(e) => {
             if differences_in(role, plan, said).any() {
                 return Updated::Refused {
                     number: 12,

@@ -1,6 +1,6 @@
 -- `beechdoublet::date_numbers` meets its contract. Assumes nothing.
 use Rattle.beechdoublet.proofs.date_numbers.Goals as goal
 
-pub returns-in-Known : goal.returns-in-Known
-returns-in-Known c =
-    rw c.in-Known.is
+pub returns-in-Some : goal.returns-in-Some
+returns-in-Some c =
+    rw c.in-Some.is
