@@ -2,7 +2,9 @@
 #![tactic(auto)]
 
 ghost use Rattle.std.specs.Prelude.{◌≡◌};
-ghost use Rattle.kinds.specs.Kinds.{least_of, greatest_of, role_of, RowFor, form_at, number_of, type_ranked, type_named};
+ghost use Rattle.kinds.specs.Kinds.{least_of, greatest_of, role_of, RowFor, form_at, number_of, type_ranked, type_named, type_refusal};
+
+use outer::Refusal;
 
 // The types that are read.
 #[derive(Clone, Copy)]
@@ -79,10 +81,9 @@ pub const BRIEF_18: usize = 4;
 
 pub const FIRST_ENTRY: usize = 5;
 
-// What three bytes name: a type that is read, a standard type that is not read, or none.
-#[derive(Clone, Copy)]
-pub enum Named {
-    Read(MessageType),
+// Why three bytes name no type that is read: they name a standard type that is not read, or none.
+#[derive(Clone, Copy, PartialEq, Eq)]
+pub enum TypeFault {
     NotRead,
     NoType,
 }
@@ -260,10 +261,7 @@ impl MessageType {
         ensures { result ≡ form_at self count j }
     {
         let row = self.row(count);
-        if j < MessageType::MOST_FIELDS {
-            return row[j];
-        }
-        Form::Field22
+        row.get(j).copied().unwrap_or(Form::Field22)
     }
 }
 
@@ -314,22 +312,34 @@ const TYPES_READ: [MessageType; 9] = [
     MessageType::Spl,
 ];
 
+// Number 4 or 5: field 3 names no type, or one that is not read.
+impl From<TypeFault> for Refusal {
+    ghost from_gives = { λ fault given. given ≡ type_refusal fault };
+
+    fn from(fault: TypeFault) -> Refusal {
+        Refusal {
+            number: match fault {
+                TypeFault::NoType => 4,
+                TypeFault::NotRead => 5,
+            },
+            field: 3,
+            place: 0,
+        }
+    }
+}
+
 // The type of a rank among the standard types.
-fn type_ranked(k: usize) -> Named
+fn type_ranked(k: usize) -> Result<MessageType, TypeFault>
     ensures { result ≡ type_ranked k }
 {
     if k == 0 {
-        return Named::NoType;
+        return Err(TypeFault::NoType);
     }
-    let read = TYPES_READ;
-    if k <= 9 {
-        return Named::Read(read[k - 1]);
-    }
-    Named::NotRead
+    TYPES_READ.get(k - 1).copied().ok_or(TypeFault::NotRead)
 }
 
 // The type that the three bytes behind ( name.
-pub fn type_named(three: &[u8]) -> Named
+pub fn type_named(three: &[u8]) -> Result<MessageType, TypeFault>
     ensures { result ≡ type_named three.now }
 {
     let k = text::rank_in_cells(
