@@ -12,15 +12,12 @@ use Rattle.text.specs.Lent.{front}
 use Rattle.pieces.specs.Pieces.{white_ahead, piece_end, pieces_of}
 use Rattle.pieces.proofs.Walk.{to_front, next_piece}
 use Rattle.kinds.specs.declared.MessageType.{MessageType}
-use Rattle.message.specs.declared.Answer.{Answer}
-use Rattle.message.specs.declared.Answer.TheVariants.{Accepted as ReadAs}
+use Rattle.message.specs.Answer.{Answer}
 use Rattle.message.specs.Reading.{is_plan, spelling_of, answer_of, written_as, out_after}
 use Rattle.message.proofs.Reached.{accepted_taken}
 use Rattle.state.specs.declared.Strip.{Strip}
 use Rattle.state.specs.State.{just_filed}
-use Rattle.strip.specs.declared.Updated.{Updated}
-use Rattle.strip.specs.declared.Updated.TheVariants.{Accepted, Refused}
-use Rattle.strip.specs.Updating.{update_of, out_after as new_after}
+use Rattle.strip.specs.Updating.{Updated, update_of, out_after as new_after}
 use Rattle.causes.specs.Causes.{Agree}
 use Rattle.causes.proofs.Agreed.{agrees}
 use Rattle.history.specs.Demand3.{Standing, put_as, updater, offered, offered_all}
@@ -29,20 +26,22 @@ use Rattle.history.proofs.Causes.{accepted_fits}
 use Rattle.desk.specs.declared.Held.{Held}
 use Rattle.desk.specs.declared.Held.TheVariants.{Nothing, Flight}
 use Rattle.desk.specs.Desk.{standing_in, InRoom, filing_as, answer_to, cause_to, filed_by, lent, offer_of, standing_after, after_all, held_after, Offering}
+use Rattle.std.specs.Prelude.{Ok, Err}
+use Rattle.outer.specs.Refusal.{refusal}
 
 -- FILING: `a` is what reading the piece gave, `after` what it left in the buffer
 
 module _ (buffer m after : List ℕ) (wide : length buffer ≡ 1800) where
   -- a piece that is not filed leaves the desk as it was
-  pub not_filed : (a : Answer) (number field place : ℕ) → answer_of m (length buffer) ≡ a → filing_as a ≡ Refused number field place
-      → Offering Nothing buffer m (Refused number field place) after
+  pub not_filed : (a : Answer) (number field place : ℕ) → answer_of m (length buffer) ≡ a → filing_as a ≡ Err (refusal number field place)
+      → Offering Nothing buffer m (Err (refusal number field place)) after
   not_filed a number field place e f =
-      let told : filing_as (answer_of m 1800) ≡ Refused number field place = ap filing_as (rw wide at e) ∙ f in
+      let told : filing_as (answer_of m 1800) ≡ Err (refusal number field place) = ap filing_as (rw wide at e) ∙ f in
       record { answer_is = sym told; standing_is = sym (ap (λ (u : Updated). filed_by u m) told); in_room = tt }
 
-  module _ (t : MessageType) (n : ℕ) (e : answer_of m (length buffer) ≡ ReadAs t n) where
-    pub other_type : is_plan t ≡ false → Offering Nothing buffer m (Refused 14 0 0) after
-    other_type p = not_filed (ReadAs t n) 14 0 0 e (rw p)
+  module _ (t : MessageType) (n : ℕ) (e : answer_of m (length buffer) ≡ Ok (t, n)) where
+    pub other_type : is_plan t ≡ false → Offering Nothing buffer m (Err (refusal 14 0 0)) after
+    other_type p = not_filed (Ok (t, n)) 14 0 0 e (rw p)
 
     filed_strip : is_plan t ≡ true → after ≡ out_after m buffer → take n after ≡ spelling_of MessageType.Fpl m
     unfolding out_after front
@@ -51,10 +50,10 @@ module _ (buffer m after : List ℕ) (wide : length buffer ≡ 1800) where
         ∙ take_at (spelling_of t m) (drop (length (spelling_of t m)) buffer) n (sym (accepted_taken t m (length buffer) n e).long)
         ∙ ap (λ (u : MessageType). spelling_of u m) (plan_type t p)
 
-    pub filed : is_plan t ≡ true → after ≡ out_after m buffer → Offering Nothing buffer m (Accepted just_filed n) after
+    pub filed : is_plan t ≡ true → after ≡ out_after m buffer → Offering Nothing buffer m (Ok (just_filed, n)) after
     filed p w =
         let k = accepted_taken t m (length buffer) n e in
-        let told : filing_as (answer_of m 1800) ≡ Accepted just_filed n = ap filing_as (rw wide at e) ∙ rw p in
+        let told : filing_as (answer_of m 1800) ≡ Ok (just_filed, n) = ap filing_as (rw wide at e) ∙ rw p in
         record {
           answer_is = sym told;
           standing_is =
@@ -75,19 +74,19 @@ module _ (held : Strip) (n : ℕ) (buffer m after : List ℕ) where
   answered u e = ap (λ (v : Updated). some (put_as v (new_after (take n buffer) held m lent) standing)) e
 
   -- a refusal leaves the strip
-  pub refused : (number field place : ℕ) → n ≤ 1800 → update_of (take n buffer) held m 1800 ≡ Refused number field place → after ≡ buffer
-      → Offering (Flight held n) buffer m (Refused number field place) after
+  pub refused : (number field place : ℕ) → n ≤ 1800 → update_of (take n buffer) held m 1800 ≡ Err (refusal number field place) → after ≡ buffer
+      → Offering (Flight held n) buffer m (Err (refusal number field place)) after
   refused number field place h e w =
       record {
         answer_is = sym e;
-        standing_is = ap (λ (s : List ℕ). some (record { strip = take n s; held = held })) w ∙ sym (answered (Refused number field place) e);
+        standing_is = ap (λ (s : List ℕ). some (record { strip = take n s; held = held })) w ∙ sym (answered (Err (refusal number field place)) e);
         in_room = h;
       }
 
   -- an accepted piece's new strip stands in its place
-  pub taken : (next : Strip) (k : ℕ) (new : List ℕ) → update_of (take n buffer) held m 1800 ≡ Accepted next k
+  pub taken : (next : Strip) (k : ℕ) (new : List ℕ) → update_of (take n buffer) held m 1800 ≡ Ok (next, k)
       → new ≡ new_after (take n buffer) held m lent → length new ≡ 1800 → after ≡ front (take k new) buffer
-      → Offering (Flight held n) buffer m (Accepted next k) after
+      → Offering (Flight held n) buffer m (Ok (next, k)) after
   unfolding front
   taken next k new e q l w =
       let h : k ≤ 1800 = accepted_fits (take n buffer) held m 1800 next k e in
@@ -97,7 +96,7 @@ module _ (held : Strip) (n : ℕ) (buffer m after : List ℕ) where
             ap (λ (s : List ℕ). some (record { strip = take k s; held = next })) w
             ∙ ap (λ (s : List ℕ). some (record { strip = s; held = next })) (take_at (take k new) _ k (length-take-le k new (omega arith)))
             ∙ ap (λ (s : List ℕ). some (record { strip = take k s; held = next })) q
-            ∙ sym (answered (Accepted next k) e);
+            ∙ sym (answered (Ok (next, k)) e);
         in_room = h;
       }
 

@@ -1,24 +1,22 @@
 -- The desk: what it holds, what it answers to a piece of its input, and what it holds after that. Assumes nothing.
-use Rattle.std.specs.Prelude.{ℕ, ◌≤◌, ◌≡◌, refl, cond, List, [], ◌∷◌, take, replicate}
+use Rattle.std.specs.Prelude.{ℕ, ◌≤◌, ◌≡◌, refl, cond, List, [], ◌∷◌, take, replicate, Ok, Err}
 use Rattle.std.proofs.Math.Option.{Option, none, some}
 use Rattle.alphabet.specs.Text.{bytes}
 use Rattle.text.specs.Words.{Word}
 use Rattle.outer.specs.Outer.{most}
 use Rattle.kinds.specs.declared.MessageType.TheVariants.{Fpl, Cnl}
-use Rattle.message.specs.declared.Answer.{Answer}
-use Rattle.message.specs.declared.Answer.TheVariants.{Accepted as ReadAs, Refused as NotRead}
+use Rattle.message.specs.Answer.{Answer}
 use Rattle.message.specs.Reading.{is_plan, answer_of}
 use Rattle.state.specs.declared.State.TheVariants.{Cancelled}
 use Rattle.state.specs.State.{just_filed}
-use Rattle.strip.specs.declared.Updated.{Updated}
-use Rattle.strip.specs.declared.Updated.TheVariants.{Accepted, Refused}
-use Rattle.strip.specs.Updating.{update_of}
+use Rattle.strip.specs.Updating.{Updated, update_of}
 use Rattle.causes.specs.declared.Cause.{Cause}
 use Rattle.causes.specs.declared.Cause.TheVariants.{NothingMore}
 use Rattle.causes.specs.Causes.{cause_of}
 use Rattle.history.specs.Demand3.{Standing, Offer, updater, offered, filed_as}
 use Rattle.desk.specs.declared.Held.{Held}
 use Rattle.desk.specs.declared.Held.TheVariants.{Nothing, Flight}
+use Rattle.outer.specs.Refusal.{refusal}
 
 -- THE BOARD: nothing, or a strip with its record
 
@@ -34,8 +32,8 @@ InRoom (Flight held n) = n ≤ most
 -- THE ANSWER: before there is a strip an accepted FPL is filed, and another type is not fit; once there is one, each piece is offered to it
 
 abbrev pub filing_as : Answer → Updated
-filing_as (ReadAs t n) = cond (is_plan t) (Accepted just_filed n) (Refused 14 0 0)
-filing_as (NotRead number field place) = Refused number field place
+filing_as (Ok (t, n)) = cond (is_plan t) (Ok (just_filed, n)) (Err (refusal 14 0 0))
+filing_as (Err r) = Err r
 
 abbrev pub answer_to : Option Standing → List ℕ → Updated
 answer_to none m = filing_as (answer_of m most)
@@ -56,8 +54,8 @@ abbrev pub offer_of : List ℕ → Offer
 offer_of m = record { bytes = m; lent = lent }
 
 abbrev pub filed_by : Updated → List ℕ → Option Standing
-filed_by (Accepted held n) m = some (filed_as m)
-filed_by (Refused number field place) m = none
+filed_by (Ok (held, n)) m = some (filed_as m)
+filed_by (Err r) m = none
 
 abbrev pub standing_after : Option Standing → List ℕ → Option Standing
 standing_after none m = filed_by (answer_to none m) m
@@ -69,8 +67,8 @@ after_all b [] = b
 after_all b (m ∷ ms) = after_all (standing_after b m) ms
 
 abbrev pub held_after : Updated → Held → Held
-held_after (Accepted held n) before = Flight held n
-held_after (Refused number field place) before = before
+held_after (Ok (held, n)) before = Flight held n
+held_after (Err r) before = before
 
 -- what an offer must do: the answer, and what the desk then holds, from what it held and the piece
 pub record Offering (before : Held) (buffer piece : List ℕ) (answer : Updated) (buffer' : List ℕ) : Type 0 where
@@ -85,6 +83,6 @@ in_front_lem : standing_in (Flight (record { state = Cancelled }) 5) (bytes "(FP
 in_front_lem = refl
 
 -- before there is a strip, only an FPL is fit
-first : (filing_as (ReadAs Fpl 70) ≡ Accepted just_filed 70) × (filing_as (ReadAs Cnl 27) ≡ Refused 14 0 0)
-    × (filing_as (NotRead 7 13 10) ≡ Refused 7 13 10)
+first : (filing_as (Ok (Fpl, 70)) ≡ Ok (just_filed, 70)) × (filing_as (Ok (Cnl, 27)) ≡ Err (refusal 14 0 0))
+    × (filing_as (Err (refusal 7 13 10)) ≡ Err (refusal 7 13 10))
 first = (refl, refl, refl)

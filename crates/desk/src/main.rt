@@ -9,7 +9,7 @@ ghost use Rattle.pieces.specs.Pieces.{pieces_of};
 ghost use Rattle.desk.specs.Desk.{standing_in, cause_to, standing_after, after_all, InRoom, Offering};
 
 use causes::Cause;
-use message::Answer;
+use outer::Refusal;
 use say::Console;
 use state::{State, Strip};
 use std::process::ExitCode;
@@ -27,32 +27,14 @@ fn file(piece: &[u8], strip: &mut [u8]) -> Updated
     requires { length strip.old ≡ most }
     ensures { Offering Held.Nothing strip.old piece.now result strip.new }
 {
-    match message::read(piece, strip) {
-        Answer::Accepted(t, n) => {
-            if !message::is_plan(t) {
-                return Updated::Refused {
-                    number: 14,
-                    field: 0,
-                    place: 0,
-                };
-            }
-            Updated::Accepted(
-                Strip {
-                    state: State::Filed,
-                },
-                n,
-            )
-        }
-        Answer::Refused {
-            number,
-            field,
-            place,
-        } => Updated::Refused {
-            number,
-            field,
-            place,
-        },
+    let (t, n) = message::read(piece, strip)?;
+    if !message::is_plan(t) {
+        return Err(Refusal::of(14));
     }
+    let filed = Strip {
+        state: State::Filed,
+    };
+    Ok((filed, n))
 }
 
 // Offers a piece to the strip in the first n bytes of `strip`, and puts the new strip in its place.
@@ -61,21 +43,9 @@ fn offer(held: Strip, n: usize, piece: &[u8], strip: &mut [u8]) -> Updated
     ensures { Offering (Held.Flight held n) strip.old piece.now result strip.new }
 {
     let mut new = [0u8; outer::MOST_BYTES];
-    match strip::update(&strip[..n], held, piece, &mut new) {
-        Updated::Accepted(next, k) => {
-            text::put(&new[..k], strip);
-            Updated::Accepted(next, k)
-        }
-        Updated::Refused {
-            number,
-            field,
-            place,
-        } => Updated::Refused {
-            number,
-            field,
-            place,
-        },
-    }
+    let (next, k) = strip::update(&strip[..n], held, piece, &mut new)?;
+    text::put(&new[..k], strip);
+    Ok((next, k))
 }
 
 // The answer to a piece, with what the desk then holds in `strip`.
@@ -106,16 +76,19 @@ fn take<R: Print>(console: &Console<'_, R>, desk: Held, piece: &[u8], strip: &mu
     ensures { (standing_in result strip.new ≡ standing_after (standing_in desk strip.old) piece.now) × InRoom result }
 {
     match answer(desk, piece, strip) {
-        Updated::Accepted(held, n) => {
+        Ok((held, n)) => {
             say::strip(console, held, &strip[..n]);
             Held::Flight(held, n)
         }
-        Updated::Refused {
-            number,
-            field,
-            place,
-        } => {
-            say_cause::refusal(console, number, field, place, cause(desk, piece, strip));
+        Err(refusal) => {
+            let why = cause(desk, piece, strip);
+            say_cause::refusal(
+                console,
+                refusal.number,
+                refusal.field,
+                refusal.place,
+                why,
+            );
             desk
         }
     }

@@ -14,8 +14,7 @@ use Rattle.kinds.specs.declared.MessageType.{MessageType}
 use Rattle.kinds.specs.declared.MessageType.TheVariants.{Chg, Dla}
 use Rattle.kinds.specs.declared.Role.{Role}
 use Rattle.kinds.specs.declared.Role.TheVariants.{Files, Changes, Delays, Cancels, Departs, Arrives, Neither}
-use Rattle.kinds.specs.Kinds.{role_of, plan3, plan7, plan8, plan9, plan10, plan13, plan15, plan16, plan18, first_entry}
-use Rattle.kinds.specs.Kinds.{brief13, brief16, brief17, brief18}
+use Rattle.kinds.specs.Kinds.{role_of, plan3, plan7, plan8, plan9, plan10, plan13, plan15, plan16, plan18, first_entry, brief13, brief16, brief17, brief18}
 use Rattle.other.specs.Rules.{base}
 use Rattle.state.specs.declared.Departure.{Departure}
 use Rattle.state.specs.declared.Departure.TheVariants.{Known, Unknown}

@@ -7,14 +7,12 @@
 ghost use Rattle.std.specs.Prelude.{◌≡◌, ◌+◌, ◌≤◌, ◌<◌, length};
 
 use aerodromes::Aerodrome;
-use asked::Asked;
+use asked::Place;
 use kinds::Form;
-use message::Answer;
 use say::{Console, print};
 use shape::Clock;
 use state::{Departure, State, Strip};
 use std::process::ExitCode;
-use strip::Updated;
 use text::Kind;
 
 // The most bytes of a line that is answered, the greatest room that can be lent, and the greatest field number that can be asked for.
@@ -195,16 +193,12 @@ fn read<R: Print>(console: &Console<'_, R>, msg: &[u8], room: usize) {
     }
     let mut out = [BEFORE; 1800];
     match message::read(msg, &mut out[0..room]) {
-        Answer::Accepted(t, n) => {
+        Ok((t, n)) => {
             say::accepted(console, t, spelling(&out, n));
             check_kept(console, &out, n);
         }
-        Answer::Refused {
-            number,
-            field,
-            place,
-        } => {
-            say::refusal(console, number, field, place);
+        Err(refusal) => {
+            say::refusal(console, refusal.number, refusal.field, refusal.place);
             check_kept(console, &out, 0);
         }
     }
@@ -239,13 +233,9 @@ fn show<'a, R: Print>(
     }
     let content = asked::in_force(strip, held, chg, number as u8);
     match asked::ask(strip, held, chg, number as u8) {
-        Asked::InStrip { from, to } => say_part(console, b"IN STRIP ", from, to, content),
-        Asked::InChange { from, to } => say_part(console, b"IN CHG ", from, to, content),
-        Asked::Refused {
-            number: n,
-            field,
-            place,
-        } => say::refusal(console, n, field, place),
+        Ok(Place::InStrip { from, to }) => say_part(console, b"IN STRIP ", from, to, content),
+        Ok(Place::InChange { from, to }) => say_part(console, b"IN CHG ", from, to, content),
+        Err(refusal) => say::refusal(console, refusal.number, refusal.field, refusal.place),
     }
 }
 
@@ -357,7 +347,7 @@ fn offer<R: Print>(
     let held = run.held;
     let mut out = [BEFORE; 1800];
     match strip::update(strip_held(plan, run.length), held, msg, &mut out[0..room]) {
-        Updated::Accepted(next, n) => {
+        Ok((next, n)) => {
             let new = spelling(&out, n);
             say::strip(console, next, new);
             check_kept(console, &out, n);
@@ -367,12 +357,8 @@ fn offer<R: Print>(
                 held: next,
             }
         }
-        Updated::Refused {
-            number,
-            field,
-            place,
-        } => {
-            say::refusal(console, number, field, place);
+        Err(refusal) => {
+            say::refusal(console, refusal.number, refusal.field, refusal.place);
             check_kept(console, &out, 0);
             run
         }
