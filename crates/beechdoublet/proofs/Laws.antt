@@ -9,6 +9,7 @@ use native.Mathlib.Omega.{arith}
 use lib.Dec.{eqb, ltb, leb}
 use lib.ListN.{length, drop, get_or}
 use borrow.Author.Tests.{ne_eqb, lt-ltb, le-ltb, ltb-true, ltb-false, leb-true}
+use Rattle.std.specs.Prelude.{Option as Optional, None, Some, Ok, Err}
 use Rattle.kinds.specs.declared.MessageType.{MessageType}
 use Rattle.kinds.specs.declared.MessageType.TheVariants.{Fpl}
 use Rattle.kinds.specs.declared.Role.TheVariants.{Changes}
@@ -35,8 +36,6 @@ use Rattle.dates.specs.declared.FlightDate.{FlightDate}
 use Rattle.dates.specs.declared.FlightDate.TheVariants.{Known as OnDay, Unknown as NoDay}
 use Rattle.parts.specs.declared.PlanParts.{PlanParts}
 use Rattle.parts.specs.Parts.{taken_as, taken_of, span_at, numbers_in, rank_in, field_in, field_as as numbered_as, field_of, plan_of, planned_as, planned_of}
-use Rattle.handed.specs.declared.Handed.{Handed}
-use Rattle.handed.specs.declared.Handed.TheVariants.{Held, NoState}
 use Rattle.beechdoublet.specs.Numbers.{type_number, read_number, read_numbers, update_number, update_numbers, asked_number, asked_numbers, field_told}
 use Rattle.beechdoublet.specs.Numbers.{asked_whole, part_number, part_numbers, part_whole, date_numbers, parts_numbers, plan_number, plan_numbers}
 use Rattle.handed.specs.States.{byte_of, handed_as}
@@ -44,7 +43,6 @@ use Rattle.handed.proofs.Laws.{state_one, handed_back}
 use Rattle.board_numbers.proofs.Zero.{refused_numbered}
 use Rattle.beechdoublet.specs.Handed.{update_as, state_as, asked_as}
 use Rattle.beechdoublet.specs.Laws.{was_read, was_taken, was_shown, Numbered, Told, was_given, Given, was_planned, NumberedPlan}
-use Rattle.std.specs.Prelude.{Ok, Err}
 use Rattle.outer.specs.Refusal.{refusal}
 use Rattle.asked.specs.declared.Place.TheVariants.{InChange, InStrip}
 
@@ -86,16 +84,16 @@ read_zero m room = go (answer_of m room) refl
 -- AN UPDATE
 
 -- a refusal has a number
-pub update_numbered : (h : Handed) (strip m : List ℕ) (room : ℕ) → Numbered (update_as h strip m room)
-update_numbered NoState strip m room = omega arith
-update_numbered (Held held) strip m room = go (update_of strip held m room) refl
+pub update_numbered : (h : Optional Strip) (strip m : List ℕ) (room : ℕ) → Numbered (update_as h strip m room)
+update_numbered None strip m room = omega arith
+update_numbered (Some held) strip m room = go (update_of strip held m room) refl
   where
     go : (u : Updated) → update_of strip held m room ≡ u → Numbered u
     go (Ok (next, n)) e = tt
     go (Err r) e = refused_numbered strip held m room r.number r.field r.place e
 
 -- 0 is given back exactly where the message is accepted
-pub update_zero : (h : Handed) (strip m : List ℕ) (room : ℕ) → eqb (update_number (update_as h strip m room)) 0 ≡ was_taken (update_as h strip m room)
+pub update_zero : (h : Optional Strip) (strip m : List ℕ) (room : ℕ) → eqb (update_number (update_as h strip m room)) 0 ≡ was_taken (update_as h strip m room)
 update_zero h strip m room = go (update_as h strip m room) (update_numbered h strip m room)
   where
     go : (u : Updated) → Numbered u → eqb (update_number u) 0 ≡ was_taken u
@@ -114,7 +112,7 @@ update_one ns (Err r) (Err r') hu hv e f = cc
 
 -- what an accepted message leaves can be handed in again
 pub next_handed : (ns strip m : List ℕ) (room : ℕ) (held next : Strip) (n : ℕ) → update_of strip held m room ≡ Ok (next, n)
-    → handed_as (state_as (update_of strip held m room) ns) ≡ Held next
+    → handed_as (state_as (update_of strip held m room) ns) ≡ Some next
 next_handed ns strip m room held next n e =
     let k : Took strip held m room next n = subst (Verdict strip held m room) e (verdict strip held m room) in
     ap (λ (u : Updated). handed_as (state_as u ns)) e
@@ -186,17 +184,18 @@ read_told strip chg number (Err r) e = pick (leb r.number 9)
     pick true = (refused-number chg most r.number r.field r.place e).0
     pick false = omega arith
 
-pub asked_told : (h : Handed) (strip chg : List ℕ) (number : ℕ) → Told (asked_as h strip chg number)
+pub asked_told : (h : Optional Strip) (strip chg : List ℕ) (number : ℕ) → Told (asked_as h strip chg number)
 unfolding asked_of opening_of
-asked_told NoState strip chg number = omega arith
-asked_told (Held held) strip chg number = go (sound held && canonical_plan strip)
+asked_told None strip chg number = omega arith
+asked_told (Some held) strip chg number = go (sound held && canonical_plan strip)
   where
     go : (b : Bool) → Told (opened_as (cond b (read_as (answer_of chg most)) (Err (refusal 15 0 0))) strip chg (byte_of number))
     go true = read_told strip chg (byte_of number) (answer_of chg most) refl
     go false = omega arith
 
 -- 0 is given back exactly where the field is shown
-pub asked_zero : (h : Handed) (strip chg : List ℕ) (number : ℕ) → eqb (asked_number (asked_as h strip chg number)) 0 ≡ was_shown (asked_as h strip chg number)
+pub asked_zero : (h : Optional Strip) (strip chg : List ℕ) (number : ℕ)
+    → eqb (asked_number (asked_as h strip chg number)) 0 ≡ was_shown (asked_as h strip chg number)
 asked_zero h strip chg number = go (asked_as h strip chg number) (asked_told h strip chg number)
   where
     go : (a : Asked) → Told a → eqb (asked_number a) 0 ≡ was_shown a

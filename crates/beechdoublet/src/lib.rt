@@ -19,12 +19,11 @@ ghost use Rattle.beechdoublet.specs.Causes.{flag, set_numbers, key_number, cause
 use asked::{Asked, Place};
 use causes::{Cause, Key};
 use dates::FlightDate;
-use handed::Handed;
 use kinds::MessageType;
 use message::Answer;
 use outer::Refusal;
 use parts::{Part, PlanParts, Planned};
-use state::State;
+use state::{State, Strip};
 use strip::{Differences, Updated};
 
 fn type_number(t: MessageType) -> u64
@@ -60,13 +59,13 @@ fn tell_read(a: Answer, answer: &mut [u64; 5]) -> u8
 }
 
 // Offers a message to a strip that is handed in; 15 where the numbers are no state.
-fn updated(strip: &[u8], h: Handed, msg: &[u8], out: &mut [u8]) -> Updated
+fn updated(strip: &[u8], h: Option<Strip>, msg: &[u8], out: &mut [u8]) -> Updated
     ensures { (result ≡ update_as h strip.now msg.now (length out.old))
         × (out.new ≡ out_as h strip.now msg.now out.old) }
 {
     match h {
-        Handed::Held(held) => strip::update(strip, held, msg, out),
-        Handed::NoState => Err(Refusal::of(15)),
+        Some(held) => strip::update(strip, held, msg, out),
+        None => Err(Refusal::of(15)),
     }
 }
 
@@ -76,8 +75,7 @@ fn tell_update(u: Updated, state: &mut [u64; 8], answer: &mut [u64; 4]) -> u8
 {
     match u {
         Ok((next, n)) => {
-            let s = next.state;
-            *state = handed::state_numbers(s);
+            *state = handed::state_numbers(next.state);
             *answer = [0, 0, 0, n as u64];
             0
         }
@@ -89,13 +87,13 @@ fn tell_update(u: Updated, state: &mut [u64; 8], answer: &mut [u64; 4]) -> u8
 }
 
 // Asks a strip that is handed in for a field in force; 15 where the numbers are no state.
-fn asked_of(strip: &[u8], h: Handed, chg: &[u8], number: u64) -> Asked
+fn asked_of(strip: &[u8], h: Option<Strip>, chg: &[u8], number: u64) -> Asked
     ensures { (result ≡ asked_as h strip.now chg.now number)
         × Shows result strip.now chg.now (content_asked strip.now chg.now number) }
 {
     match h {
-        Handed::Held(held) => asked::ask(strip, held, chg, handed::byte_of(number)),
-        Handed::NoState => Err(Refusal::of(15)),
+        Some(held) => asked::ask(strip, held, chg, handed::byte_of(number)),
+        None => Err(Refusal::of(15)),
     }
 }
 
@@ -237,8 +235,8 @@ pub extern "C" fn beechdoublet_update(
         ≡ state_as (update_as (handed_as state.old) strip.now msg.now (length out.old)) state.old)
         × (out.new ≡ out_as (handed_as state.old) strip.now msg.now out.old) }
 {
-    let h = handed::hand_in(state);
-    tell_update(updated(strip, h, msg, out), state, answer)
+    let held = handed::hand_in(state);
+    tell_update(updated(strip, held, msg, out), state, answer)
 }
 
 // Whether a strip may be handed in with these numbers: they are those of a state, and it is sound.
@@ -247,8 +245,8 @@ pub extern "C" fn beechdoublet_sound(state: &[u64; 8]) -> bool
     ensures { result ≡ sound_as (handed_as state.now) }
 {
     match handed::hand_in(state) {
-        Handed::Held(held) => held.is_sound(),
-        Handed::NoState => false,
+        Some(held) => held.is_sound(),
+        None => false,
     }
 }
 
@@ -297,12 +295,12 @@ pub extern "C" fn beechdoublet_plan(strip: &[u8], answer: &mut [u64; 19]) -> u8
 }
 
 // Why an update of a strip that is handed in is refused; nothing more where the numbers are no state.
-fn cause_as(strip: &[u8], h: Handed, msg: &[u8]) -> Cause
+fn cause_as(strip: &[u8], h: Option<Strip>, msg: &[u8]) -> Cause
     ensures { result ≡ cause_as h strip.now msg.now }
 {
     match h {
-        Handed::Held(held) => causes::cause_of(strip, held, msg),
-        Handed::NoState => Cause::NothingMore,
+        Some(held) => causes::cause_of(strip, held, msg),
+        None => Cause::NothingMore,
     }
 }
 

@@ -36,9 +36,8 @@ use Rattle.parts.specs.Shown.{Shows as ShowsField, ShowsPlan}
 use Rattle.history.specs.Demand3.{Standing, Offer}
 use Rattle.rooms.specs.Rooms.{Call}
 use Rattle.rooms.specs.declared.Firm.{Firm}
-use Rattle.racks.specs.declared.Place.{Place}
 use Rattle.racks.specs.declared.Board.{Board}
-use Rattle.racks.specs.Places.{Puts as PutsIn}
+use Rattle.racks.specs.Places.{Place, Puts as PutsIn}
 use Rattle.board.specs.declared.Turn.{Turn}
 use Rattle.board.specs.Turns.{Turned, clearing, Clearing}
 use Rattle.board.proofs.Turns.{turned_one}

@@ -8,6 +8,7 @@ use mathlib.Core.Option.{get_or}
 use native.Mathlib.Omega.{arith}
 use lib.ListN.{length, take, drop}
 use lib.Seq.{take_at, drop_at}
+use Rattle.std.specs.Prelude.{None}
 use Rattle.text.specs.Words.{Word}
 use Rattle.text.specs.Lent.{front}
 use Rattle.sent.specs.Sent.{message_of, contents}
@@ -20,7 +21,6 @@ use Rattle.message.proofs.Valid.{Fitting, reached_passed}
 use Rattle.message.proofs.Canonical.{accepted_shorter}
 use Rattle.state.specs.declared.State.{State}
 use Rattle.state.specs.declared.State.TheVariants.{Filed}
-use Rattle.state.specs.declared.Departure.TheVariants.{Unknown}
 use Rattle.state.specs.declared.Strip.{Strip}
 use Rattle.state.specs.State.{just_filed, sound, next_state}
 use Rattle.state.proofs.Laws.{next_sound}
@@ -201,7 +201,7 @@ demand3 m room n e run =
       held_is = refl;
       stays_proper = subst (λ (w : List ℕ). Proper w b.held) spelt h.proper;
       parts = λ f. latest_left (given f) (filed f) log;
-      departed = latest_left departs Unknown log;
+      departed = latest_left departs None log;
       stated = subst (Left (becomes (departure_by log)) Filed log) (sym h.state_is) (latest_left (becomes (departure_by log)) Filed log);
       refused_cause = λ o number field place q.
           subst (λ (w : List ℕ). Cause w b.held o.bytes (length o.lent) number field place) spelt

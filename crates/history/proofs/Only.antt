@@ -5,22 +5,20 @@ use mathlib.Core.Path.{◌≡◌, refl, sym, ap, ap₂, subst, ◌∙◌}
 use mathlib.Core.Bool.{false≢true}
 use mathlib.Core.List.{List, [], ◌∷◌, ◌++◌, append_assoc}
 use lib.ListN.{length}
+use Rattle.std.specs.Prelude.{None, Ok, Err}
 use Rattle.sent.specs.Sent.{contents}
 use Rattle.kinds.specs.declared.MessageType.TheVariants.{Fpl}
 use Rattle.message.specs.Reading.{answer_of}
-use Rattle.state.specs.declared.Departure.{Departure}
-use Rattle.state.specs.declared.Departure.TheVariants.{Unknown}
 use Rattle.state.specs.declared.State.{State}
 use Rattle.state.specs.declared.State.TheVariants.{Filed}
 use Rattle.state.specs.declared.Strip.{Strip}
 use Rattle.strip.specs.Updating.{Updated, update_of}
-use Rattle.history.specs.History.{plan_in, spelled, Told, departs, becomes, latest, plan_by, held_by}
+use Rattle.history.specs.History.{plan_in, spelled, Told, Departure, departs, becomes, latest, plan_by, held_by}
 use Rattle.history.specs.Demand3.{Updater, updater, Standing, Offer, told, entered_as, answered, offered, offered_all, log_all, Cause, filed_as, Meets}
 use Rattle.history.proofs.Causes.{refused_cause}
 use Rattle.history.proofs.Latest.{left_latest}
 use Rattle.history.proofs.Demand3.{demand3}
 use Rattle.history.proofs.Refuted.{accepts, meets_strip, meets_refused}
-use Rattle.std.specs.Prelude.{Ok, Err}
 use Rattle.outer.specs.Refusal.{refusal}
 
 -- A RUN AND ONE OFFER MORE
@@ -46,7 +44,7 @@ module _ (m : List ℕ) (room n : ℕ) (e : answer_of m room ≡ Ok (Fpl, n)) wh
       d.held_is
       ∙ ap {B = Strip} (λ (x : State). record { state = x })
       (left_latest (becomes d.departure) Filed log d.held.state d.stated
-      ∙ ap (λ (x : Departure). latest (becomes x) Filed log) (left_latest departs Unknown log d.departure d.departed))
+      ∙ ap (λ (x : Departure). latest (becomes x) Filed log) (left_latest departs None log d.departure d.departed))
 
   module _ (U : Updater) (h : Meets U) where
     abbrev SameLog : List Offer → Type 0

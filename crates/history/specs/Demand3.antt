@@ -1,6 +1,6 @@
 -- The third demand (document 00), of any updater: what an updater is, a strip and the messages offered to it, the causes for which document 01
 -- lets a message be refused, and what must hold after any run of offers. Assumes nothing.
-use Rattle.std.specs.Prelude.{ℕ, ◌≤◌, ◌<◌, ◌≡◌, Bool, true, false, List, [], ◌∷◌, length, take, drop, get_or, Ok, Err}
+use Rattle.std.specs.Prelude.{ℕ, ◌≤◌, ◌<◌, ◌≡◌, Bool, true, false, None, List, [], ◌∷◌, length, take, drop, get_or, Ok, Err}
 use Rattle.text.specs.Words.{Word, before}
 use Rattle.outer.specs.Outer.{most}
 use Rattle.sent.specs.Sent.{contents}
@@ -11,15 +11,13 @@ use Rattle.kinds.specs.declared.Role.TheVariants.{Files, Changes, Delays, Cancel
 use Rattle.kinds.specs.Kinds.{role_of, brief7, brief13, brief16, brief18}
 use Rattle.message.specs.Answer.{Answer}
 use Rattle.message.specs.Reading.{unexplained_in, spelling_of, answer_of}
-use Rattle.state.specs.declared.Departure.{Departure}
-use Rattle.state.specs.declared.Departure.TheVariants.{Unknown}
 use Rattle.state.specs.declared.State.{State}
 use Rattle.state.specs.declared.State.TheVariants.{Filed, Departed, Arrived, Cancelled}
 use Rattle.state.specs.declared.Strip.{Strip}
 use Rattle.state.specs.State.{just_filed, sound}
 use Rattle.strip.specs.Updating.{Updated, update_of, out_after}
 use Rattle.history.specs.Eighteen.{date_told}
-use Rattle.history.specs.History.{Part, Plan, plan_in, nine, spelled, Told, given, with_told, departs, becomes, Left}
+use Rattle.history.specs.History.{Part, Plan, plan_in, nine, spelled, Told, given, with_told, Departure, departs, becomes, Left}
 use Rattle.history.specs.History.Part.{identification, aerodrome, off_block, destination, date}
 use Rattle.outer.specs.Refusal.{refusal}
 
@@ -200,7 +198,7 @@ pub record Demand3 (U : Updater) (filed : List Word) (start : Standing) (run : L
   pub stays_proper : Proper (spelled plan) held
   -- every part as the last accepted CHG or DLA that set it left it, or as filed; the state and the actual times
   pub parts : (f : Part) → Left (given f) (plan_in filed f) (log_all U start [] run) (plan f)
-  pub departed : Left departs Unknown (log_all U start [] run) departure
+  pub departed : Left departs None (log_all U start [] run) departure
   pub stated : Left (becomes departure) Filed (log_all U start [] run) held.state
   -- the next message is refused exactly where there is a cause, and then nothing lent is changed
   pub refused_cause : (o : Offer) (number field place : ℕ) → answered U (offered_all U start run) o ≡ Err (refusal number field place)
