@@ -18,17 +18,18 @@ use Rattle.kinds.specs.declared.MessageType.{MessageType}
 use Rattle.kinds.specs.declared.Role.TheVariants.{Changes}
 use Rattle.message.specs.Reading.{spelling_of}
 use Rattle.state.specs.declared.Strip.{Strip}
-use Rattle.opening.specs.declared.Opening.{Opening}
-use Rattle.opening.specs.declared.Opening.TheVariants.{Read, Refused as NotOpened}
+use Rattle.message.specs.Answer.{Answer}
 use Rattle.opening.specs.Opening.{opening_of}
 use Rattle.force.specs.declared.Span.{Span}
 use Rattle.force.specs.InForce.{in_force, named_by, bare, place_of, FoundIn}
 use Rattle.force.proofs.Walk.{in_chg, in_plan, place_at, drop-take}
 use Rattle.strip.specs.Updating.{differences, differs}
-use Rattle.asked.specs.declared.Asked.{Asked}
-use Rattle.asked.specs.declared.Asked.TheVariants.{InStrip, InChange, Refused}
+use Rattle.asked.specs.Asking.{Asked}
 use Rattle.asked.specs.Asking.{rank_of, stands_in, stands_as, field_as, is_bare, bare_as, flight_as, is_change, type_as, opened_as, asked_of, shown, StandsAt}
 use Rattle.asked.specs.Parts.{PartOf, PartBehind, Shows, ShowsText}
+use Rattle.std.specs.Prelude.{Ok, Err}
+use Rattle.outer.specs.Refusal.{refusal}
+use Rattle.asked.specs.declared.Place.TheVariants.{InChange, InStrip}
 
 -- WHERE IT STANDS, from the texts
 
@@ -47,20 +48,20 @@ module _ (plan said : List ℕ) (k : ℕ) where
       → length (in_force plan said k) ≡ to - from
   long s from to l b c = sym (ap length c) ∙ length-take-le (to - from) (drop from s) (omega (arith, l, b, length-drop from s))
 
-  pub in_change : (s : Span) → FoundIn said k (Some s) → Stood (InChange (s.from + 1) (s.to + 1))
+  pub in_change : (s : Span) → FoundIn said k (Some s) → Stood (Ok (InChange (s.from + 1) (s.to + 1)))
   in_change s h =
       let c = in_chg plan said k s h in
       let f : suc s.from ≡ s.from + 1 = omega arith in
       let t : suc s.from + length (in_force plan said k) ≡ s.to + 1 = omega (arith, h.0, long said s.from s.to h.0 h.1 c) in
-      (sym (ap (λ (o : Option ℕ). stands_in o plan said k) h.3 ∙ ap₂ InChange f t), one_less said s.from s.to h.0 h.1 c)
+      (sym (ap (λ (o : Option ℕ). stands_in o plan said k) h.3 ∙ ap₂ (λ (x y : ℕ). Ok (InChange x y)) f t), one_less said s.from s.to h.0 h.1 c)
 
   pub in_strip : (at e : ℕ) → FoundIn said k None → at ≤ length plan → drop at plan ≡ behind_hyphen k plan
-      → e ≡ at + up_to 45 (drop at plan) → at ≤ e → e ≤ length plan → Stood (InStrip (at + 1) (e + 1))
+      → e ≡ at + up_to 45 (drop at plan) → at ≤ e → e ≤ length plan → Stood (Ok (InStrip (at + 1) (e + 1)))
   in_strip at e h l d end ae el =
       let c = in_plan plan said k at e h d end in
       let f : suc (place_of plan k) ≡ at + 1 = omega (arith, place_at k at plan l d) in
       let t : suc (place_of plan k) + length (in_force plan said k) ≡ e + 1 = omega (arith, place_at k at plan l d, ae, long plan at e ae el c) in
-      (sym (ap (λ (o : Option ℕ). stands_in o plan said k) h.1 ∙ ap₂ InStrip f t), one_less plan at e ae el c)
+      (sym (ap (λ (o : Option ℕ). stands_in o plan said k) h.1 ∙ ap₂ (λ (x y : ℕ). Ok (InStrip x y)) f t), one_less plan at e ae el c)
 
 -- A DESTINATION ALONE, in the CHG's text
 
@@ -78,24 +79,24 @@ module _ (plan said : List ℕ) (number : ℕ) where
   Told r = (r ≡ flight_as plan said number) × ShowsText r plan said (in_force plan said (rank_of number))
 
   by_differences : (b : Bool) → differs (differences Changes (split 45 plan) (split 45 said)) ≡ b
-      → flight_as plan said number ≡ cond b (Refused 12 0 0) (bare_as plan said number)
-  by_differences b e = ap (λ (x : Bool). cond x (Refused 12 0 0) (bare_as plan said number)) e
+      → flight_as plan said number ≡ cond b (Err (refusal 12 0 0)) (bare_as plan said number)
+  by_differences b e = ap (λ (x : Bool). cond x (Err (refusal 12 0 0)) (bare_as plan said number)) e
 
-  pub other_flight : differs (differences Changes (split 45 plan) (split 45 said)) ≡ true → Told (Refused 12 0 0)
+  pub other_flight : differs (differences Changes (split 45 plan) (split 45 said)) ≡ true → Told (Err (refusal 12 0 0))
   other_flight e = (sym (by_differences true e), tt)
 
   module _ (same-flight : differs (differences Changes (split 45 plan) (split 45 said)) ≡ false) (k : ℕ) (rank : k ≡ rank_of number) where
-    by_bare : (b : Bool) → is_bare k (named_by said k) ≡ b → flight_as plan said number ≡ cond b (Refused 17 0 0) (field_as plan said number)
+    by_bare : (b : Bool) → is_bare k (named_by said k) ≡ b → flight_as plan said number ≡ cond b (Err (refusal 17 0 0)) (field_as plan said number)
     by_bare b e =
         by_differences false same-flight
-        ∙ ap (λ (i : ℕ). cond (is_bare i (named_by said i)) (Refused 17 0 0) (field_as plan said number)) (sym rank)
-        ∙ ap (λ (x : Bool). cond x (Refused 17 0 0) (field_as plan said number)) e
+        ∙ ap (λ (i : ℕ). cond (is_bare i (named_by said i)) (Err (refusal 17 0 0)) (field_as plan said number)) (sym rank)
+        ∙ ap (λ (x : Bool). cond x (Err (refusal 17 0 0)) (field_as plan said number)) e
 
-    pub neither_whole : is_bare k (named_by said k) ≡ true → Told (Refused 17 0 0)
+    pub neither_whole : is_bare k (named_by said k) ≡ true → Told (Err (refusal 17 0 0))
     neither_whole e = (sym (by_bare true e), tt)
 
     module _ (whole : is_bare k (named_by said k) ≡ false) where
-      pub not_named : k ≡ 0 → Told (Refused 8 number 0)
+      pub not_named : k ≡ 0 → Told (Err (refusal 8 number 0))
       not_named z = (sym (by_bare false whole ∙ rw (eq-eqb (rank_of number) 0 (sym rank ∙ z))), tt)
 
       pub asked_for : (k ≡ 0 → ⊥) → (r : Asked) → Stood plan said k r → Told r
@@ -123,9 +124,9 @@ inner_part s from to w two h =
 
 module _ (strip chg : List ℕ) (w : Word) (two : 2 ≤ length strip) (two' : 2 ≤ length chg) where
   shows : (r : Asked) → ShowsText r (inner strip) (inner chg) w → Shows r strip chg w
-  shows (InStrip from to) h = inner_part strip from to w two h
-  shows (InChange from to) h = inner_part chg from to w two' h
-  shows (Refused number field place) h = tt
+  shows (Ok (InStrip from to)) h = inner_part strip from to w two h
+  shows (Ok (InChange from to)) h = inner_part chg from to w two' h
+  shows (Err r) h = tt
 
 -- 14 AND 17
 
@@ -136,12 +137,12 @@ module _ (t : MessageType) (spelled strip chg : List ℕ) (number : ℕ) where
   abbrev pub Answered : Asked → Type 0
   Answered r = (r ≡ type_as t spelled strip chg number) × Shows r strip chg (in_force (inner strip) (inner chg) (rank_of number))
 
-  pub no_change : is_change t ≡ false → Answered (Refused 14 0 0)
+  pub no_change : is_change t ≡ false → Answered (Err (refusal 14 0 0))
   unfolding type_as
   no_change e = (sym (rw e), tt)
 
   module _ (change : is_change t ≡ true) where
-    pub not_spelled : same spelled chg ≡ false → Answered (Refused 17 0 0)
+    pub not_spelled : same spelled chg ≡ false → Answered (Err (refusal 17 0 0))
     unfolding type_as
     not_spelled e = (sym (rw (change, e)), tt)
 
@@ -162,16 +163,16 @@ module _ (strip : List ℕ) (held : Strip) (chg : List ℕ) (number : ℕ) where
   abbrev pub Whole : Asked → Type 0
   Whole r = (r ≡ asked_of strip held chg number) × Shows r strip chg (in_force (inner strip) (inner chg) (rank_of number))
 
-  by_opening : (o : Opening) → opening_of strip held chg ≡ o → asked_of strip held chg number ≡ opened_as o strip chg number
+  by_opening : (o : Answer) → opening_of strip held chg ≡ o → asked_of strip held chg number ≡ opened_as o strip chg number
   unfolding asked_of
-  by_opening o e = ap (λ (x : Opening). opened_as x strip chg number) e
+  by_opening o e = ap (λ (x : Answer). opened_as x strip chg number) e
 
-  pub not_opened : (n field place : ℕ) → opening_of strip held chg ≡ NotOpened n field place → Whole (Refused n field place)
-  not_opened n field place e = (sym (by_opening (NotOpened n field place) e), tt)
+  pub not_opened : (n field place : ℕ) → opening_of strip held chg ≡ Err (refusal n field place) → Whole (Err (refusal n field place))
+  not_opened n field place e = (sym (by_opening (Err (refusal n field place)) e), tt)
 
-  pub was_opened : (t : MessageType) (n : ℕ) → opening_of strip held chg ≡ Read t n → (spelled : List ℕ) → spelled ≡ spelling_of t chg
+  pub was_opened : (t : MessageType) (n : ℕ) → opening_of strip held chg ≡ Ok (t, n) → (spelled : List ℕ) → spelled ≡ spelling_of t chg
       → (r : Asked) → Answered t spelled strip chg number r → Whole r
-  was_opened t n e spelled s r h = (h.0 ∙ ap (λ (x : List ℕ). type_as t x strip chg number) s ∙ sym (by_opening (Read t n) e), h.1)
+  was_opened t n e spelled s r h = (h.0 ∙ ap (λ (x : List ℕ). type_as t x strip chg number) s ∙ sym (by_opening (Ok (t, n)) e), h.1)
 
 -- THE PART SHOWN
 

@@ -1,6 +1,6 @@
 -- The field in force, as the desk asks for it (document 01, "The strip"): given strip, its record, CHG and a field number, where that content
 -- stands, or the refusal. Assumes nothing.
-use Rattle.std.specs.Prelude.{ℕ, suc, ◌+◌, ◌≡◌, refl, Bool, true, false, cond, List, [], eqb, length, take, drop}
+use Rattle.std.specs.Prelude.{ℕ, suc, ◌+◌, ◌≡◌, refl, Bool, true, false, cond, List, [], eqb, length, take, drop, Result, Ok, Err}
 use Rattle.std.proofs.Math.Option.{Option, none, some}
 use Rattle.alphabet.specs.Text.{bytes}
 use Rattle.text.specs.Words.{Word, split, same}
@@ -16,13 +16,14 @@ use Rattle.other.specs.Field18.{words_under}
 use Rattle.forms.specs.Field22.{labels}
 use Rattle.message.specs.Reading.{spelling_of}
 use Rattle.state.specs.declared.Strip.{Strip}
-use Rattle.opening.specs.declared.Opening.{Opening}
-use Rattle.opening.specs.declared.Opening.TheVariants.{Read, Refused as NotOpened}
+use Rattle.message.specs.Answer.{Answer}
 use Rattle.opening.specs.Opening.{opening_of}
 use Rattle.force.specs.InForce.{in_force, named_by, named_at, bare, place_of}
 use Rattle.strip.specs.Updating.{differences, differs}
-use Rattle.asked.specs.declared.Asked.{Asked}
-use Rattle.asked.specs.declared.Asked.TheVariants.{InStrip, InChange, Refused}
+use Rattle.outer.specs.declared.Refusal.{Refusal}
+use Rattle.asked.specs.declared.Place.{Place}
+use Rattle.outer.specs.Refusal.{refusal}
+use Rattle.asked.specs.declared.Place.TheVariants.{InChange, InStrip}
 
 -- THE NUMBER ASKED: the eight that an entry may name have as ranks their places in an FPL; any other has none
 
@@ -37,11 +38,15 @@ rank_of n =
     (cond (eqb n 16) plan16
     (cond (eqb n 18) plan18 0)))))))
 
+-- where it stands, or the refusal
+abbrev pub Asked : Type 0
+Asked = Result Place Refusal
+
 -- WHERE IT STANDS: a content in force begins at this place of its text, and a text begins one byte behind its message
 
 abbrev pub stands_in : Option ℕ → List ℕ → List ℕ → ℕ → Asked
-stands_in (some at) plan said k = InChange (suc at) (suc at + length (in_force plan said k))
-stands_in none plan said k = InStrip (suc (place_of plan k)) (suc (place_of plan k) + length (in_force plan said k))
+stands_in (some at) plan said k = Ok (InChange (suc at) (suc at + length (in_force plan said k)))
+stands_in none plan said k = Ok (InStrip (suc (place_of plan k)) (suc (place_of plan k) + length (in_force plan said k)))
 
 abbrev pub stands_as : List ℕ → List ℕ → ℕ → Asked
 stands_as plan said k = stands_in (named_at said k) plan said k
@@ -50,7 +55,7 @@ stands_as plan said k = stands_in (named_at said k) plan said k
 
 -- 8, with the number asked as its field
 abbrev pub field_as : List ℕ → List ℕ → ℕ → Asked
-field_as plan said number = cond (eqb (rank_of number) 0) (Refused 8 number 0) (stands_as plan said (rank_of number))
+field_as plan said number = cond (eqb (rank_of number) 0) (Err (refusal 8 number 0)) (stands_as plan said (rank_of number))
 
 -- 17: field 16, where the CHG has a destination alone for it, so that the field in force lies in neither message whole
 abbrev pub is_bare : ℕ → Option Word → Bool
@@ -58,11 +63,11 @@ is_bare k none = false
 is_bare k (some c) = bare k c
 
 abbrev pub bare_as : List ℕ → List ℕ → ℕ → Asked
-bare_as plan said number = cond (is_bare (rank_of number) (named_by said (rank_of number))) (Refused 17 0 0) (field_as plan said number)
+bare_as plan said number = cond (is_bare (rank_of number) (named_by said (rank_of number))) (Err (refusal 17 0 0)) (field_as plan said number)
 
 -- 12: the message is for another flight
 abbrev pub flight_as : List ℕ → List ℕ → ℕ → Asked
-flight_as plan said number = cond (differs (differences Changes (split 45 plan) (split 45 said))) (Refused 12 0 0) (bare_as plan said number)
+flight_as plan said number = cond (differs (differences Changes (split 45 plan) (split 45 said))) (Err (refusal 12 0 0)) (bare_as plan said number)
 
 abbrev pub changes : Role → Bool
 changes Changes = true
@@ -80,12 +85,12 @@ is_change t = changes (role_of t)
 unfoldable pub type_as : MessageType → List ℕ → List ℕ → List ℕ → ℕ → Asked
 type_as t spelled strip chg number =
     cond (is_change t)
-    (cond (same spelled chg) (flight_as (inner strip) (inner chg) number) (Refused 17 0 0))
-    (Refused 14 0 0)
+    (cond (same spelled chg) (flight_as (inner strip) (inner chg) number) (Err (refusal 17 0 0)))
+    (Err (refusal 14 0 0))
 
-abbrev pub opened_as : Opening → List ℕ → List ℕ → ℕ → Asked
-opened_as (NotOpened n field place) strip chg number = Refused n field place
-opened_as (Read t n) strip chg number = type_as t (spelling_of t chg) strip chg number
+abbrev pub opened_as : Answer → List ℕ → List ℕ → ℕ → Asked
+opened_as (Err r) strip chg number = Err r
+opened_as (Ok (t, n)) strip chg number = type_as t (spelling_of t chg) strip chg number
 
 unfoldable pub asked_of : List ℕ → Strip → List ℕ → ℕ → Asked
 asked_of strip held chg number = opened_as (opening_of strip held chg) strip chg number
@@ -94,15 +99,15 @@ asked_of strip held chg number = opened_as (opening_of strip held chg) strip chg
 
 -- its bytes: the content in force, and none of a refusal
 abbrev pub shown : Asked → List ℕ → List ℕ → ℕ → Word
-shown (InStrip from to) strip chg number = in_force (inner strip) (inner chg) (rank_of number)
-shown (InChange from to) strip chg number = in_force (inner strip) (inner chg) (rank_of number)
-shown (Refused n field place) strip chg number = []
+shown (Ok (InStrip from to)) strip chg number = in_force (inner strip) (inner chg) (rank_of number)
+shown (Ok (InChange from to)) strip chg number = in_force (inner strip) (inner chg) (rank_of number)
+shown (Err r) strip chg number = []
 
 -- its place: in which of the two slices, and how far from its start; a refusal at the strip's start
 abbrev pub StandsAt : {A : Type 0} → Asked → (strip-block : A) (strip-place : ℕ) (chg-block : A) (chg-place : ℕ) (block : A) (place : ℕ) → Type 0
-StandsAt (InStrip from to) sb sp cb cp block place = (block ≡ sb) × (place ≡ from + sp)
-StandsAt (InChange from to) sb sp cb cp block place = (block ≡ cb) × (place ≡ from + cp)
-StandsAt (Refused n field place') sb sp cb cp block place = (block ≡ sb) × (place ≡ sp)
+StandsAt (Ok (InStrip from to)) sb sp cb cp block place = (block ≡ sb) × (place ≡ from + sp)
+StandsAt (Ok (InChange from to)) sb sp cb cp block place = (block ≡ cb) × (place ≡ from + cp)
+StandsAt (Err r) sb sp cb cp block place = (block ≡ sb) × (place ≡ sp)
 
 -- EXAMPLES, computed
 
@@ -113,8 +118,8 @@ abbrev said : List ℕ
 said = bytes "CHG-ABC12-EHAM0930-EDDF-0-9/B39M/M-8/IN"
 
 -- field 9 stands in the CHG, 10 in the strip, 3 and 22 cannot be asked for
-asked : (flight_as plan said 9 ≡ InChange 29 35) × (flight_as plan said 10 ≡ InStrip 21 27)
-    × (flight_as plan said 3 ≡ Refused 8 3 0) × (flight_as plan said 22 ≡ Refused 8 22 0)
+asked : (flight_as plan said 9 ≡ Ok (InChange 29 35)) × (flight_as plan said 10 ≡ Ok (InStrip 21 27))
+    × (flight_as plan said 3 ≡ Err (refusal 8 3 0)) × (flight_as plan said 22 ≡ Err (refusal 8 22 0))
 unfolding named_at named_by labels behind_hyphen words_under
 asked = (refl, refl, refl, refl)
 
@@ -126,16 +131,17 @@ parts = (refl, refl)
 abbrev diverted : List ℕ
 diverted = bytes "CHG-ABC12-EHAM0930-EDDF-0-16/EDDN-8/IN"
 
-destinations : (flight_as plan diverted 16 ≡ Refused 17 0 0) × (flight_as plan diverted 8 ≡ InChange 37 39) × (flight_as plan diverted 9 ≡ InStrip 14 20)
-    × (flight_as plan diverted 17 ≡ Refused 8 17 0)
-    × (flight_as plan (bytes "CHG-ABC12-EHAM0930-EDDF-0-16/EDDN0100") 16 ≡ InChange 30 38) × (flight_as plan said 16 ≡ InStrip 59 72)
+destinations : (flight_as plan diverted 16 ≡ Err (refusal 17 0 0)) × (flight_as plan diverted 8 ≡ Ok (InChange 37 39))
+    × (flight_as plan diverted 9 ≡ Ok (InStrip 14 20))
+    × (flight_as plan diverted 17 ≡ Err (refusal 8 17 0))
+    × (flight_as plan (bytes "CHG-ABC12-EHAM0930-EDDF-0-16/EDDN0100") 16 ≡ Ok (InChange 30 38)) × (flight_as plan said 16 ≡ Ok (InStrip 59 72))
 unfolding named_at named_by labels behind_hyphen four_letters words_under
 destinations = (refl, refl, refl, refl, refl, refl)
 
 -- another flight; the number asked is looked at last
-other : (flight_as plan (bytes "CHG-ABC13-EHAM0930-EDDF-0-9/B39M/M") 9 ≡ Refused 12 0 0)
-    × (flight_as plan (bytes "CHG-ABC13-EHAM0930-EDDF-0-9/B39M/M") 3 ≡ Refused 12 0 0)
-    × (flight_as plan (bytes "CHG-ABC13-EHAM0930-EDDF-0-16/EDDN") 16 ≡ Refused 12 0 0)
+other : (flight_as plan (bytes "CHG-ABC13-EHAM0930-EDDF-0-9/B39M/M") 9 ≡ Err (refusal 12 0 0))
+    × (flight_as plan (bytes "CHG-ABC13-EHAM0930-EDDF-0-9/B39M/M") 3 ≡ Err (refusal 12 0 0))
+    × (flight_as plan (bytes "CHG-ABC13-EHAM0930-EDDF-0-16/EDDN") 16 ≡ Err (refusal 12 0 0))
 unfolding words_under
 other = (refl, refl, refl)
 
@@ -143,14 +149,14 @@ other = (refl, refl, refl)
 abbrev dated : List ℕ
 dated = bytes "FPL-ABC12-IS-B738/M-SDFG/S-EHAM0930-N0440F310 DCT PAM DCT-EDDF0100 EDDK-DOF/240229"
 
-other_day_lem : (flight_as dated (bytes "CHG-ABC12-EHAM0930-EDDF-DOF/240301-9/B39M/M") 9 ≡ Refused 12 0 0)
-    × (flight_as dated (bytes "CHG-ABC12-EHAM0930-EDDF-DOF/240229-9/B39M/M") 9 ≡ InChange 38 44)
-    × (flight_as dated (bytes "CHG-ABC12-EHAM0930-EDDF-0-18/DOF/240301") 18 ≡ InChange 30 40)
+other_day_lem : (flight_as dated (bytes "CHG-ABC12-EHAM0930-EDDF-DOF/240301-9/B39M/M") 9 ≡ Err (refusal 12 0 0))
+    × (flight_as dated (bytes "CHG-ABC12-EHAM0930-EDDF-DOF/240229-9/B39M/M") 9 ≡ Ok (InChange 38 44))
+    × (flight_as dated (bytes "CHG-ABC12-EHAM0930-EDDF-0-18/DOF/240301") 18 ≡ Ok (InChange 30 40))
 unfolding named_at named_by labels behind_hyphen words_under
 other_day_lem = (refl, refl, refl)
 
 -- not a CHG; not its own spelling
-unfit : (type_as Cnl (bytes "(CNL)") (bytes "(FPL)") (bytes "(CNL)") 9 ≡ Refused 14 0 0)
-    × (type_as Chg (bytes "(CHG)") (bytes "(FPL)") (bytes "( CHG)") 9 ≡ Refused 17 0 0)
+unfit : (type_as Cnl (bytes "(CNL)") (bytes "(FPL)") (bytes "(CNL)") 9 ≡ Err (refusal 14 0 0))
+    × (type_as Chg (bytes "(CHG)") (bytes "(FPL)") (bytes "( CHG)") 9 ≡ Err (refusal 17 0 0))
 unfolding type_as
 unfit = (refl, refl)

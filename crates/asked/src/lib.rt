@@ -1,7 +1,7 @@
 // The field in force, as the desk asks for it: where its content stands, in the CHG or in the strip.
 #![tactic(auto)]
 
-ghost use Rattle.std.specs.Prelude.{◌≡◌, ◌≤◌, length};
+ghost use Rattle.std.specs.Prelude.{◌≡◌, ◌≤◌, Ok, length};
 ghost use Rattle.asked.specs.Asking.{rank_of, is_change, stands_as, is_bare, flight_as, type_as, asked_of, shown, StandsAt};
 ghost use Rattle.force.specs.InForce.{in_force, named_by};
 ghost use Rattle.space.specs.Fields.{inner};
@@ -9,16 +9,18 @@ ghost use Rattle.outer.specs.Outer.{most};
 ghost use Rattle.asked.specs.Parts.{Shows, ShowsText};
 
 use kinds::{MessageType, Role};
-use opening::Opening;
+use outer::Refusal;
 use state::Strip;
 
-// Where the content stands, from its first byte to behind its last, or the refusal.
+// Where the content stands, from its first byte to behind its last.
 #[derive(Clone, Copy)]
-pub enum Asked {
+pub enum Place {
     InStrip { from: usize, to: usize },
     InChange { from: usize, to: usize },
-    Refused { number: u8, field: u8, place: usize },
 }
+
+// Where it stands, or the refusal.
+pub type Asked = Result<Place, Refusal>;
 
 // The rank of a field number among the eight that an entry may name; 0 for any other number.
 fn rank_of(number: u8) -> usize
@@ -44,13 +46,13 @@ fn is_change(t: MessageType) -> bool
 }
 
 // Where the field of rank k stands, from the texts between the parentheses; a text begins one byte behind its message.
-fn stands(plan: &[u8], said: &[u8], k: usize) -> Asked
+fn stands(plan: &[u8], said: &[u8], k: usize) -> Place
     requires { (length plan.now ≤ most) × (length said.now ≤ most) }
-    ensures value { result ≡ stands_as plan.now said.now k }
-    ensures shows_text { ShowsText result plan.now said.now (in_force plan.now said.now k) }
+    ensures value { Ok result ≡ stands_as plan.now said.now k }
+    ensures shows_text { ShowsText (Ok result) plan.now said.now (in_force plan.now said.now k) }
 {
     match force::named(said, k) {
-        Some(at) => Asked::InChange {
+        Some(at) => Place::InChange {
             from: at.from + 1,
             to: at.to + 1,
         },
@@ -58,7 +60,7 @@ fn stands(plan: &[u8], said: &[u8], k: usize) -> Asked
             let c = force::seek(plan, k);
             let at = c.at;
             let e = c.end(plan, b'-');
-            Asked::InStrip {
+            Place::InStrip {
                 from: at + 1,
                 to: e + 1,
             }
@@ -83,28 +85,20 @@ fn ask_texts(plan: &[u8], said: &[u8], number: u8) -> Asked
     ensures shows_text { ShowsText result plan.now said.now (in_force plan.now said.now (rank_of number)) }
 {
     if strip::differences_in(Role::Changes, plan, said).any() {
-        return Asked::Refused {
-            number: 12,
-            field: 0,
-            place: 0,
-        };
+        return Err(Refusal::of(12));
     }
     let k = rank_of(number);
     if named_bare(said, k) {
-        return Asked::Refused {
-            number: 17,
-            field: 0,
-            place: 0,
-        };
+        return Err(Refusal::of(17));
     }
     if k == 0 {
-        return Asked::Refused {
+        return Err(Refusal {
             number: 8,
             field: number,
             place: 0,
-        };
+        });
     }
-    stands(plan, said, k)
+    Ok(stands(plan, said, k))
 }
 
 // Numbers 14 and 17 of a message that was read and is spelled so, and what its text gives.
@@ -114,18 +108,10 @@ fn ask_read(t: MessageType, spelled: &[u8], strip: &[u8], chg: &[u8], number: u8
     ensures shows { Shows result strip.now chg.now (in_force (inner strip.now) (inner chg.now) (rank_of number)) }
 {
     if !is_change(t) {
-        return Asked::Refused {
-            number: 14,
-            field: 0,
-            place: 0,
-        };
+        return Err(Refusal::of(14));
     }
     if !text::same_bytes(spelled, chg) {
-        return Asked::Refused {
-            number: 17,
-            field: 0,
-            place: 0,
-        };
+        return Err(Refusal::of(17));
     }
     let last = strip.len() - 1;
     let e = chg.len() - 1;
@@ -138,18 +124,8 @@ pub fn ask(strip: &[u8], held: Strip, chg: &[u8], number: u8) -> Asked
     ensures shows { Shows result strip.now chg.now (in_force (inner strip.now) (inner chg.now) (rank_of number)) }
 {
     let mut scratch = [0u8; outer::MOST_BYTES];
-    match opening::open_strip(strip, held, chg, &mut scratch) {
-        Opening::Refused {
-            number: n,
-            field,
-            place,
-        } => Asked::Refused {
-            number: n,
-            field,
-            place,
-        },
-        Opening::Read(t, n) => ask_read(t, &scratch[..n], strip, chg, number),
-    }
+    let (t, n) = opening::open_strip(strip, held, chg, &mut scratch)?;
+    ask_read(t, &scratch[..n], strip, chg, number)
 }
 
 // Shows the content of a field in force, as a part of the CHG or of the strip; a refusal shows an empty part at the strip's start.
@@ -159,12 +135,8 @@ pub fn in_force<'a>(strip: &'a [u8], held: Strip, chg: &'a [u8], number: u8) -> 
         strip.entry.ref_ptr.0 strip.entry.ref_ptr.1 chg.entry.ref_ptr.0 chg.entry.ref_ptr.1 result.ref_ptr.0 result.ref_ptr.1 }
 {
     match ask(strip, held, chg, number) {
-        Asked::InStrip { from, to } => &strip[from..to],
-        Asked::InChange { from, to } => &chg[from..to],
-        Asked::Refused {
-            number: _,
-            field: _,
-            place: _,
-        } => &strip[..0],
+        Ok(Place::InStrip { from, to }) => &strip[from..to],
+        Ok(Place::InChange { from, to }) => &chg[from..to],
+        Err(_) => &strip[..0],
     }
 }

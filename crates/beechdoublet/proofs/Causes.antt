@@ -6,23 +6,22 @@ use mathlib.Core.List.{List, [], ◌∷◌}
 use native.Mathlib.Omega.{arith}
 use lib.Dec.{eqb}
 use lib.ListN.{drop, get_or}
+use Rattle.std.specs.Prelude.{Option as Optional, None, Some}
 use Rattle.alphabet.specs.Alphabet.{one_of}
+use Rattle.state.specs.declared.Strip.{Strip}
 use Rattle.strip.specs.declared.Differences.{Differences}
-use Rattle.strip.specs.declared.Updated.{Updated}
-use Rattle.strip.specs.declared.Updated.TheVariants.{Accepted, Refused}
-use Rattle.strip.specs.Updating.{update_of}
+use Rattle.strip.specs.Updating.{Updated, update_of}
 use Rattle.causes.specs.declared.Key.{Key}
 use Rattle.causes.specs.declared.Key.TheVariants.{Typ, Dep, Dest, Altn}
 use Rattle.causes.specs.declared.Cause.{Cause}
 use Rattle.causes.specs.declared.Cause.TheVariants.{NothingMore, Another, Missing, Forbidden}
 use Rattle.causes.specs.Causes.{cause_of, Agree}
 use Rattle.causes.proofs.Agreed.{agrees}
-use Rattle.handed.specs.declared.Handed.{Handed}
-use Rattle.handed.specs.declared.Handed.TheVariants.{Held, NoState}
 use Rattle.beechdoublet.specs.Numbers.{update_number}
 use Rattle.beechdoublet.specs.Handed.{update_as}
 use Rattle.beechdoublet.specs.Causes.{flag, set_numbers, key_number, cause_number, cause_numbers, cause_as}
 use Rattle.handed.proofs.Laws.{state_one}
+use Rattle.std.specs.Prelude.{Ok, Err}
 
 -- NUMBERS LOSE NOTHING
 
@@ -79,15 +78,15 @@ cause_one (Forbidden s) (Forbidden t) q = ap Forbidden (state_one s t (ap (drop 
 abbrev pub shown_number : ℕ → ℕ
 shown_number number = cond (one_of number (10 ∷ 12 ∷ 13 ∷ [])) number 0
 
-pub cause_number_lem : (h : Handed) (strip m : List ℕ) (room : ℕ) → cause_number (cause_as h strip m) ≡ shown_number (update_number (update_as h strip m room))
-cause_number_lem NoState strip m room = refl
-cause_number_lem (Held held) strip m room = go (cause_of strip held m) (update_of strip held m room) (agrees strip held m room)
+pub cause_number_lem : (h : Optional Strip) (strip m : List ℕ) (room : ℕ) → cause_number (cause_as h strip m) ≡ shown_number (update_number (update_as h strip m room))
+cause_number_lem None strip m room = refl
+cause_number_lem (Some held) strip m room = go (cause_of strip held m) (update_of strip held m room) (agrees strip held m room)
   where
     go : (c : Cause) (u : Updated) → Agree held c u → cause_number c ≡ shown_number (update_number u)
-    go NothingMore (Accepted next n) a = refl
-    go NothingMore (Refused number field place) a = silent (one_of number (10 ∷ 12 ∷ 13 ∷ [])) a
+    go NothingMore (Ok (next, n)) a = refl
+    go NothingMore (Err r) a = silent (one_of r.number (10 ∷ 12 ∷ 13 ∷ [])) a
       where
-        silent : (b : Bool) → cond b false true ≡ true → 0 ≡ cond b number 0
+        silent : (b : Bool) → cond b false true ≡ true → 0 ≡ cond b r.number 0
         silent true e = absurd (false≢true e)
         silent false e = refl
     go (Another d) u a = sym (ap (λ (v : Updated). shown_number (update_number v)) a.0)

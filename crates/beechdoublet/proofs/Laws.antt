@@ -10,14 +10,13 @@ use native.Mathlib.Omega.{arith}
 use lib.Dec.{eqb, ltb, leb}
 use lib.ListN.{length, drop, get_or}
 use borrow.Author.Tests.{ne_eqb, lt-ltb, le-ltb, ltb-true, ltb-false, leb-true}
-use Rattle.std.specs.Prelude.{Option, Some, None}
+use Rattle.std.specs.Prelude.{Option, Some, None, Ok, Err}
 use Rattle.kinds.specs.declared.MessageType.{MessageType}
 use Rattle.kinds.specs.declared.MessageType.TheVariants.{Fpl}
 use Rattle.kinds.specs.declared.Role.TheVariants.{Changes}
 use Rattle.kinds.specs.Kinds.{name_of, types_read}
 use Rattle.kinds.proofs.Names.{name_one, each}
-use Rattle.message.specs.declared.Answer.{Answer}
-use Rattle.message.specs.declared.Answer.TheVariants.{Accepted as ReadAs, Refused as NotRead}
+use Rattle.message.specs.Answer.{Answer}
 use Rattle.message.specs.Reading.{is_plan, spelling_of, answer_of, out_after}
 use Rattle.message.proofs.Answers.{refused-number}
 use Rattle.state.specs.declared.State.{State}
@@ -27,34 +26,25 @@ use Rattle.outer.specs.Outer.{most}
 use Rattle.text.proofs.Tests.{same-eq}
 use Rattle.state.specs.State.{sound}
 use Rattle.state.specs.declared.Strip.{Strip}
-use Rattle.strip.specs.declared.Updated.{Updated}
-use Rattle.strip.specs.declared.Updated.TheVariants.{Accepted, Refused}
-use Rattle.opening.specs.declared.Opening.TheVariants.{Refused as NotOpened}
+use Rattle.strip.specs.Updating.{Updated, differences, differs, update_of}
 use Rattle.opening.specs.Opening.{canonical_plan, read_as, opening_of}
-use Rattle.strip.specs.Updating.{differences, differs, update_of}
 use Rattle.force.specs.InForce.{named_by, named_at}
 use Rattle.history.proofs.Causes.{Took, Verdict, verdict}
 use Rattle.history.proofs.Demand3.{took_proper}
-use Rattle.asked.specs.declared.Asked.{Asked}
-use Rattle.asked.specs.declared.Asked.TheVariants.{InStrip, InChange, Refused as NotShown}
-use Rattle.asked.specs.Asking.{rank_of, stands_in, stands_as, field_as, is_bare, bare_as, flight_as, is_change, type_as, opened_as, asked_of}
-use Rattle.parts.specs.declared.Part.{Part}
-use Rattle.parts.specs.declared.Part.TheVariants.{At, Refused as NoField}
+use Rattle.asked.specs.Asking.{Asked, rank_of, stands_in, stands_as, field_as, is_bare, bare_as, flight_as, is_change, type_as, opened_as, asked_of}
+use Rattle.parts.specs.Parts.{Part, Planned}
 use Rattle.dates.specs.declared.Date.{Date}
 use Rattle.parts.specs.declared.PlanParts.{PlanParts}
-use Rattle.parts.specs.declared.Planned.{Planned}
-use Rattle.parts.specs.declared.Planned.TheVariants.{Parts, Refused as NoPlan}
 use Rattle.parts.specs.Parts.{taken_as, taken_of, span_at, numbers_in, rank_in, field_in, field_as as numbered_as, field_of, plan_of, planned_as, planned_of}
-use Rattle.handed.specs.declared.Handed.{Handed}
-use Rattle.handed.specs.declared.Handed.TheVariants.{Held, NoState}
 use Rattle.beechdoublet.specs.Numbers.{type_number, read_number, read_numbers, update_number, update_numbers, asked_number, asked_numbers, field_told}
-use Rattle.beechdoublet.specs.Numbers.{asked_whole}
-use Rattle.beechdoublet.specs.Numbers.{part_number, part_numbers, part_whole, date_numbers, parts_numbers, plan_number, plan_numbers}
+use Rattle.beechdoublet.specs.Numbers.{asked_whole, part_number, part_numbers, part_whole, date_numbers, parts_numbers, plan_number, plan_numbers}
 use Rattle.handed.specs.States.{byte_of, handed_as}
 use Rattle.handed.proofs.Laws.{state_one, handed_back}
 use Rattle.board_numbers.proofs.Zero.{refused_numbered}
 use Rattle.beechdoublet.specs.Handed.{update_as, state_as, asked_as}
 use Rattle.beechdoublet.specs.Laws.{was_read, was_taken, was_shown, Numbered, Told, was_given, Given, was_planned, NumberedPlan}
+use Rattle.outer.specs.Refusal.{refusal}
+use Rattle.asked.specs.declared.Place.TheVariants.{InChange, InStrip}
 
 -- THE TYPES
 
@@ -75,54 +65,54 @@ type_some t = leb-true 1 (type_number t) (each (λ u. leb 1 (type_number u)) ref
 -- READING
 
 pub read_one : (a b : Answer) → read_numbers a ≡ read_numbers b → a ≡ b
-read_one (ReadAs t n) (ReadAs u k) e =
+read_one (Ok (t, n)) (Ok (u, k)) e =
     let p : type_number t ≡ type_number u = cc in
     let q : t ≡ u = type_one t u p in
     cc
-read_one (ReadAs t n) (NotRead number field place) e = let p : type_number t ≡ 0 = cc in absurd (omega (arith, type_some t))
-read_one (NotRead number field place) (ReadAs u k) e = let p : type_number u ≡ 0 = cc in absurd (omega (arith, type_some u))
-read_one (NotRead number field place) (NotRead number' field' place') e = cc
+read_one (Ok (t, n)) (Err r) e = let p : type_number t ≡ 0 = cc in absurd (omega (arith, type_some t))
+read_one (Err r) (Ok (u, k)) e = let p : type_number u ≡ 0 = cc in absurd (omega (arith, type_some u))
+read_one (Err r) (Err r') e = cc
 
 -- 0 is given back exactly where the message is accepted
 pub read_zero : (m : List ℕ) (room : ℕ) → eqb (read_number (answer_of m room)) 0 ≡ was_read (answer_of m room)
 read_zero m room = go (answer_of m room) refl
   where
     go : (a : Answer) → answer_of m room ≡ a → eqb (read_number a) 0 ≡ was_read a
-    go (ReadAs t n) e = refl
-    go (NotRead number field place) e = ne_eqb number 0 (λ z. absurd (omega (arith, (refused-number m room number field place e).0)))
+    go (Ok (t, n)) e = refl
+    go (Err r) e = ne_eqb r.number 0 (λ z. absurd (omega (arith, (refused-number m room r.number r.field r.place e).0)))
 
 -- AN UPDATE
 
 -- a refusal has a number
-pub update_numbered : (h : Handed) (strip m : List ℕ) (room : ℕ) → Numbered (update_as h strip m room)
-update_numbered NoState strip m room = omega arith
-update_numbered (Held held) strip m room = go (update_of strip held m room) refl
+pub update_numbered : (h : Optional Strip) (strip m : List ℕ) (room : ℕ) → Numbered (update_as h strip m room)
+update_numbered None strip m room = omega arith
+update_numbered (Some held) strip m room = go (update_of strip held m room) refl
   where
     go : (u : Updated) → update_of strip held m room ≡ u → Numbered u
-    go (Accepted next n) e = tt
-    go (Refused number field place) e = refused_numbered strip held m room number field place e
+    go (Ok (next, n)) e = tt
+    go (Err r) e = refused_numbered strip held m room r.number r.field r.place e
 
 -- 0 is given back exactly where the message is accepted
-pub update_zero : (h : Handed) (strip m : List ℕ) (room : ℕ) → eqb (update_number (update_as h strip m room)) 0 ≡ was_taken (update_as h strip m room)
+pub update_zero : (h : Optional Strip) (strip m : List ℕ) (room : ℕ) → eqb (update_number (update_as h strip m room)) 0 ≡ was_taken (update_as h strip m room)
 update_zero h strip m room = go (update_as h strip m room) (update_numbered h strip m room)
   where
     go : (u : Updated) → Numbered u → eqb (update_number u) 0 ≡ was_taken u
-    go (Accepted next n) k = refl
-    go (Refused number field place) k = ne_eqb number 0 (λ z. absurd (omega arith))
+    go (Ok (next, n)) k = refl
+    go (Err r) k = ne_eqb r.number 0 (λ z. absurd (omega arith))
 
 -- the answer's numbers and the state's tell which answer it was
 pub update_one : (ns : List ℕ) (u v : Updated) → Numbered u → Numbered v → update_numbers u ≡ update_numbers v → state_as u ns ≡ state_as v ns → u ≡ v
-update_one ns (Accepted a n) (Accepted b k) hu hv e f =
+update_one ns (Ok (a, n)) (Ok (b, k)) hu hv e f =
     let p : a.state ≡ b.state = state_one a.state b.state f in
     let q : n ≡ k = cc in
-    ap (λ (s : State). Accepted (record { state = s }) n) p ∙ ap (Accepted b) q
-update_one ns (Accepted a n) (Refused number field place) hu hv e f = let z : number ≡ 0 = cc in absurd (omega (arith, hv))
-update_one ns (Refused number field place) (Accepted b k) hu hv e f = let z : number ≡ 0 = cc in absurd (omega (arith, hu))
-update_one ns (Refused number field place) (Refused number' field' place') hu hv e f = cc
+    ap (λ (s : State). Ok (record { state = s }, n)) p ∙ ap (λ (n : ℕ). Ok (b, n)) q
+update_one ns (Ok (a, n)) (Err r) hu hv e f = let z : r.number ≡ 0 = cc in absurd (omega (arith, hv))
+update_one ns (Err r) (Ok (b, k)) hu hv e f = let z : r.number ≡ 0 = cc in absurd (omega (arith, hu))
+update_one ns (Err r) (Err r') hu hv e f = cc
 
 -- what an accepted message leaves can be handed in again
-pub next_handed : (ns strip m : List ℕ) (room : ℕ) (held next : Strip) (n : ℕ) → update_of strip held m room ≡ Accepted next n
-    → handed_as (state_as (update_of strip held m room) ns) ≡ Held next
+pub next_handed : (ns strip m : List ℕ) (room : ℕ) (held next : Strip) (n : ℕ) → update_of strip held m room ≡ Ok (next, n)
+    → handed_as (state_as (update_of strip held m room) ns) ≡ Some next
 next_handed ns strip m room held next n e =
     let k : Took strip held m room next n = subst (Verdict strip held m room) e (verdict strip held m room) in
     ap (λ (u : Updated). handed_as (state_as u ns)) e
@@ -131,15 +121,15 @@ next_handed ns strip m room held next n e =
 -- THE FIELD IN FORCE
 
 pub asked_one : (a b : Asked) → asked_numbers a ≡ asked_numbers b → a ≡ b
-asked_one (InStrip from to) (InStrip from' to') e = cc
-asked_one (InStrip from to) (InChange from' to') e = let z : ◌≡◌ {A = ℕ} 1 2 = cc in absurd (omega arith)
-asked_one (InStrip from to) (NotShown number field place) e = let z : ◌≡◌ {A = ℕ} 1 0 = cc in absurd (omega arith)
-asked_one (InChange from to) (InStrip from' to') e = let z : ◌≡◌ {A = ℕ} 2 1 = cc in absurd (omega arith)
-asked_one (InChange from to) (InChange from' to') e = cc
-asked_one (InChange from to) (NotShown number field place) e = let z : ◌≡◌ {A = ℕ} 2 0 = cc in absurd (omega arith)
-asked_one (NotShown number field place) (InStrip from to) e = let z : ◌≡◌ {A = ℕ} 0 1 = cc in absurd (omega arith)
-asked_one (NotShown number field place) (InChange from to) e = let z : ◌≡◌ {A = ℕ} 0 2 = cc in absurd (omega arith)
-asked_one (NotShown number field place) (NotShown number' field' place') e = cc
+asked_one (Ok (InStrip from to)) (Ok (InStrip from' to')) e = cc
+asked_one (Ok (InStrip from to)) (Ok (InChange from' to')) e = let z : ◌≡◌ {A = ℕ} 1 2 = cc in absurd (omega arith)
+asked_one (Ok (InStrip from to)) (Err r) e = let z : ◌≡◌ {A = ℕ} 1 0 = cc in absurd (omega arith)
+asked_one (Ok (InChange from to)) (Ok (InStrip from' to')) e = let z : ◌≡◌ {A = ℕ} 2 1 = cc in absurd (omega arith)
+asked_one (Ok (InChange from to)) (Ok (InChange from' to')) e = cc
+asked_one (Ok (InChange from to)) (Err r) e = let z : ◌≡◌ {A = ℕ} 2 0 = cc in absurd (omega arith)
+asked_one (Err r) (Ok (InStrip from to)) e = cc
+asked_one (Err r) (Ok (InChange from to)) e = let z : ◌≡◌ {A = ℕ} 0 2 = cc in absurd (omega arith)
+asked_one (Err r) (Err r') e = cc
 
 -- an 8 for the number asked has it as its field, over 255 too
 told_whole : (asked : ℕ) → field_told asked 8 (byte_of asked) ≡ asked
@@ -149,8 +139,8 @@ told_whole asked = go (ltb asked 256) refl
     go true e = rw (e, le-ltb 255 asked (omega (arith, ltb-true asked 256 e)))
     go false e = rw (e, lt-ltb 255 asked (omega (arith, ltb-false asked 256 e)))
 
-pub asked_whole_lem : (asked : ℕ) → asked_whole asked (NotShown 8 (byte_of asked) 0) ≡ NotShown 8 asked 0
-asked_whole_lem asked = ap (λ (k : ℕ). NotShown 8 k 0) (told_whole asked)
+pub asked_whole_lem : (asked : ℕ) → asked_whole asked (Err (refusal 8 (byte_of asked) 0)) ≡ Err (refusal 8 asked 0)
+asked_whole_lem asked = ap (λ (k : ℕ). Err (refusal 8 k 0)) (told_whole asked)
 
 place_told : (o : maybe.Option ℕ) (plan said : List ℕ) (k : ℕ) → Told (stands_in o plan said k)
 place_told (some at) plan said k = tt
@@ -159,21 +149,21 @@ place_told none plan said k = tt
 field_told_lem : (plan said : List ℕ) (number : ℕ) → Told (field_as plan said number)
 field_told_lem plan said number = go (eqb (rank_of number) 0)
   where
-    go : (b : Bool) → Told (cond b (NotShown 8 number 0) (stands_as plan said (rank_of number)))
+    go : (b : Bool) → Told (cond b (Err (refusal 8 number 0)) (stands_as plan said (rank_of number)))
     go true = omega arith
     go false = place_told (named_at said (rank_of number)) plan said (rank_of number)
 
 bare_told : (plan said : List ℕ) (number : ℕ) → Told (bare_as plan said number)
 bare_told plan said number = go (is_bare (rank_of number) (named_by said (rank_of number)))
   where
-    go : (b : Bool) → Told (cond b (NotShown 17 0 0) (field_as plan said number))
+    go : (b : Bool) → Told (cond b (Err (refusal 17 0 0)) (field_as plan said number))
     go true = omega arith
     go false = field_told_lem plan said number
 
 flight_told : (plan said : List ℕ) (number : ℕ) → Told (flight_as plan said number)
 flight_told plan said number = go (differs (differences Changes (split 45 plan) (split 45 said)))
   where
-    go : (b : Bool) → Told (cond b (NotShown 12 0 0) (bare_as plan said number))
+    go : (b : Bool) → Told (cond b (Err (refusal 12 0 0)) (bare_as plan said number))
     go true = omega arith
     go false = bare_told plan said number
 
@@ -181,75 +171,76 @@ type_told : (t : MessageType) (spelled strip chg : List ℕ) (number : ℕ) → 
 unfolding type_as
 type_told t spelled strip chg number = go (is_change t) (same spelled chg)
   where
-    go : (a b : Bool) → Told (cond a (cond b (flight_as (inner strip) (inner chg) number) (NotShown 17 0 0)) (NotShown 14 0 0))
+    go : (a b : Bool) → Told (cond a (cond b (flight_as (inner strip) (inner chg) number) (Err (refusal 17 0 0))) (Err (refusal 14 0 0)))
     go true true = flight_told (inner strip) (inner chg) number
     go true false = omega arith
     go false b = omega arith
 
 read_told : (strip chg : List ℕ) (number : ℕ) (a : Answer) → answer_of chg most ≡ a → Told (opened_as (read_as a) strip chg number)
-read_told strip chg number (ReadAs t n) e = type_told t (spelling_of t chg) strip chg number
-read_told strip chg number (NotRead n field place) e = pick (leb n 9)
+read_told strip chg number (Ok (t, n)) e = type_told t (spelling_of t chg) strip chg number
+read_told strip chg number (Err r) e = pick (leb r.number 9)
   where
-    pick : (b : Bool) → Told (opened_as (cond b (NotOpened n field place) (NotOpened 14 0 0)) strip chg number)
-    pick true = (refused-number chg most n field place e).0
+    pick : (b : Bool) → Told (opened_as (cond b (Err r) (Err (refusal 14 0 0))) strip chg number)
+    pick true = (refused-number chg most r.number r.field r.place e).0
     pick false = omega arith
 
-pub asked_told : (h : Handed) (strip chg : List ℕ) (number : ℕ) → Told (asked_as h strip chg number)
+pub asked_told : (h : Optional Strip) (strip chg : List ℕ) (number : ℕ) → Told (asked_as h strip chg number)
 unfolding asked_of opening_of
-asked_told NoState strip chg number = omega arith
-asked_told (Held held) strip chg number = go (sound held && canonical_plan strip)
+asked_told None strip chg number = omega arith
+asked_told (Some held) strip chg number = go (sound held && canonical_plan strip)
   where
-    go : (b : Bool) → Told (opened_as (cond b (read_as (answer_of chg most)) (NotOpened 15 0 0)) strip chg (byte_of number))
+    go : (b : Bool) → Told (opened_as (cond b (read_as (answer_of chg most)) (Err (refusal 15 0 0))) strip chg (byte_of number))
     go true = read_told strip chg (byte_of number) (answer_of chg most) refl
     go false = omega arith
 
 -- 0 is given back exactly where the field is shown
-pub asked_zero : (h : Handed) (strip chg : List ℕ) (number : ℕ) → eqb (asked_number (asked_as h strip chg number)) 0 ≡ was_shown (asked_as h strip chg number)
+pub asked_zero : (h : Optional Strip) (strip chg : List ℕ) (number : ℕ)
+    → eqb (asked_number (asked_as h strip chg number)) 0 ≡ was_shown (asked_as h strip chg number)
 asked_zero h strip chg number = go (asked_as h strip chg number) (asked_told h strip chg number)
   where
     go : (a : Asked) → Told a → eqb (asked_number a) 0 ≡ was_shown a
-    go (InStrip from to) k = refl
-    go (InChange from to) k = refl
-    go (NotShown n field place) k = ne_eqb n 0 (λ z. absurd (omega arith))
+    go (Ok (InStrip from to)) k = refl
+    go (Ok (InChange from to)) k = refl
+    go (Err r) k = ne_eqb r.number 0 (λ z. absurd (omega arith))
 
 -- A FIELD BY ITS NUMBER
 
 pub part_one : (a b : Part) → part_numbers a ≡ part_numbers b → a ≡ b
-part_one (At s) (At u) e =
+part_one (Ok s) (Ok u) e =
     let f : s.from ≡ u.from = cc in
     let t : s.to ≡ u.to = cc in
-    ap₂ (λ (x y : ℕ). At (record { from = x; to = y })) f t
-part_one (At s) (NoField number field place) e = let z : ◌≡◌ {A = ℕ} 1 0 = cc in absurd (omega arith)
-part_one (NoField number field place) (At s) e = let z : ◌≡◌ {A = ℕ} 0 1 = cc in absurd (omega arith)
-part_one (NoField number field place) (NoField number' field' place') e = cc
+    ap₂ (λ (x y : ℕ). Ok (record { from = x; to = y })) f t
+part_one (Ok s) (Err r) e = let z : ◌≡◌ {A = ℕ} 1 0 = cc in absurd (omega arith)
+part_one (Err r) (Ok s) e = cc
+part_one (Err r) (Err r') e = cc
 
 -- an 8 for the number asked has it as its field, over 255 too
-pub part_whole_lem : (asked : ℕ) → part_whole asked (NoField 8 (byte_of asked) 0) ≡ NoField 8 asked 0
-part_whole_lem asked = ap (λ (k : ℕ). NoField 8 k 0) (told_whole asked)
+pub part_whole_lem : (asked : ℕ) → part_whole asked (Err (refusal 8 (byte_of asked) 0)) ≡ Err (refusal 8 asked 0)
+part_whole_lem asked = ap (λ (k : ℕ). Err (refusal 8 k 0)) (told_whole asked)
 
 pub part_given : (m : List ℕ) (n : ℕ) → Given (field_of m n)
 unfolding field_of field_in taken_of
 part_given m n = go (answer_of m most) refl
   where
-    there : (t : MessageType) (b : Bool) → Given (cond b (At (span_at m (rank_in t m n))) (NoField 8 n 0))
+    there : (t : MessageType) (b : Bool) → Given (cond b (Ok (span_at m (rank_in t m n))) (Err (refusal 8 n 0)))
     there t true = tt
     there t false = omega arith
 
-    own : (t : MessageType) (b : Bool) → Given (cond b (field_in t m n) (NoField 17 0 0))
+    own : (t : MessageType) (b : Bool) → Given (cond b (field_in t m n) (Err (refusal 17 0 0)))
     own t true = there t (holds n (numbers_in t m))
     own t false = omega arith
 
     go : (a : Answer) → answer_of m most ≡ a → Given (numbered_as (taken_as a m) m n)
-    go (ReadAs t k) e = own t (same (spelling_of t m) m)
-    go (NotRead k field place) e = (refused-number m most k field place e).0
+    go (Ok (t, k)) e = own t (same (spelling_of t m) m)
+    go (Err r) e = (refused-number m most r.number r.field r.place e).0
 
 -- 0 is given back exactly where the field is given
 pub part_zero : (m : List ℕ) (n : ℕ) → eqb (part_number (field_of m n)) 0 ≡ was_given (field_of m n)
 part_zero m n = go (field_of m n) (part_given m n)
   where
     go : (a : Part) → Given a → eqb (part_number a) 0 ≡ was_given a
-    go (At s) k = refl
-    go (NoField number field place) k = ne_eqb number 0 (λ z. absurd (omega arith))
+    go (Ok s) k = refl
+    go (Err r) k = ne_eqb r.number 0 (λ z. absurd (omega arith))
 
 -- THE PARTS OF A PLAN
 
@@ -282,31 +273,31 @@ parts_one : (p q : PlanParts) → parts_numbers p ≡ parts_numbers q → p ≡ 
 parts_one p q e = ap₂ parts_back e (date_one p.date q.date (ap (drop 15) e))
 
 pub plan_one : (a b : Planned) → NumberedPlan a → NumberedPlan b → plan_numbers a ≡ plan_numbers b → a ≡ b
-plan_one (Parts p) (Parts q) ha hb e = ap Parts (parts_one p q e)
-plan_one (Parts p) (NoPlan number field place) ha hb e = let z : number ≡ 0 = cc in absurd (omega (arith, hb))
-plan_one (NoPlan number field place) (Parts q) ha hb e = let z : number ≡ 0 = cc in absurd (omega (arith, ha))
-plan_one (NoPlan number field place) (NoPlan number' field' place') ha hb e = cc
+plan_one (Ok p) (Ok q) ha hb e = ap Ok (parts_one p q e)
+plan_one (Ok p) (Err r) ha hb e = let z : r.number ≡ 0 = cc in absurd (omega (arith, hb))
+plan_one (Err r) (Ok q) ha hb e = let z : r.number ≡ 0 = cc in absurd (omega (arith, ha))
+plan_one (Err r) (Err r') ha hb e = cc
 
 pub plan_numbered : (m : List ℕ) → NumberedPlan (planned_of m)
 unfolding planned_of taken_of
 plan_numbered m = go (answer_of m most) refl
   where
-    pick : (a b : Bool) → NumberedPlan (cond a (cond b (Parts (plan_of m)) (NoPlan 17 0 0)) (NoPlan 14 0 0))
+    pick : (a b : Bool) → NumberedPlan (cond a (cond b (Ok (plan_of m)) (Err (refusal 17 0 0))) (Err (refusal 14 0 0)))
     pick true true = tt
     pick true false = omega arith
     pick false b = omega arith
 
     go : (a : Answer) → answer_of m most ≡ a → NumberedPlan (planned_as (taken_as a m) m)
-    go (ReadAs t k) e = pick (is_plan t) (same (spelling_of t m) m)
-    go (NotRead k field place) e = (refused-number m most k field place e).0
+    go (Ok (t, k)) e = pick (is_plan t) (same (spelling_of t m) m)
+    go (Err r) e = (refused-number m most r.number r.field r.place e).0
 
 -- 0 is given back exactly where the parts are told
 pub plan_zero : (m : List ℕ) → eqb (plan_number (planned_of m)) 0 ≡ was_planned (planned_of m)
 plan_zero m = go (planned_of m) (plan_numbered m)
   where
     go : (a : Planned) → NumberedPlan a → eqb (plan_number a) 0 ≡ was_planned a
-    go (Parts p) k = refl
-    go (NoPlan number field place) k = ne_eqb number 0 (λ z. absurd (omega arith))
+    go (Ok p) k = refl
+    go (Err r) k = ne_eqb r.number 0 (λ z. absurd (omega arith))
 
 -- EACH CONTRACT ALLOWS ONE RESULT: the number that is given back, the answer's numbers, the state's numbers and the output; that of
 -- `beechdoublet_sound` is an equation

@@ -4,16 +4,15 @@
 --     for 10: the missing key (1 TYP, 2 DEP, 3 DEST, 4 ALTN)
 --     for 13: the eight numbers of the state found
 -- What is not used is 0.
-use Rattle.std.specs.Prelude.{ℕ, ◌≡◌, refl, Bool, true, false, cond, List, [], ◌∷◌}
+use Rattle.std.specs.Prelude.{ℕ, ◌≡◌, refl, Bool, true, false, cond, Option, None, Some, List, [], ◌∷◌}
 use Rattle.state.specs.declared.State.TheVariants.{Departed}
+use Rattle.state.specs.declared.Strip.{Strip}
 use Rattle.strip.specs.declared.Differences.{Differences}
 use Rattle.causes.specs.declared.Key.{Key}
 use Rattle.causes.specs.declared.Key.TheVariants.{Typ, Dep, Dest, Altn}
 use Rattle.causes.specs.declared.Cause.{Cause}
 use Rattle.causes.specs.declared.Cause.TheVariants.{NothingMore, Another, Missing, Forbidden}
 use Rattle.causes.specs.Causes.{cause_of}
-use Rattle.handed.specs.declared.Handed.{Handed}
-use Rattle.handed.specs.declared.Handed.TheVariants.{Held, NoState}
 use Rattle.handed.specs.States.{state_numbers}
 
 abbrev pub flag : Bool → ℕ
@@ -42,9 +41,9 @@ cause_numbers (Missing key) = 10 ∷ key_number key ∷ 0 ∷ 0 ∷ 0 ∷ 0 ∷ 
 cause_numbers (Forbidden state) = 13 ∷ state_numbers state
 
 -- of a strip that is handed in with such numbers: nothing more where they are no state, for which the update gives 15
-abbrev pub cause_as : Handed → List ℕ → List ℕ → Cause
-cause_as (Held held) strip m = cause_of strip held m
-cause_as NoState strip m = NothingMore
+abbrev pub cause_as : Option Strip → List ℕ → List ℕ → Cause
+cause_as (Some held) strip m = cause_of strip held m
+cause_as None strip m = NothingMore
 
 -- EXAMPLES, computed: another time and destination, no DEST, off at 1021
 

@@ -16,14 +16,14 @@ ghost use Rattle.board_numbers.specs.Calls.{Called, Clears, Looks};
 ghost use Rattle.beechdoublet.specs.Handed.{update_as, out_as, state_as, asked_as, content_asked};
 ghost use Rattle.beechdoublet.specs.Causes.{flag, set_numbers, key_number, cause_number, cause_numbers, cause_as};
 
-use asked::Asked;
+use asked::{Asked, Place};
 use causes::{Cause, Key};
 use dates::Date;
-use handed::Handed;
 use kinds::MessageType;
 use message::Answer;
+use outer::Refusal;
 use parts::{Part, PlanParts, Planned};
-use state::State;
+use state::{State, Strip};
 use strip::{Differences, Updated};
 
 fn type_number(t: MessageType) -> u64
@@ -47,33 +47,25 @@ fn tell_read(a: Answer, answer: &mut [u64; 5]) -> u8
     ensures { (result ≡ read_number a) × (answer.new ≡ read_numbers a) }
 {
     match a {
-        Answer::Accepted(t, n) => {
+        Ok((t, n)) => {
             *answer = [0, 0, 0, type_number(t), n as u64];
             0
         }
-        Answer::Refused {
-            number,
-            field,
-            place,
-        } => {
-            *answer = [number as u64, field as u64, place as u64, 0, 0];
-            number
+        Err(refusal) => {
+            *answer = [refusal.number as u64, refusal.field as u64, refusal.place as u64, 0, 0];
+            refusal.number
         }
     }
 }
 
 // Offers a message to a strip that is handed in; 15 where the numbers are no state.
-fn updated(strip: &[u8], h: Handed, msg: &[u8], out: &mut [u8]) -> Updated
+fn updated(strip: &[u8], h: Option<Strip>, msg: &[u8], out: &mut [u8]) -> Updated
     ensures { (result ≡ update_as h strip.now msg.now (length out.old))
         × (out.new ≡ out_as h strip.now msg.now out.old) }
 {
     match h {
-        Handed::Held(held) => strip::update(strip, held, msg, out),
-        Handed::NoState => Updated::Refused {
-            number: 15,
-            field: 0,
-            place: 0,
-        },
+        Some(held) => strip::update(strip, held, msg, out),
+        None => Err(Refusal::of(15)),
     }
 }
 
@@ -82,35 +74,26 @@ fn tell_update(u: Updated, state: &mut [u64; 8], answer: &mut [u64; 4]) -> u8
     ensures { (result ≡ update_number u) × (answer.new ≡ update_numbers u) × (state.new ≡ state_as u state.old) }
 {
     match u {
-        Updated::Accepted(next, n) => {
-            let s = next.state;
-            *state = handed::state_numbers(s);
+        Ok((next, n)) => {
+            *state = handed::state_numbers(next.state);
             *answer = [0, 0, 0, n as u64];
             0
         }
-        Updated::Refused {
-            number,
-            field,
-            place,
-        } => {
-            *answer = [number as u64, field as u64, place as u64, 0];
-            number
+        Err(refusal) => {
+            *answer = [refusal.number as u64, refusal.field as u64, refusal.place as u64, 0];
+            refusal.number
         }
     }
 }
 
 // Asks a strip that is handed in for a field in force; 15 where the numbers are no state.
-fn asked_of(strip: &[u8], h: Handed, chg: &[u8], number: u64) -> Asked
+fn asked_of(strip: &[u8], h: Option<Strip>, chg: &[u8], number: u64) -> Asked
     ensures { (result ≡ asked_as h strip.now chg.now number)
         × Shows result strip.now chg.now (content_asked strip.now chg.now number) }
 {
     match h {
-        Handed::Held(held) => asked::ask(strip, held, chg, handed::byte_of(number)),
-        Handed::NoState => Asked::Refused {
-            number: 15,
-            field: 0,
-            place: 0,
-        },
+        Some(held) => asked::ask(strip, held, chg, handed::byte_of(number)),
+        None => Err(Refusal::of(15)),
     }
 }
 
@@ -135,22 +118,18 @@ fn tell_asked(a: Asked, asked: u64, answer: &mut [u64; 6]) -> u8
     ensures { (result ≡ asked_number a) × (answer.new ≡ asked_numbers (asked_whole asked a)) }
 {
     match a {
-        Asked::InStrip { from, to } => {
+        Ok(Place::InStrip { from, to }) => {
             *answer = [0, 0, 0, 1, from as u64, to as u64];
             0
         }
-        Asked::InChange { from, to } => {
+        Ok(Place::InChange { from, to }) => {
             *answer = [0, 0, 0, 2, from as u64, to as u64];
             0
         }
-        Asked::Refused {
-            number,
-            field,
-            place,
-        } => {
-            let told = field_told(asked, number, field);
-            *answer = [number as u64, told, place as u64, 0, 0, 0];
-            number
+        Err(refusal) => {
+            let told = field_told(asked, refusal.number, refusal.field);
+            *answer = [refusal.number as u64, told, refusal.place as u64, 0, 0, 0];
+            refusal.number
         }
     }
 }
@@ -160,18 +139,14 @@ fn tell_part(p: Part, asked: u64, answer: &mut [u64; 6]) -> u8
     ensures { (result ≡ part_number p) × (answer.new ≡ part_numbers (part_whole asked p)) }
 {
     match p {
-        Part::At(s) => {
+        Ok(s) => {
             *answer = [0, 0, 0, 1, s.from as u64, s.to as u64];
             0
         }
-        Part::Refused {
-            number,
-            field,
-            place,
-        } => {
-            let told = field_told(asked, number, field);
-            *answer = [number as u64, told, place as u64, 0, 0, 0];
-            number
+        Err(refusal) => {
+            let told = field_told(asked, refusal.number, refusal.field);
+            *answer = [refusal.number as u64, told, refusal.place as u64, 0, 0, 0];
+            refusal.number
         }
     }
 }
@@ -220,21 +195,17 @@ fn tell_plan(p: Planned, answer: &mut [u64; 19]) -> u8
     ensures { (result ≡ plan_number p) × (answer.new ≡ plan_numbers p) }
 {
     match p {
-        Planned::Parts(parts) => {
+        Ok(parts) => {
             *answer = parts_numbers(parts);
             0
         }
-        Planned::Refused {
-            number,
-            field,
-            place,
-        } => {
+        Err(refusal) => {
             let mut row = [0; 19];
-            row[0] = number as u64;
-            row[1] = field as u64;
-            row[2] = place as u64;
+            row[0] = refusal.number as u64;
+            row[1] = refusal.field as u64;
+            row[2] = refusal.place as u64;
             *answer = row;
-            number
+            refusal.number
         }
     }
 }
@@ -264,8 +235,8 @@ pub extern "C" fn beechdoublet_update(
         ≡ state_as (update_as (handed_as state.old) strip.now msg.now (length out.old)) state.old)
         × (out.new ≡ out_as (handed_as state.old) strip.now msg.now out.old) }
 {
-    let h = handed::hand_in(state);
-    tell_update(updated(strip, h, msg, out), state, answer)
+    let held = handed::hand_in(state);
+    tell_update(updated(strip, held, msg, out), state, answer)
 }
 
 // Whether a strip may be handed in with these numbers: they are those of a state, and it is sound.
@@ -274,8 +245,8 @@ pub extern "C" fn beechdoublet_sound(state: &[u64; 8]) -> bool
     ensures { result ≡ sound_as (handed_as state.now) }
 {
     match handed::hand_in(state) {
-        Handed::Held(held) => held.is_sound(),
-        Handed::NoState => false,
+        Some(held) => held.is_sound(),
+        None => false,
     }
 }
 
@@ -324,12 +295,12 @@ pub extern "C" fn beechdoublet_plan(strip: &[u8], answer: &mut [u64; 19]) -> u8
 }
 
 // Why an update of a strip that is handed in is refused; nothing more where the numbers are no state.
-fn cause_as(strip: &[u8], h: Handed, msg: &[u8]) -> Cause
+fn cause_as(strip: &[u8], h: Option<Strip>, msg: &[u8]) -> Cause
     ensures { result ≡ cause_as h strip.now msg.now }
 {
     match h {
-        Handed::Held(held) => causes::cause_of(strip, held, msg),
-        Handed::NoState => Cause::NothingMore,
+        Some(held) => causes::cause_of(strip, held, msg),
+        None => Cause::NothingMore,
     }
 }
 

@@ -3,8 +3,8 @@ use Prim.Native.Nat.{ℕ}
 use mathlib.Core.Path.{◌≡◌, refl, sym, ap, ◌∙◌}
 use mathlib.Core.Bool.{Bool, true, false, cond}
 use mathlib.Core.List.{List, [], ◌∷◌, map}
-use mathlib.Core.Option.{Option, some}
 use native.Mathlib.Omega.{arith}
+use Rattle.std.specs.Prelude.{Option, Some}
 use Rattle.kinds.specs.declared.MessageType.{MessageType}
 use Rattle.kinds.specs.declared.MessageType.TheVariants.{Fpl}
 use Rattle.message.specs.declared.Answer.{Answer}
@@ -70,7 +70,7 @@ offers s (m ∷ ms) =
 -- THE THIRD DEMAND, for each strip
 
 from_life : (f : Firm) (k : ℕ) (cs : List (Call (List ℕ))) (s : Standing) (l : Option (Life (List ℕ))) (p : Option Standing)
-    → life_at house f k (log_of house (empty house) cs) ≡ l → Lived house l p → p ≡ some s → FromFiling f k cs s
+    → life_at house f k (log_of house (empty house) cs) ≡ l → Lived house l p → p ≡ Some s → FromFiling f k cs s
 from_life f k cs s _ _ e vacant q = absurd (let z : ◌≡◌ {A = ℕ} 0 1 = cc in omega arith)
 from_life f k cs s _ _ e (lives l t q) r =
     let w = filed l.filing t (answer_of l.filing 1800) refl q in

@@ -3,10 +3,10 @@ use Prim.Native.Nat.{ℕ, ◌≤◌}
 use mathlib.Core.Path.{◌≡◌, refl, sym, ap, ◌∙◌}
 use mathlib.Core.Bool.{Bool, true, false, cond}
 use mathlib.Core.List.{List, map}
-use mathlib.Core.Option.{Option, none, some}
 use native.Mathlib.Omega.{arith}
 use lib.Dec.{leb}
 use borrow.Author.Tests.{leb-true, leb-false}
+use Rattle.std.specs.Prelude.{Option, None, Some}
 use Rattle.message.specs.declared.Answer.{Answer}
 use Rattle.message.specs.declared.Answer.TheVariants.{Accepted as ReadAs, Refused as NotRead}
 use Rattle.message.specs.Reading.{is_plan, answer_of}
@@ -57,8 +57,8 @@ module _ (m : List ℕ) (field place : ℕ) where
   room_never k false e = let z : ◌≡◌ {A = ℕ} 20 11 = cc in omega arith
 
   firm_never : (b : Board house) (w : Option Firm) → told (said_to house w b (file m)) ≡ Refused 11 field place → ⊥
-  firm_never b none e = let z : ◌≡◌ {A = ℕ} 18 11 = cc in omega arith
-  firm_never b (some f) e = room_never (lowest (b f)) (has_room (held_in (b f)) (beyond (held_in (b (other f))))) e
+  firm_never b None e = let z : ◌≡◌ {A = ℕ} 18 11 = cc in omega arith
+  firm_never b (Some f) e = room_never (lowest (b f)) (has_room (held_in (b f)) (beyond (held_in (b (other f))))) e
 
 -- THE THEOREM
 pub filing_never : FilingNever
@@ -107,12 +107,12 @@ module _ (cs : List (Call (List ℕ))) (k : ℕ) (m : List ℕ) (field place : �
         same = cc
 
     slot_never : (f : Firm) (p : Option Standing) → stands house b f k ≡ p → told (offered_at house p k m) ≡ Refused number field place → ⊥
-    slot_never f none q e = let z : 19 ≡ number = cc in omega (arith, z, low)
-    slot_never f (some s) q e = outcome_never f s (each_strip cs f k s q) (update_of s.strip s.held m 1800) refl e
+    slot_never f None q e = let z : 19 ≡ number = cc in omega (arith, z, low)
+    slot_never f (Some s) q e = outcome_never f s (each_strip cs f k s q) (update_of s.strip s.held m 1800) refl e
 
     update_never : (w : Option Firm) → told (said_to house w b (update k m)) ≡ Refused number field place → ⊥
-    update_never none e = let z : 18 ≡ number = cc in omega (arith, z, low)
-    update_never (some f) e = slot_never f (stands house b f k) refl e
+    update_never None e = let z : 18 ≡ number = cc in omega (arith, z, low)
+    update_never (Some f) e = slot_never f (stands house b f k) refl e
 
 -- THE THEOREM
 pub updating_never : UpdatingNever

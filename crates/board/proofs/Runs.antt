@@ -3,11 +3,11 @@ use Prim.Native.Nat.{ℕ, ◌+◌, ◌*◌, ◌≤◌, ◌<◌}
 use mathlib.Core.Path.{◌≡◌, refl, ap, subst, fun_ext, ◌∙◌}
 use mathlib.Core.Bool.{Bool, true, false, cond}
 use mathlib.Core.List.{List, ◌∷◌}
-use mathlib.Core.Option.{Option, none, some}
 use native.Mathlib.Omega.{arith}
 use lib.Dec.{leb}
 use lib.ListN.{length, take, drop, get_or, set, replicate, length-set, length-take}
 use borrow.Author.Tests.{le-leb, leb-true, leb-false}
+use Rattle.std.specs.Prelude.{Option, None, Some}
 use Rattle.kinds.specs.declared.MessageType.{MessageType}
 use Rattle.message.specs.declared.Answer.{Answer}
 use Rattle.message.specs.declared.Answer.TheVariants.{Accepted as ReadAs, Refused as NotRead}
@@ -29,10 +29,9 @@ use Rattle.rooms.specs.Rooms.Act.{file, update, clear}
 use Rattle.rooms.specs.Rooms.Reply.{filed, updated, cleared, refused, no_firm, no_slot, no_room, not_over}
 use Rattle.rooms.proofs.Racks.{lowest_inside, room_below}
 use Rattle.board.specs.House.{filing_as, updating_as, lent, over_in, house}
-use Rattle.racks.specs.declared.Place.{Place}
 use Rattle.board.specs.declared.Verdict.{Verdict}
 use Rattle.board.specs.declared.Turn.{Turn}
-use Rattle.racks.specs.Places.{Sized, in_place, strip_in, vacant, base, rack_at, board_in, place_of, written}
+use Rattle.racks.specs.Places.{Place, Sized, in_place, strip_in, vacant, base, rack_at, board_in, place_of, written}
 use Rattle.board.specs.Turns.{told, placed, lent_after, placed_by, lent_by, Turned}
 use Rattle.board.specs.Runs.{Plays, Goes, Faithful}
 use Rattle.board.specs.Runs.Plays.{done, turn}
@@ -75,23 +74,23 @@ module _ (ps : List Place) (bytes : List ℕ) (f : Firm) (n : ℕ) where
       let low = lowest_inside (board_in ps bytes f) (omega (arith, board_length ps bytes f, room_below (held_in (board_in ps bytes f)) n e)) in
       filing_proper (lowest (board_in ps bytes f)) (omega (arith, low, board_length ps bytes f)) m (answer_of m 1800) refl
 
-  slot_inside : (k : ℕ) (s : Standing) → get_or (board_in ps bytes f) k none ≡ some s → k < 10
+  slot_inside : (k : ℕ) (s : Standing) → get_or (board_in ps bytes f) k None ≡ Some s → k < 10
   slot_inside k s e = go (leb 10 k) refl
     where
       go : (b : Bool) → leb 10 k ≡ b → k < 10
       go true q = absurd (never (board_past ps bytes f k (leb-true 10 k q)))
         where
-          never : get_or (board_in ps bytes f) k none ≡ none → ⊥
+          never : get_or (board_in ps bytes f) k None ≡ None → ⊥
           never n = let z : ◌≡◌ {A = ℕ} 0 1 = cc in omega arith
       go false q = leb-false 10 k q
 
-  update_proper : (k : ℕ) (m : List ℕ) (p : Option Standing) → get_or (board_in ps bytes f) k none ≡ p → Proper (offered_at house p k m)
-  update_proper k m none e = tt
-  update_proper k m (some s) e = updating_proper k (slot_inside k s e) s m (update_of s.strip s.held m 1800) refl
+  update_proper : (k : ℕ) (m : List ℕ) (p : Option Standing) → get_or (board_in ps bytes f) k None ≡ p → Proper (offered_at house p k m)
+  update_proper k m None e = tt
+  update_proper k m (Some s) e = updating_proper k (slot_inside k s e) s m (update_of s.strip s.held m 1800) refl
 
-  clear_proper : (k : ℕ) (p : Option Standing) → get_or (board_in ps bytes f) k none ≡ p → Proper (cleared_at house p k)
-  clear_proper k none e = tt
-  clear_proper k (some s) e = go (over_in s.held.state)
+  clear_proper : (k : ℕ) (p : Option Standing) → get_or (board_in ps bytes f) k None ≡ p → Proper (cleared_at house p k)
+  clear_proper k None e = tt
+  clear_proper k (Some s) e = go (over_in s.held.state)
     where
       go : (b : Bool) → Proper (cond b (cleared k) not_over)
       go true = slot_inside k s e
@@ -99,8 +98,8 @@ module _ (ps : List Place) (bytes : List ℕ) (f : Firm) (n : ℕ) where
 
   reply_proper : (a : Act (List ℕ)) → Proper (reply house (board_in ps bytes f) n a)
   reply_proper (file m) = file_proper m (has_room (held_in (board_in ps bytes f)) n) refl
-  reply_proper (update k m) = update_proper k m (get_or (board_in ps bytes f) k none) refl
-  reply_proper (clear k) = clear_proper k (get_or (board_in ps bytes f) k none) refl
+  reply_proper (update k m) = update_proper k m (get_or (board_in ps bytes f) k None) refl
+  reply_proper (clear k) = clear_proper k (get_or (board_in ps bytes f) k None) refl
 
 -- WHAT STANDS AFTER ONE PLACE WAS CHANGED
 
@@ -114,9 +113,9 @@ module _ (ps : List Place) (bytes : List ℕ) (z : Sized ps bytes) (k : ℕ) (le
 
   -- a strip in its place
   stood : (g : Firm) (s : Standing) → length s.strip ≤ 1800
-      → strip_in (place_of s).held (drop (1800 * (base g + k)) (written (base g + k) s.strip bytes)) ≡ some s
+      → strip_in (place_of s) (drop (1800 * (base g + k)) (written (base g + k) s.strip bytes)) ≡ Some s
   stood g s short =
-      ap (λ (w : List ℕ). some (record { strip = w; held = s.held }))
+      ap (λ (w : List ℕ). Some (record { strip = w; held = s.held }))
       (ap (λ (n : ℕ). take n (drop (1800 * (base g + k)) (written (base g + k) s.strip bytes))) (in_place_lem (length s.strip) short)
       ∙ written_there (base g + k) s.strip bytes short (omega (arith, inside g, z.room)))
 
@@ -124,7 +123,7 @@ module _ (ps : List Place) (bytes : List ℕ) (z : Sized ps bytes) (k : ℕ) (le
   Changed g p mid new = (f : Firm) → board_in (set ps (base g + k) p) mid f ≡ cond (same g f) (set (board_in ps bytes g) k new) (board_in ps bytes f)
 
   module _ (p : Place) (mid : List ℕ) (new : Option Standing) where
-    changed : (g : Firm) → strip_in p.held (drop (1800 * (base g + k)) mid) ≡ new
+    changed : (g : Firm) → strip_in p (drop (1800 * (base g + k)) mid) ≡ new
         → ((j m : ℕ) → m ≤ 1800 → (base g + k ≡ j → ⊥) → take m (drop (1800 * j) mid) ≡ take m (drop (1800 * j) bytes)) → Changed g p mid new
     unfolding rack_at
     changed First e others First =
@@ -134,13 +133,13 @@ module _ (ps : List Place) (bytes : List ℕ) (z : Sized ps bytes) (k : ℕ) (le
     changed Second e others Second =
         rack_with ps bytes mid (10 + k) p (omega (arith, z.places)) others 10 10 k refl less ∙ ap (λ (x : Option Standing). set (rack_at ps bytes 10) k x) e
 
-  pub put_there : (g : Firm) (s : Standing) → length s.strip ≤ 1800 → Changed g (place_of s) (written (base g + k) s.strip bytes) (some s)
+  pub put_there : (g : Firm) (s : Standing) → length s.strip ≤ 1800 → Changed g (place_of s) (written (base g + k) s.strip bytes) (Some s)
   put_there g s short =
-      changed (place_of s) (written (base g + k) s.strip bytes) (some s) g (stood g s short)
+      changed (place_of s) (written (base g + k) s.strip bytes) (Some s) g (stood g s short)
       (λ j m h apart. written_other (base g + k) s.strip bytes short (omega (arith, inside g, z.room)) j m h apart)
 
-  pub taken_away : (g : Firm) → Changed g vacant bytes none
-  taken_away g = changed vacant bytes none g refl (λ j m h apart. refl)
+  pub taken_away : (g : Firm) → Changed g vacant bytes None
+  taken_away g = changed vacant bytes None g refl (λ j m h apart. refl)
 
   pub put_sized : (g : Firm) (s : Standing) → length s.strip ≤ 1800 → Sized (set ps (base g + k) (place_of s)) (written (base g + k) s.strip bytes)
   put_sized g s short =
@@ -162,7 +161,7 @@ same_board Second b First = refl
 same_board Second b Second = refl
 
 said_left : (g : Firm) (ps : List Place) (bytes : List ℕ) → Sized ps bytes → (x : Said house) → Proper x
-    → Left (some g) ps bytes x (placed g x ps) (lent_after g x bytes)
+    → Left (Some g) ps bytes x (placed g x ps) (lent_after g x bytes)
 said_left g ps bytes z (filed k s) p = record { board_is = put_there ps bytes z k p.0 g s p.1; sized = put_sized ps bytes z k p.0 g s p.1 }
 said_left g ps bytes z (updated k s) p = record { board_is = put_there ps bytes z k p.0 g s p.1; sized = put_sized ps bytes z k p.0 g s p.1 }
 said_left g ps bytes z (cleared k) p =
@@ -176,9 +175,9 @@ said_left g ps bytes z not_over p = record { board_is = same_board g (board_in p
 turn_left : (w : Option Firm) (ps : List Place) (bytes : List ℕ) → Sized ps bytes → (a : Act (List ℕ))
     → Left w ps bytes (said_to house w (board_in ps bytes) a) (placed_by w (said_to house w (board_in ps bytes) a) ps)
     (lent_by w (said_to house w (board_in ps bytes) a) bytes)
-turn_left none ps bytes z a = record { board_is = λ f. refl; sized = z }
-turn_left (some g) ps bytes z a =
-    said_left g ps bytes z (said_to house (some g) (board_in ps bytes) a) (reply_proper ps bytes g (beyond (held_in (board_in ps bytes (other g)))) a)
+turn_left None ps bytes z a = record { board_is = λ f. refl; sized = z }
+turn_left (Some g) ps bytes z a =
+    said_left g ps bytes z (said_to house (Some g) (board_in ps bytes) a) (reply_proper ps bytes g (beyond (held_in (board_in ps bytes (other g)))) a)
 
 pub one_turn : (c : Call (List ℕ)) (ps : List Place) (bytes : List ℕ) (t : Turn) (mid : List ℕ) → Sized ps bytes → Turned c ps bytes t mid
     → Left (firm_of c.by) ps bytes (said house (board_in ps bytes) c) t.board.places mid

@@ -3,10 +3,10 @@ use Prim.Native.Nat.{ℕ, ◌+◌, ◌≤◌, ◌<◌}
 use mathlib.Core.Path.{◌≡◌, refl, sym, ap, ap₂, subst, ◌∙◌}
 use mathlib.Core.Bool.{Bool, true, false, cond}
 use mathlib.Core.List.{List, []}
-use mathlib.Core.Option.{Option, none, some}
 use native.Mathlib.Omega.{arith}
 use lib.ListN.{length, take, drop, get_or, set}
 use lib.Seq.{take_at, length-take-le}
+use Rattle.std.specs.Prelude.{Option, None, Some}
 use Rattle.text.specs.Lent.{front}
 use Rattle.kinds.specs.declared.MessageType.{MessageType}
 use Rattle.kinds.specs.declared.MessageType.TheVariants.{Fpl}
@@ -28,11 +28,9 @@ use Rattle.rooms.specs.Rooms.Outcome.{takes, refuses}
 use Rattle.rooms.specs.Rooms.Act.{file, update, clear}
 use Rattle.rooms.specs.Rooms.Reply.{filed, updated, cleared, refused, no_slot, no_room, not_over}
 use Rattle.rooms.proofs.Racks.{lowest_inside, room_below}
-use Rattle.racks.specs.declared.Held.{Held}
-use Rattle.racks.specs.declared.Held.TheVariants.{Nothing, Flight}
-use Rattle.racks.specs.declared.Place.{Place}
+use Rattle.racks.specs.declared.Flight.{Flight}
 use Rattle.racks.specs.declared.Board.{Board}
-use Rattle.racks.specs.Places.{strip_in, vacant, base, board_in, held_to, shown_as, shown_to, Puts}
+use Rattle.racks.specs.Places.{Place, strip_in, vacant, base, board_in, held_to, shown_as, shown_to, Puts}
 use Rattle.racks.proofs.Racks.{board_length, board_held, board_lowest}
 use Rattle.racks.proofs.Slots.{there, slot_held}
 use Rattle.board.specs.House.{Why, filing_as, updating_as, lent, over_in, house}
@@ -127,12 +125,12 @@ module _ (f : Firm) (b : Board) (bytes m : List ℕ) where
 
 module _ (f : Firm) (slot : ℕ) (b : Board) (bytes : List ℕ) where
   abbrev stood : Option Standing
-  stood = get_or (board_in b.places bytes f) slot none
+  stood = get_or (board_in b.places bytes f) slot None
 
   -- nothing stands there
-  module _ (h : Held) (e : h ≡ held_to f slot b.places) (z : h ≡ Nothing) where
-    none_there : stood ≡ none
-    none_there = slot_held f slot b.places bytes h e ∙ ap (λ (x : Held). strip_in x (there f slot b.places bytes)) z
+  module _ (h : Place) (e : h ≡ held_to f slot b.places) (z : h ≡ None) where
+    none_there : stood ≡ None
+    none_there = slot_held f slot b.places bytes h e ∙ ap (λ (x : Place). strip_in x (there f slot b.places bytes)) z
 
     pub update_none : (m : List ℕ) (t : Turn) → t ≡ refusal b 19 0 0 → TurnOf f (update slot m) b.places bytes t bytes
     update_none m t r =
@@ -145,14 +143,17 @@ module _ (f : Firm) (slot : ℕ) (b : Board) (bytes : List ℕ) where
         (ap (λ (u : Turn). u.verdict) r) (ap (λ (u : Turn). u.board.places) r) refl
 
   -- a flight stands there
-  module _ (h : Held) (held : Strip) (n : ℕ) (e : h ≡ held_to f slot b.places) (z : h ≡ Flight held n) where
+  module _ (h : Place) (p : Flight) (e : h ≡ held_to f slot b.places) (z : h ≡ Some p) where
+    abbrev held : Strip
+    held = p.held
+
     abbrev strip : List ℕ
     strip = shown_to f slot b.places bytes
 
-    flight_there : stood ≡ some (record { strip = strip; held = held })
+    flight_there : stood ≡ Some (record { strip = strip; held = held })
     flight_there =
-        let q = slot_held f slot b.places bytes h e ∙ ap (λ (x : Held). strip_in x (there f slot b.places bytes)) z in
-        q ∙ ap (λ (o : Option Standing). some (record { strip = shown_as o; held = held })) (sym q)
+        let q = slot_held f slot b.places bytes h e ∙ ap (λ (x : Place). strip_in x (there f slot b.places bytes)) z in
+        q ∙ ap (λ (o : Option Standing). Some (record { strip = shown_as o; held = held })) (sym q)
 
     -- OFFERING
     module _ (m : List ℕ) where
@@ -198,7 +199,7 @@ module _ (f : Firm) (slot : ℕ) (b : Board) (bytes : List ℕ) where
 
 -- BY A NUMBER
 
-pub by_firm : (a : Act (List ℕ)) (ps : List Place) (bytes : List ℕ) (t : Turn) (after : List ℕ) (n : ℕ) (f : Firm) → firm_of n ≡ some f
+pub by_firm : (a : Act (List ℕ)) (ps : List Place) (bytes : List ℕ) (t : Turn) (after : List ℕ) (n : ℕ) (f : Firm) → firm_of n ≡ Some f
     → TurnOf f a ps bytes t after → Turned (record { by = n; does = a }) ps bytes t after
 by_firm a ps bytes t after n f e k =
     record {
@@ -207,7 +208,7 @@ by_firm a ps bytes t after n f e k =
       bytes_are = k.bytes_are ∙ sym (ap (λ (w : Option Firm). lent_by w (said_to house w (board_in ps bytes) a) bytes) e);
     }
 
-pub by_nobody : (a : Act (List ℕ)) (b : Board) (bytes : List ℕ) (t : Turn) (n : ℕ) → firm_of n ≡ none → t ≡ refusal b 18 0 0
+pub by_nobody : (a : Act (List ℕ)) (b : Board) (bytes : List ℕ) (t : Turn) (n : ℕ) → firm_of n ≡ None → t ≡ refusal b 18 0 0
     → Turned (record { by = n; does = a }) b.places bytes t bytes
 by_nobody a b bytes t n e r =
     let ps = b.places in

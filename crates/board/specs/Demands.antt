@@ -1,7 +1,6 @@
 -- What is promised of the board (document 02, request 6), of strips as they are. `Meets house (keeper house)` of the crate rooms has the counts, 18, 19,
 -- 20 and 13, the lowest empty slot, the two firms and the journal; this page has what the strip's own rules add, and the code. Assumes nothing.
-use Rattle.std.specs.Prelude.{ℕ, ◌≡◌, List, [], ◌∷◌, map, length, replicate}
-use Rattle.std.proofs.Math.Option.{some}
+use Rattle.std.specs.Prelude.{ℕ, ◌≡◌, List, [], ◌∷◌, map, length, replicate, Some}
 use Rattle.sent.specs.Sent.{contents}
 use Rattle.kinds.specs.declared.MessageType.TheVariants.{Fpl}
 use Rattle.message.specs.declared.Answer.TheVariants.{Accepted as ReadAs}
@@ -11,8 +10,7 @@ use Rattle.rooms.specs.declared.Firm.{Firm}
 use Rattle.rooms.specs.Rooms.{Call, firm_of, empty, stands, said}
 use Rattle.rooms.specs.Keeper.{is_of, kept, after_all, log_of, view}
 use Rattle.rooms.specs.Counts.{Life, life_at}
-use Rattle.racks.specs.declared.Place.{Place}
-use Rattle.racks.specs.Places.{vacant, board_in}
+use Rattle.racks.specs.Places.{Place, vacant, board_in}
 use Rattle.board.specs.House.{lent, house}
 use Rattle.board.specs.declared.Verdict.{Verdict}
 use Rattle.board.specs.declared.Verdict.TheVariants.{Refused}
@@ -28,14 +26,14 @@ offer_of m = record { bytes = m; lent = lent }
 pub record FromFiling (f : Firm) (k : ℕ) (cs : List (Call (List ℕ))) (s : Standing) : Type 0 where
   -- its filing, and the messages offered to it since
   pub life : Life (List ℕ)
-  pub is_life : life_at house f k (log_of house (empty house) cs) ≡ some life
+  pub is_life : life_at house f k (log_of house (empty house) cs) ≡ Some life
   pub long : ℕ
   pub read : answer_of life.filing 1800 ≡ ReadAs Fpl long
   pub strip_is : s ≡ offered_all updater (filed_as life.filing) (map offer_of life.offers)
   pub demanded : Demand3 updater (contents life.filing) (filed_as life.filing) (map offer_of life.offers)
 
 abbrev pub EachStrip : Type 0
-EachStrip = (cs : List (Call (List ℕ))) (f : Firm) (k : ℕ) (s : Standing) → stands house (after_all house (empty house) cs) f k ≡ some s
+EachStrip = (cs : List (Call (List ℕ))) (f : Firm) (k : ℕ) (s : Standing) → stands house (after_all house (empty house) cs) f k ≡ Some s
     → FromFiling f k cs s
 
 -- NEVER: a place holds 1,800 bytes and what stands there was filed and amended by the rules, so a filing never gets 11, and an update neither 11 nor

@@ -4,8 +4,7 @@ use Rattle.std.specs.Prelude.{ℕ, ◌≡◌, List, [], ◌∷◌, map, length, 
 use Rattle.rooms.specs.declared.Firm.{Firm}
 use Rattle.rooms.specs.Rooms.{Call, Board, empty}
 use Rattle.rooms.specs.Keeper.{Entry, after_all, log_of}
-use Rattle.racks.specs.declared.Place.{Place}
-use Rattle.racks.specs.Places.{vacant, board_in, Sized}
+use Rattle.racks.specs.Places.{Place, vacant, board_in, Sized}
 use Rattle.board.specs.House.{house}
 use Rattle.board.specs.declared.Verdict.{Verdict}
 use Rattle.board.specs.declared.Turn.{Turn}

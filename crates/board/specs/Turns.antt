@@ -1,14 +1,10 @@
 -- What each call does to the board as the code holds it: the verdict in document 02's numbers, every place and every byte. Assumes nothing.
-use Rattle.std.specs.Prelude.{ℕ, ◌+◌, ◌≡◌, Bool, List, [], length, set}
-use Rattle.std.proofs.Math.Option.{Option, none, some}
+use Rattle.std.specs.Prelude.{ℕ, ◌+◌, ◌≡◌, Bool, List, [], length, set, Option, None, Some}
 use Rattle.rooms.specs.declared.Firm.{Firm}
 use Rattle.rooms.specs.Rooms.{firm_of, other, Act, Call, held_in, beyond, has_room, Said, reply, said}
 use Rattle.rooms.specs.Rooms.Act.{file, update, clear}
 use Rattle.rooms.specs.Rooms.Reply.{filed, updated, cleared, refused, no_firm, no_slot, no_room, not_over}
-use Rattle.racks.specs.declared.Held.{Held}
-use Rattle.racks.specs.declared.Held.TheVariants.{Nothing, Flight}
-use Rattle.racks.specs.declared.Place.{Place}
-use Rattle.racks.specs.Places.{vacant, base, board_in, held_to, shown_to, place_of, written}
+use Rattle.racks.specs.Places.{Place, vacant, base, board_in, held_to, shown_to, place_of, written}
 use Rattle.board.specs.House.{house}
 use Rattle.board.specs.declared.Verdict.{Verdict}
 use Rattle.board.specs.declared.Verdict.TheVariants.{Filed, Updated, Cleared, Refused}
@@ -55,12 +51,12 @@ lent_after f no_room bytes = bytes
 lent_after f not_over bytes = bytes
 
 abbrev pub placed_by : Option Firm → Said house → List Place → List Place
-placed_by none x ps = ps
-placed_by (some f) x ps = placed f x ps
+placed_by None x ps = ps
+placed_by (Some f) x ps = placed f x ps
 
 abbrev pub lent_by : Option Firm → Said house → List ℕ → List ℕ
-lent_by none x bytes = bytes
-lent_by (some f) x bytes = lent_after f x bytes
+lent_by None x bytes = bytes
+lent_by (Some f) x bytes = lent_after f x bytes
 
 -- WHAT A TURN MUST DO: by a firm, and by whatever number a caller gives for one
 
@@ -101,17 +97,17 @@ Clearing firm slot ps t = (bytes : List ℕ) → Turned (clearing firm slot) ps 
 
 -- THE LOOK at a slot: 18, 19, or the record of what stands there; and the strip itself
 
-abbrev pub looked_as : Held → Looked
-looked_as Nothing = NotShown 19 0 0
-looked_as (Flight held n) = Stands held
+abbrev pub looked_as : Place → Looked
+looked_as None = NotShown 19 0 0
+looked_as (Some p) = Stands p.held
 
 abbrev pub looked_at : Firm → ℕ → List Place → Looked
 looked_at f slot ps = looked_as (held_to f slot ps)
 
 abbrev pub looked_to : Option Firm → ℕ → List Place → Looked
-looked_to none slot ps = NotShown 18 0 0
-looked_to (some f) slot ps = looked_at f slot ps
+looked_to None slot ps = NotShown 18 0 0
+looked_to (Some f) slot ps = looked_at f slot ps
 
 abbrev pub strip_to : Option Firm → ℕ → List Place → List ℕ → List ℕ
-strip_to none slot ps bytes = []
-strip_to (some f) slot ps bytes = shown_to f slot ps bytes
+strip_to None slot ps bytes = []
+strip_to (Some f) slot ps bytes = shown_to f slot ps bytes

@@ -4,26 +4,22 @@ use Prim.Native.Nat.{ℕ, zero, suc, ◌+◌, ◌*◌, ◌-◌, ◌≤◌, ◌<�
 use mathlib.Core.Path.{◌≡◌, refl, sym, ap, ap₂, subst, ◌∙◌}
 use mathlib.Core.Bool.{Bool, true, false, cond}
 use mathlib.Core.List.{List, [], ◌∷◌, ◌++◌}
-use mathlib.Core.Option.{Option, none, some}
 use native.Mathlib.Omega.{arith}
 use lib.Dec.{ltb, leb}
 use lib.ListN.{length, take, drop, get_or, get_or-eq_default}
 use lib.Seq.{drop-drop, take_at, ext_get_or}
 use borrow.Author.Tests.{lt-ltb, ltb-true, leb-true, leb-false}
+use Rattle.std.specs.Prelude.{Option, None, Some}
 use Rattle.text.specs.Words.{same}
 use Rattle.text.proofs.Tests.{same-eq, same_self}
-use Rattle.state.specs.declared.Departure.TheVariants.{Known, Unknown}
 use Rattle.state.specs.declared.State.{State}
 use Rattle.state.specs.declared.State.TheVariants.{Filed, Departed, Arrived, Cancelled}
-use Rattle.state.specs.declared.Strip.{Strip}
 use Rattle.handed.specs.States.{state_numbers, kept, state_of}
 use Rattle.handed.proofs.Laws.{state_one, state_long}
-use Rattle.racks.specs.declared.Held.{Held}
-use Rattle.racks.specs.declared.Held.TheVariants.{Nothing, Flight}
-use Rattle.racks.specs.declared.Place.{Place}
 use Rattle.rooms.specs.declared.Firm.{Firm}
 use Rattle.rooms.specs.Rooms.{Call}
-use Rattle.racks.specs.Places.{vacant, held_at, base, in_place, strip_in, held_to, shown_as, shown_to}
+use Rattle.racks.specs.declared.Flight.{Flight}
+use Rattle.racks.specs.Places.{Place, vacant, held_at, base, in_place, strip_in, held_to, shown_as, shown_to}
 use Rattle.racks.proofs.Slots.{held_past, there, slot_stands, shows_none}
 use Rattle.board.specs.Turns.{strip_to}
 use Rattle.board_numbers.specs.Calls.{Called, start_of, Looks}
@@ -36,42 +32,46 @@ use Rattle.board_numbers.proofs.Rows.{row_long, numbers_at}
 flight_length : (s : State) (n : ℕ) (rest : List ℕ) → get_or (1 ∷ ((state_numbers s ++ (n ∷ [])) ++ rest)) 9 0 ≡ n
 flight_length Filed n rest = refl
 flight_length (Departed t) n rest = refl
-flight_length (Arrived (Known d) a t) n rest = refl
-flight_length (Arrived Unknown a t) n rest = refl
+flight_length (Arrived (Some d) a t) n rest = refl
+flight_length (Arrived None a t) n rest = refl
 flight_length Cancelled n rest = refl
 
 flight_state : (s : State) (n : ℕ) (rest : List ℕ) → state_of ((state_numbers s ++ (n ∷ [])) ++ rest) ≡ state_of (state_numbers s)
 flight_state Filed n rest = refl
 flight_state (Departed t) n rest = refl
-flight_state (Arrived (Known d) a t) n rest = refl
-flight_state (Arrived Unknown a t) n rest = refl
+flight_state (Arrived (Some d) a t) n rest = refl
+flight_state (Arrived None a t) n rest = refl
 flight_state Cancelled n rest = refl
 
-row_one : (h k : Held) → held_numbers h ≡ held_numbers k → h ≡ k
-row_one Nothing Nothing e = refl
-row_one Nothing (Flight held n) e = let z : ◌≡◌ {A = ℕ} 0 1 = ap (λ (ns : List ℕ). get_or ns 0 0) e in absurd (omega arith)
-row_one (Flight held n) Nothing e = let z : ◌≡◌ {A = ℕ} 1 0 = ap (λ (ns : List ℕ). get_or ns 0 0) e in absurd (omega arith)
-row_one (Flight a n) (Flight b m) e =
+abbrev flight : State → ℕ → Flight
+flight s n = record { held = record { state = s }; length = n }
+
+row_one : (h k : Place) → held_numbers h ≡ held_numbers k → h ≡ k
+row_one None None e = refl
+row_one None (Some p) e = let z : ◌≡◌ {A = ℕ} 0 1 = ap (λ (ns : List ℕ). get_or ns 0 0) e in absurd (omega arith)
+row_one (Some p) None e = let z : ◌≡◌ {A = ℕ} 1 0 = ap (λ (ns : List ℕ). get_or ns 0 0) e in absurd (omega arith)
+row_one (Some p) (Some r) e =
     let front : (s : State) (k : ℕ) → take 8 (state_numbers s ++ (k ∷ [])) ≡ state_numbers s = λ s k. take_at (state_numbers s) (k ∷ []) 8 (state_long s) in
-    let s : a.state ≡ b.state
-    = state_one a.state b.state (sym (front a.state n) ∙ ap (λ (ns : List ℕ). take 8 (drop 1 ns)) e ∙ front b.state m) in
+    let a = p.held.state in
+    let b = r.held.state in
+    let s : a ≡ b = state_one a b (sym (front a p.length) ∙ ap (λ (ns : List ℕ). take 8 (drop 1 ns)) e ∙ front b r.length) in
     let q : (s : State) (k : ℕ) → get_or (1 ∷ (state_numbers s ++ (k ∷ []))) 9 0 ≡ k = last in
-    let l : n ≡ m = sym (q a.state n) ∙ ap (λ (ns : List ℕ). get_or ns 9 0) e ∙ q b.state m in
-    ap₂ (λ (x : State) (k : ℕ). Flight (record { state = x }) k) s l
+    let l : p.length ≡ r.length = sym (q a p.length) ∙ ap (λ (ns : List ℕ). get_or ns 9 0) e ∙ q b r.length in
+    ap₂ (λ (x : State) (k : ℕ). Some (flight x k)) s l
   where
     last : (s : State) (k : ℕ) → get_or (1 ∷ (state_numbers s ++ (k ∷ []))) 9 0 ≡ k
     last Filed k = refl
     last (Departed t) k = refl
-    last (Arrived (Known d) c t) k = refl
-    last (Arrived Unknown c t) k = refl
+    last (Arrived (Some d) c t) k = refl
+    last (Arrived None c t) k = refl
     last Cancelled k = refl
 
 -- what the numbers of a flight mean
-flight_read : (held : Strip) (n : ℕ) (rest : List ℕ)
-    → held_of (held_numbers (Flight held n) ++ rest) ≡ Flight (record { state = state_of (state_numbers held.state) }) (kept 1801 n)
+flight_read : (p : Flight) (rest : List ℕ)
+    → held_of (held_numbers (Some p) ++ rest) ≡ Some (flight (state_of (state_numbers p.held.state)) (kept 1801 p.length))
 unfolding held_of
-flight_read held n rest =
-    ap₂ (λ (s : State) (k : ℕ). Flight (record { state = s }) (kept 1801 k)) (flight_state held.state n rest) (flight_length held.state n rest)
+flight_read p rest =
+    ap₂ (λ (s : State) (k : ℕ). Some (flight s (kept 1801 k))) (flight_state p.held.state p.length rest) (flight_length p.held.state p.length rest)
 
 short_kept : (n : ℕ) → n ≤ 1800 → kept 1801 n ≡ n
 short_kept n h = rw (lt-ltb n 1801 (omega arith))
@@ -83,20 +83,18 @@ kept_short n e = go (ltb n 1801) refl e
     go true q e = omega (arith, ltb-true n 1801 q)
     go false q e = omega arith
 
-held_back : (h : Held) → Storable h → (rest : List ℕ) → held_of (held_numbers h ++ rest) ≡ h
+held_back : (h : Place) → Storable h → (rest : List ℕ) → held_of (held_numbers h ++ rest) ≡ h
 unfolding held_of
-held_back Nothing k rest = refl
-held_back (Flight held n) k rest =
-    flight_read held n rest ∙ ap₂ (λ (s : State) (m : ℕ). Flight (record { state = s }) m) k.0 (short_kept n k.1)
+held_back None k rest = refl
+held_back (Some p) k rest = flight_read p rest ∙ ap₂ (λ (s : State) (m : ℕ). Some (flight s m)) k.0 (short_kept p.length k.1)
 
 -- and what is found again can be held
-back_held : (h : Held) (rest : List ℕ) → held_of (held_numbers h ++ rest) ≡ h → Storable h
-back_held Nothing rest e = tt
-back_held (Flight held n) rest e =
-    let q : Flight (record { state = state_of (state_numbers held.state) }) (kept 1801 n) ≡ Flight held n = sym (flight_read held n rest) ∙ e in
-    let s : record { state = state_of (state_numbers held.state) } ≡ held = cc in
-    let l : n ≡ kept 1801 n = cc in
-    (ap (λ (x : Strip). x.state) s, kept_short n l)
+back_held : (h : Place) (rest : List ℕ) → held_of (held_numbers h ++ rest) ≡ h → Storable h
+back_held None rest e = tt
+back_held (Some p) rest e =
+    let q : Some (flight (state_of (state_numbers p.held.state)) (kept 1801 p.length)) ≡ Some p = sym (flight_read p rest) ∙ e in
+    let s : flight (state_of (state_numbers p.held.state)) (kept 1801 p.length) ≡ p = cc in
+    (ap (λ (x : Flight). x.held.state) s, kept_short p.length (sym (ap (λ (x : Flight). x.length) s)))
 
 -- THE PLACES that numbers mean, one by one
 
@@ -121,7 +119,7 @@ board_at i ns h = places_at 20 i ns h
 
 -- two lists of 20 places with the same in each are the same
 same_places : (ps qs : List Place) → length ps ≡ 20 → length qs ≡ 20 → ((i : ℕ) → i < 20 → held_at ps i ≡ held_at qs i) → ps ≡ qs
-same_places ps qs a b e = ext_get_or vacant ps qs (a ∙ sym b) (λ i h. ap (λ (x : Held). record { held = x }) (e i (omega (arith, a, h))))
+same_places ps qs a b e = ext_get_or vacant ps qs (a ∙ sym b) (λ i h. e i (omega (arith, a, h)))
 
 -- THE THEOREMS
 
@@ -156,7 +154,7 @@ board_held ns e i = go (leb 20 i) refl
     go true q =
         let z : vacant ≡ get_or (board_of ns) i vacant
         = sym (get_or-eq_default (board_of ns) vacant {n = i} (omega (arith, leb-true 20 i q, board_long ns))) in
-        subst (λ (p : Place). Storable p.held) z tt
+        subst (λ (p : Place). Storable p) z tt
     go false q =
         let h = leb-false 20 i q in
         let x = held_at (board_of ns) i in
@@ -172,19 +170,19 @@ taken_long (suc m) [] = refl
 taken_long (suc m) (x ∷ l) = ap (λ (r : List _). x ∷ r) (taken_long m l)
 
 -- what is held in a slot, and where its place begins
-shown_there : (h : Held) (bytes : List ℕ) → take (length (shown_as (strip_in h bytes))) bytes ≡ shown_as (strip_in h bytes)
-shown_there Nothing bytes = refl
-shown_there (Flight held n) bytes = taken_long (in_place n) bytes
+shown_there : (h : Place) (bytes : List ℕ) → take (length (shown_as (strip_in h bytes))) bytes ≡ shown_as (strip_in h bytes)
+shown_there None bytes = refl
+shown_there (Some p) bytes = taken_long (in_place p.length) bytes
 
 pub look_shows : (w : Option Firm) (slot : ℕ) (ps : List Place) (bytes : List ℕ)
     → take (length (strip_to w slot ps bytes)) (drop (start_of w slot) bytes) ≡ strip_to w slot ps bytes
-look_shows none slot ps bytes = refl
-look_shows (some f) slot ps bytes = go (leb 10 slot) refl
+look_shows None slot ps bytes = refl
+look_shows (Some f) slot ps bytes = go (leb 10 slot) refl
   where
     go : (b : Bool) → leb 10 slot ≡ b
         → take (length (shown_to f slot ps bytes)) (drop (cond b 0 (1800 * (base f + slot))) bytes) ≡ shown_to f slot ps bytes
     go true e =
-        let z : [] ≡ shown_to f slot ps bytes = shows_none f slot ps bytes Nothing (held_past f slot ps (leb-true 10 slot e)) refl in
+        let z : [] ≡ shown_to f slot ps bytes = shows_none f slot ps bytes None (held_past f slot ps (leb-true 10 slot e)) refl in
         subst (λ (s : List ℕ). take (length s) bytes ≡ s) z refl
     go false e =
         let z : shown_to f slot ps bytes ≡ shown_as (strip_in (held_to f slot ps) (there f slot ps bytes)) = ap shown_as (slot_stands f slot ps bytes) in

@@ -6,18 +6,15 @@ use native.Mathlib.Numerals.{add-one}
 use native.Mathlib.Omega.{arith}
 use lib.ListN.{length, take, drop, get_or, set, length-append, length-drop, drop_of_length-le}
 use lib.Seq.{take_all, drop-drop, drop-append_seam, take-suc-set, append_snoc, length-take-le}
+use Rattle.std.specs.Prelude.{None, Some}
 use Rattle.text.specs.Lent.{front}
 use Rattle.text.proofs.Lent.{lent, next_out}
 use borrow.Author.Tests.{eq-eqb, ne_eqb}
-use Rattle.state.specs.declared.Departure.TheVariants.{Known, Unknown}
 use Rattle.state.specs.declared.State.{State}
 use Rattle.state.specs.declared.State.TheVariants.{Filed, Departed, Arrived, Cancelled}
 use Rattle.handed.specs.States.{state_numbers, kept, state_of}
 use Rattle.handed.proofs.Steps.{state_laid}
-use Rattle.racks.specs.declared.Held.{Held}
-use Rattle.racks.specs.declared.Held.TheVariants.{Nothing, Flight}
-use Rattle.racks.specs.declared.Place.{Place}
-use Rattle.racks.specs.Places.{held_at}
+use Rattle.racks.specs.Places.{Place, held_at}
 use Rattle.board_numbers.specs.Numbers.{held_numbers, rows_from, board_numbers, held_of, places_from, board_of}
 
 -- A ROW has ten numbers
@@ -25,13 +22,13 @@ use Rattle.board_numbers.specs.Numbers.{held_numbers, rows_from, board_numbers, 
 flight_long : (s : State) (n : ℕ) → length (1 ∷ (state_numbers s ++ (n ∷ []))) ≡ 10
 flight_long Filed n = refl
 flight_long (Departed t) n = refl
-flight_long (Arrived (Known d) a t) n = refl
-flight_long (Arrived Unknown a t) n = refl
+flight_long (Arrived (Some d) a t) n = refl
+flight_long (Arrived None a t) n = refl
 flight_long Cancelled n = refl
 
-pub row_long : (h : Held) → length (held_numbers h) ≡ 10
-row_long Nothing = refl
-row_long (Flight held n) = flight_long held.state n
+pub row_long : (h : Place) → length (held_numbers h) ≡ 10
+row_long None = refl
+row_long (Some p) = flight_long p.held.state p.length
 
 pub rows_long : (ps : List Place) (i n : ℕ) → length (rows_from ps i n) ≡ 10 * n
 rows_long ps i zero = refl
@@ -49,7 +46,7 @@ row_laid s n e q = ap (λ (l : List ℕ). 1 ∷ (l ++ (n ∷ []))) (state_laid s
 
 -- WRITING: what is due from place i on
 
-pub behind_row : (h : Held) (k : ℕ) (rest : List ℕ) → drop (10 + k) (held_numbers h ++ rest) ≡ drop k rest
+pub behind_row : (h : Place) (k : ℕ) (rest : List ℕ) → drop (10 + k) (held_numbers h ++ rest) ≡ drop k rest
 behind_row h k rest =
     ap (λ (n : ℕ). drop (n + k) (held_numbers h ++ rest)) (sym (row_long h))
     ∙ sym (drop-drop k (length (held_numbers h)) (held_numbers h ++ rest))
@@ -116,14 +113,14 @@ pub ahead_first : (ns : List ℕ) → ahead ns 0 ≡ board_of ns
 unfolding ahead board_of
 ahead_first ns = refl
 
-pub ahead_next : (ns : List ℕ) (i : ℕ) → i < 20 → ahead ns i ≡ record { held = held_of (drop (10 * i) ns) } ∷ ahead ns (i + 1)
+pub ahead_next : (ns : List ℕ) (i : ℕ) → i < 20 → ahead ns i ≡ held_of (drop (10 * i) ns) ∷ ahead ns (i + 1)
 unfolding ahead
 ahead_next ns i h =
     let e : 20 - i ≡ suc (20 - (i + 1)) = omega arith in
     let k : 10 * i + 10 ≡ 10 * (i + 1) = omega arith in
     let x = drop (10 * i) ns in
     ap (λ (m : ℕ). places_from m x) e
-    ∙ ap (λ (l : List ℕ). record { held = held_of x } ∷ places_from (20 - (i + 1)) l) (drop-drop 10 (10 * i) ns ∙ ap (λ (m : ℕ). drop m ns) k)
+    ∙ ap (λ (l : List ℕ). held_of x ∷ places_from (20 - (i + 1)) l) (drop-drop 10 (10 * i) ns ∙ ap (λ (m : ℕ). drop m ns) k)
 
 pub ahead_none : (ns : List ℕ) (i : ℕ) → 20 ≤ i → ahead ns i ≡ []
 unfolding ahead
@@ -155,13 +152,13 @@ state_behind [] = refl
 state_behind (n ∷ ns) = refl
 
 module _ (ns : List ℕ) where
-  pub none_held : get_or ns 0 0 ≡ 0 → Nothing ≡ held_of ns
+  pub none_held : get_or ns 0 0 ≡ 0 → None ≡ held_of ns
   unfolding held_of
   none_held e = rw (eq-eqb (get_or ns 0 0) 0 e)
 
   pub one_held : (get_or ns 0 0 ≡ 0 → ⊥) → (s : State) (n : ℕ)
       → s ≡ state_of (get_or ns 1 0 ∷ get_or ns 2 0 ∷ get_or ns 3 0 ∷ get_or ns 4 0 ∷ get_or ns 5 0 ∷ get_or ns 6 0 ∷ get_or ns 7 0 ∷ get_or ns 8 0 ∷ [])
-      → n ≡ kept 1801 (get_or ns 9 0) → Flight (record { state = s }) n ≡ held_of ns
+      → n ≡ kept 1801 (get_or ns 9 0) → Some (record { held = record { state = s }; length = n }) ≡ held_of ns
   unfolding held_of
   one_held z s n es en =
-      rw (ne_eqb (get_or ns 0 0) 0 z, en) (ap (λ (t : State). Flight (record { state = t }) (kept 1801 (get_or ns 9 0))) (es ∙ state_behind ns))
+      rw (ne_eqb (get_or ns 0 0) 0 z, en) (ap (λ (t : State). Some (record { held = record { state = t }; length = kept 1801 (get_or ns 9 0) })) (es ∙ state_behind ns))

@@ -4,9 +4,9 @@ use Prim.Native.Nat.{ℕ, zero, suc, ◌+◌, ◌≤◌}
 use mathlib.Core.Path.{◌≡◌, refl, ap, subst, ◌∙◌}
 use mathlib.Core.Bool.{Bool, true, false, cond}
 use mathlib.Core.List.{List, [], ◌∷◌}
-use mathlib.Core.Option.{Option, none, some}
 use native.Mathlib.Omega.{arith}
 use lib.ListN.{length, get_or, set, replicate, length-set, length-take}
+use Rattle.std.specs.Prelude.{Option, None, Some}
 use Rattle.kinds.specs.declared.MessageType.{MessageType}
 use Rattle.message.specs.declared.Answer.{Answer}
 use Rattle.message.specs.declared.Answer.TheVariants.{Accepted as ReadAs, Refused as NotRead}
@@ -26,8 +26,7 @@ use Rattle.rooms.specs.Rooms.{said_to}
 use Rattle.rooms.specs.Rooms.Outcome.{takes, refuses}
 use Rattle.rooms.specs.Rooms.Act.{file, update, clear}
 use Rattle.rooms.specs.Rooms.Reply.{filed, updated, cleared, refused, no_firm, no_slot, no_room, not_over}
-use Rattle.racks.specs.declared.Place.{Place}
-use Rattle.racks.specs.Places.{vacant, base, board_in, place_of}
+use Rattle.racks.specs.Places.{Place, vacant, base, board_in, place_of}
 use Rattle.board.specs.House.{filing_as, updating_as, lent, over_in, house}
 use Rattle.board.specs.declared.Turn.{Turn}
 use Rattle.board.specs.Turns.{told, placed, placed_by, lent_by, Turned}
@@ -42,8 +41,8 @@ use Rattle.board_numbers.proofs.Laws.{board_long, board_back, board_held}
 -- WHAT AN ANSWER PUTS ON THE BOARD can be held as numbers
 
 abbrev Stored : Said house → Type 0
-Stored (filed k s) = Storable (place_of s).held
-Stored (updated k s) = Storable (place_of s).held
+Stored (filed k s) = Storable (place_of s)
+Stored (updated k s) = Storable (place_of s)
 Stored (cleared k) = Unit
 Stored (refused w) = Unit
 Stored no_firm = Unit
@@ -74,12 +73,12 @@ module _ (r : Rack house) (theirs : ℕ) where
   file_stored m false = tt
 
   update_stored : (k : ℕ) (m : List ℕ) (p : Option Standing) → Stored (offered_at house p k m)
-  update_stored k m none = tt
-  update_stored k m (some s) = updating_stored k s m (update_of s.strip s.held m 1800) refl
+  update_stored k m None = tt
+  update_stored k m (Some s) = updating_stored k s m (update_of s.strip s.held m 1800) refl
 
   clear_stored : (k : ℕ) (p : Option Standing) → Stored (cleared_at house p k)
-  clear_stored k none = tt
-  clear_stored k (some s) = go (over_in s.held.state)
+  clear_stored k None = tt
+  clear_stored k (Some s) = go (over_in s.held.state)
     where
       go : (b : Bool) → Stored (cond b (cleared k) not_over)
       go true = tt
@@ -87,12 +86,12 @@ module _ (r : Rack house) (theirs : ℕ) where
 
   reply_stored : (a : Act (List ℕ)) → Stored (reply house r theirs a)
   reply_stored (file m) = file_stored m (has_room (held_in r) theirs)
-  reply_stored (update k m) = update_stored k m (get_or r k none)
-  reply_stored (clear k) = clear_stored k (get_or r k none)
+  reply_stored (update k m) = update_stored k m (get_or r k None)
+  reply_stored (clear k) = clear_stored k (get_or r k None)
 
 -- ONE PLACE CHANGED
 
-set_storable : (ps : List Place) (i : ℕ) (p : Place) → AllStorable ps → Storable p.held → AllStorable (set ps i p)
+set_storable : (ps : List Place) (i : ℕ) (p : Place) → AllStorable ps → Storable p → AllStorable (set ps i p)
 set_storable [] i p k s j = k j
 set_storable (q ∷ ps) zero p k s zero = s
 set_storable (q ∷ ps) zero p k s (suc j) = k (suc j)
@@ -127,8 +126,8 @@ module _ (ps : List Place) (bytes : List ℕ) (a : Act (List ℕ)) (l : length p
   left w = placed_by w (said_to house w (board_in ps bytes) a) ps
 
   left_back : (w : Option Firm) → (board_of (board_numbers (left w)) ≡ left w) × (is_board (board_numbers (left w)) ≡ true)
-  left_back none = board_back ps l s
-  left_back (some f) =
+  left_back None = board_back ps l s
+  left_back (Some f) =
       let x = reply house (board_in ps bytes f) (beyond (held_in (board_in ps bytes (other f)))) a in
       board_back (placed f x ps) (placed_long f ps x ∙ l)
       (placed_storable f ps x s (reply_stored (board_in ps bytes f) (beyond (held_in (board_in ps bytes (other f)))) a))

@@ -1,24 +1,27 @@
 -- What the calls' ways out come to: one law for each. Assumes nothing.
-use Prim.Native.Nat.{ℕ, ◌+◌, ◌*◌, ◌≤◌, ◌<◌}
+use Prim.Native.Nat.{ℕ}
 use mathlib.Core.Path.{◌≡◌, refl, sym, ap, ap₂, ◌∙◌}
-use mathlib.Core.Bool.{Bool, true, false, cond}
+use mathlib.Core.Bool.{Bool, true, false, not, cond}
 use mathlib.Core.List.{List}
-use mathlib.Core.Option.{Option, none, some}
 use native.Mathlib.Omega.{arith}
 use lib.Dec.{ltb}
 use lib.ListN.{length}
-use borrow.Author.Tests.{ne_eqb, ltb-false, le-leb, lt-leb}
+use borrow.Author.Tests.{ne_eqb, ltb-false, not-true, not-false}
+use Rattle.std.specs.Prelude.{Option, None, Some}
+use Rattle.std.specs.Str.{bytes_eq}
+use Rattle.text.specs.Words.{same}
+use Rattle.text.proofs.Iterated.{same_listed}
 use Rattle.handed.specs.States.{byte_of}
 use Rattle.rooms.specs.declared.Firm.{Firm}
 use Rattle.rooms.specs.Rooms.{firm_of, Act, Call, said_to}
-use Rattle.racks.specs.declared.Place.{Place}
-use Rattle.racks.specs.Places.{base, board_in}
+use Rattle.racks.specs.declared.Board.{Board}
+use Rattle.racks.specs.Places.{Place, board_in}
 use Rattle.board.specs.House.{house}
 use Rattle.board.specs.declared.Verdict.{Verdict}
 use Rattle.board.specs.declared.Turn.{Turn}
 use Rattle.board.specs.declared.Looked.{Looked}
 use Rattle.board.specs.Turns.{told, placed_by, lent_by, Turned, looked_to, strip_to}
-use Rattle.board_numbers.specs.Numbers.{board_numbers, board_of, is_board}
+use Rattle.board_numbers.specs.Numbers.{board_numbers, board_of, is_board, handed_as}
 use Rattle.board_numbers.specs.Calls.{verdict_number, verdict_numbers, not_board, verdict_of, Called}
 use Rattle.board_numbers.specs.Calls.{look_number, look_numbers, not_board_look, look_of, start_of, Looks}
 
@@ -38,6 +41,39 @@ module _ {A : Type 0} (b : Bool) (x y : A) where
 
   second : b ≡ false → y ≡ cond b x y
   second e = sym (ap (λ (t : Bool). cond t x y) e)
+
+-- WHAT IS HANDED IN
+
+module _ (ns : List ℕ) where
+  abbrev meant : Board
+  meant = record { places = board_of ns }
+
+  pub board_taken : (b : Board) → handed_as ns ≡ Some b → (is_board ns ≡ true) × (b.places ≡ board_of ns)
+  board_taken b e = go (is_board ns) refl e
+    where
+      go : (t : Bool) → is_board ns ≡ t → cond t (Some meant) None ≡ Some b → (is_board ns ≡ true) × (b.places ≡ board_of ns)
+      go true h q = let z : meant ≡ b = cc in (h, sym (ap (λ (x : Board). x.places) z))
+      go false h q = absurd (let z : ◌≡◌ {A = ℕ} 0 1 = cc in omega arith)
+
+  pub no_board : handed_as ns ≡ None → is_board ns ≡ false
+  no_board e = go (is_board ns) refl e
+    where
+      go : (t : Bool) → is_board ns ≡ t → cond t (Some meant) None ≡ None → is_board ns ≡ false
+      go true h q = absurd (let z : ◌≡◌ {A = ℕ} 0 1 = cc in omega arith)
+      go false h q = h
+
+  -- the board that the numbers mean, its numbers again, and whether these differ
+  module _ (b : Board) (again : List ℕ) (t : Bool) (eb : b.places ≡ board_of ns) (ea : again ≡ board_numbers b.places)
+      (et : t ≡ not (bytes_eq again ns)) where
+    again_is : is_board ns ≡ bytes_eq again ns
+    unfolding is_board
+    again_is = ap (λ (l : List ℕ). same l ns) (ap board_numbers (sym eb) ∙ sym ea) ∙ sym (same_listed again ns)
+
+    pub none_handed : t ≡ true → None ≡ handed_as ns
+    none_handed e = rw (again_is ∙ not-true _ (sym et ∙ e))
+
+    pub one_handed : t ≡ false → Some b ≡ handed_as ns
+    one_handed e = rw (again_is ∙ not-false _ (sym et ∙ e)) (ap (λ (qs : List Place). Some (record { places = qs })) eb)
 
 -- A CALL by the number `firm`, which is handed on as `by`
 
@@ -84,19 +120,6 @@ module _ (a : Act (List ℕ)) (firm by : ℕ) (ns bytes : List ℕ) (e : by ≡ 
         bytes_are = second (is_board ns) _ bytes h;
       }
 
--- WHERE A SLOT'S PLACE BEGINS
-
-module _ (firm slot : ℕ) where
-  pub start_none : firm_of firm ≡ none → 0 ≡ start_of (firm_of firm) slot
-  start_none e = sym (ap (λ (w : Option Firm). start_of w slot) e)
-
-  module _ (f : Firm) (e : firm_of firm ≡ some f) where
-    pub start_past : 10 ≤ slot → 0 ≡ start_of (firm_of firm) slot
-    start_past h = rw (e, le-leb 10 slot h)
-
-    pub start_here : slot < 10 → 1800 * (base f + slot) ≡ start_of (firm_of firm) slot
-    start_here h = rw (e, lt-leb 10 slot h)
-
 -- A LOOK
 
 module _ (firm by slot : ℕ) (ns bytes : List ℕ) (e : by ≡ byte_of firm) where
@@ -119,8 +142,8 @@ module _ (firm by slot : ℕ) (ns bytes : List ℕ) (e : by ≡ byte_of firm) wh
 
   -- where there is no board, neither place nor length is shown
   refused_look : (w : Option Firm) (i j k m : ℕ) → look_numbers (not_board_look w) i j ≡ look_numbers (not_board_look w) k m
-  refused_look none i j k m = refl
-  refused_look (some f) i j k m = refl
+  refused_look None i j k m = refl
+  refused_look (Some f) i j k m = refl
 
   pub look_not : (l : Looked) (r : ℕ) (answer : List ℕ) → is_board ns ≡ false → l ≡ not_board_look (firm_of by) → r ≡ look_number l
       → answer ≡ look_numbers l 0 0 → Looks firm slot ns bytes r answer

@@ -3,11 +3,11 @@ use Prim.Native.Nat.{ℕ, ◌≤◌}
 use mathlib.Core.Path.{◌≡◌, refl}
 use mathlib.Core.Bool.{Bool, true, false, cond}
 use mathlib.Core.List.{List}
-use mathlib.Core.Option.{Option, none, some}
 use native.Mathlib.Omega.{arith}
 use lib.Dec.{eqb}
 use lib.ListN.{get_or}
 use borrow.Author.Tests.{ne_eqb}
+use Rattle.std.specs.Prelude.{Option, None, Some}
 use Rattle.message.specs.declared.Answer.{Answer}
 use Rattle.message.specs.declared.Answer.TheVariants.{Accepted as ReadAs, Refused as NotRead}
 use Rattle.message.specs.Reading.{is_plan, answer_of}
@@ -24,9 +24,7 @@ use Rattle.rooms.specs.Rooms.{firm_of, other, Act, Call, held_in, lowest, beyond
 use Rattle.rooms.specs.Rooms.Outcome.{takes, refuses}
 use Rattle.rooms.specs.Rooms.Act.{file, update, clear}
 use Rattle.rooms.specs.Rooms.Reply.{cleared, no_room, not_over}
-use Rattle.racks.specs.declared.Held.{Held}
-use Rattle.racks.specs.declared.Held.TheVariants.{Nothing, Flight}
-use Rattle.racks.specs.Places.{board_in, held_to}
+use Rattle.racks.specs.Places.{Place, board_in, held_to}
 use Rattle.board.specs.House.{filing_as, updating_as, lent, over_in, house}
 use Rattle.board.specs.declared.Verdict.{Verdict}
 use Rattle.board.specs.declared.Verdict.TheVariants.{Filed, Updated, Cleared, Refused}
@@ -82,12 +80,12 @@ module _ (r : Rack house) (theirs : ℕ) where
   file_numbered m false = omega arith
 
   update_numbered : (k : ℕ) (m : List ℕ) (p : Option Standing) → Numbered (told (offered_at house p k m))
-  update_numbered k m none = omega arith
-  update_numbered k m (some s) = updating_numbered k s m (update_of s.strip s.held m 1800) refl
+  update_numbered k m None = omega arith
+  update_numbered k m (Some s) = updating_numbered k s m (update_of s.strip s.held m 1800) refl
 
   clear_numbered : (k : ℕ) (p : Option Standing) → Numbered (told (cleared_at house p k))
-  clear_numbered k none = omega arith
-  clear_numbered k (some s) = go (over_in s.held.state)
+  clear_numbered k None = omega arith
+  clear_numbered k (Some s) = go (over_in s.held.state)
     where
       go : (b : Bool) → Numbered (told (cond b (cleared k) not_over))
       go true = tt
@@ -95,17 +93,17 @@ module _ (r : Rack house) (theirs : ℕ) where
 
   reply_numbered : (a : Act (List ℕ)) → Numbered (told (reply house r theirs a))
   reply_numbered (file m) = file_numbered m (has_room (held_in r) theirs)
-  reply_numbered (update k m) = update_numbered k m (get_or r k none)
-  reply_numbered (clear k) = clear_numbered k (get_or r k none)
+  reply_numbered (update k m) = update_numbered k m (get_or r k None)
+  reply_numbered (clear k) = clear_numbered k (get_or r k None)
 
 said_numbered : (c : Call (List ℕ)) (ns bytes : List ℕ) (w : Option Firm) → Numbered (told (said_to house w (board_in (board_of ns) bytes) c.does))
-said_numbered c ns bytes none = omega arith
-said_numbered c ns bytes (some f) =
+said_numbered c ns bytes None = omega arith
+said_numbered c ns bytes (Some f) =
     reply_numbered (board_in (board_of ns) bytes f) (beyond (held_in (board_in (board_of ns) bytes (other f)))) c.does
 
 none_numbered : (w : Option Firm) → Numbered (not_board w)
-none_numbered none = omega arith
-none_numbered (some f) = omega arith
+none_numbered None = omega arith
+none_numbered (Some f) = omega arith
 
 call_numbered : (c : Call (List ℕ)) (ns bytes : List ℕ) (b : Bool) → Numbered (cond b (told (said_on c ns bytes)) (not_board (firm_of c.by)))
 call_numbered c ns bytes true = said_numbered c ns bytes (firm_of c.by)
@@ -126,17 +124,17 @@ abbrev Told : Looked → Type 0
 Told (Stands held) = Unit
 Told (NotShown number field place) = 1 ≤ number
 
-held_told : (h : Held) → Told (looked_as h)
-held_told Nothing = omega arith
-held_told (Flight held n) = tt
+held_told : (h : Place) → Told (looked_as h)
+held_told None = omega arith
+held_told (Some p) = tt
 
 looked_told : (w : Option Firm) (slot : ℕ) (ns : List ℕ) → Told (looked_to w slot (board_of ns))
-looked_told none slot ns = omega arith
-looked_told (some f) slot ns = held_told (held_to f slot (board_of ns))
+looked_told None slot ns = omega arith
+looked_told (Some f) slot ns = held_told (held_to f slot (board_of ns))
 
 none_told : (w : Option Firm) → Told (not_board_look w)
-none_told none = omega arith
-none_told (some f) = omega arith
+none_told None = omega arith
+none_told (Some f) = omega arith
 
 look_told : (w : Option Firm) (slot : ℕ) (ns : List ℕ) (b : Bool) → Told (cond b (looked_to w slot (board_of ns)) (not_board_look w))
 look_told w slot ns true = looked_told w slot ns

@@ -1,6 +1,5 @@
 -- Calls on a board that is handed in as numbers, with its strips: what each is answered, and every number and byte afterwards. Assumes nothing.
-use Rattle.std.specs.Prelude.{ℕ, ◌+◌, ◌*◌, ◌≡◌, refl, cond, List, [], ◌∷◌, ◌++◌, leb, length}
-use Rattle.std.proofs.Math.Option.{Option, none, some}
+use Rattle.std.specs.Prelude.{ℕ, ◌+◌, ◌*◌, ◌≡◌, refl, cond, List, [], ◌∷◌, ◌++◌, leb, length, Option, None, Some}
 use Rattle.state.specs.State.{just_filed}
 use Rattle.handed.specs.States.{state_numbers}
 use Rattle.rooms.specs.declared.Firm.{Firm}
@@ -33,8 +32,8 @@ verdict_numbers (Refused number field place) = number ∷ field ∷ place ∷ 0 
 -- what the board answers. No board: nothing is changed
 
 abbrev pub not_board : Option Firm → Verdict
-not_board none = Refused 18 0 0
-not_board (some f) = Refused 15 0 0
+not_board None = Refused 18 0 0
+not_board (Some f) = Refused 15 0 0
 
 abbrev pub said_on : Call (List ℕ) → List ℕ → List ℕ → Said house
 said_on c ns bytes = said house (board_in (board_of ns) bytes) c
@@ -70,16 +69,16 @@ look_numbers (Stands held) from long = 0 ∷ (0 ∷ (0 ∷ (state_numbers held.s
 look_numbers (NotShown number field place) from long = number ∷ field ∷ place ∷ 0 ∷ 0 ∷ 0 ∷ 0 ∷ 0 ∷ 0 ∷ 0 ∷ 0 ∷ 0 ∷ 0 ∷ []
 
 abbrev pub not_board_look : Option Firm → Looked
-not_board_look none = NotShown 18 0 0
-not_board_look (some f) = NotShown 15 0 0
+not_board_look None = NotShown 18 0 0
+not_board_look (Some f) = NotShown 15 0 0
 
 abbrev pub look_of : ℕ → ℕ → List ℕ → Looked
 look_of firm slot ns = cond (is_board ns) (looked_to (firm_of firm) slot (board_of ns)) (not_board_look (firm_of firm))
 
 -- where a slot's place begins in the strips
 abbrev pub start_of : Option Firm → ℕ → ℕ
-start_of none slot = 0
-start_of (some f) slot = cond (leb 10 slot) 0 (1800 * (base f + slot))
+start_of None slot = 0
+start_of (Some f) slot = cond (leb 10 slot) 0 (1800 * (base f + slot))
 
 pub record Looks (firm slot : ℕ) (ns bytes : List ℕ) (r : ℕ) (answer : List ℕ) : Type 0 where
   pub number_is : r ≡ look_number (look_of firm slot ns)
@@ -90,7 +89,7 @@ pub record Looks (firm slot : ℕ) (ns bytes : List ℕ) (r : ℕ) (answer : Lis
 told_so : (verdict_numbers (Filed 3) ≡ 0 ∷ 0 ∷ 0 ∷ 3 ∷ []) × (verdict_numbers (Refused 7 13 16) ≡ 7 ∷ 13 ∷ 16 ∷ 0 ∷ [])
 told_so = (refl, refl)
 
-shown_so : (start_of (some Second) 1 ≡ 19800) × (start_of (some First) 0 ≡ 0) × (start_of (some First) 10 ≡ 0)
+shown_so : (start_of (Some Second) 1 ≡ 19800) × (start_of (Some First) 0 ≡ 0) × (start_of (Some First) 10 ≡ 0)
     × (look_numbers (Stands just_filed) 19800 75 ≡ 0 ∷ 0 ∷ 0 ∷ 0 ∷ 0 ∷ 0 ∷ 0 ∷ 0 ∷ 0 ∷ 0 ∷ 0 ∷ 19800 ∷ 75 ∷ [])
     × (look_numbers (NotShown 19 0 0) 19800 75 ≡ 19 ∷ 0 ∷ 0 ∷ 0 ∷ 0 ∷ 0 ∷ 0 ∷ 0 ∷ 0 ∷ 0 ∷ 0 ∷ 0 ∷ 0 ∷ [])
 shown_so = (refl, refl, refl, refl, refl)

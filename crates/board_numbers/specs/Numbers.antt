@@ -1,20 +1,18 @@
 -- A board as 200 plain numbers, ten for each of its 20 places, the first ten places the first firm's. Assumes nothing.
 --     whether a strip stands there (1, or 0), the eight numbers of its state (handed: specs/States.antt), how many bytes it takes, at most 1,800
 -- Of a place in which nothing stands all ten are 0.
-use Rattle.std.specs.Prelude.{ℕ, zero, suc, ◌≡◌, refl, Bool, true, false, cond, List, [], ◌∷◌, ◌++◌, eqb, drop, get_or, set, replicate}
+use Rattle.std.specs.Prelude.{ℕ, zero, suc, ◌≡◌, refl, Bool, true, false, cond, Option, None, Some, List, [], ◌∷◌, ◌++◌, eqb, drop, get_or, set, replicate}
 use Rattle.text.specs.Words.{same}
 use Rattle.state.specs.State.{just_filed}
 use Rattle.handed.specs.States.{state_numbers, kept, state_of}
-use Rattle.racks.specs.declared.Held.{Held}
-use Rattle.racks.specs.declared.Held.TheVariants.{Nothing, Flight}
-use Rattle.racks.specs.declared.Place.{Place}
-use Rattle.racks.specs.Places.{vacant, held_at}
+use Rattle.racks.specs.declared.Board.{Board}
+use Rattle.racks.specs.Places.{Place, vacant, held_at}
 
 -- THE NUMBERS OF A BOARD
 
-abbrev pub held_numbers : Held → List ℕ
-held_numbers Nothing = 0 ∷ 0 ∷ 0 ∷ 0 ∷ 0 ∷ 0 ∷ 0 ∷ 0 ∷ 0 ∷ 0 ∷ []
-held_numbers (Flight held n) = 1 ∷ (state_numbers held.state ++ (n ∷ []))
+abbrev pub held_numbers : Place → List ℕ
+held_numbers None = 0 ∷ 0 ∷ 0 ∷ 0 ∷ 0 ∷ 0 ∷ 0 ∷ 0 ∷ 0 ∷ 0 ∷ []
+held_numbers (Some p) = 1 ∷ (state_numbers p.held.state ++ (p.length ∷ []))
 
 -- those of n places from place i on
 abbrev pub rows_from : List Place → ℕ → ℕ → List ℕ
@@ -27,18 +25,22 @@ board_numbers ps = rows_from ps 0 20
 -- THE BOARD THAT NUMBERS MEAN: numbers that are not those of a board are no board
 
 -- a length that a place has no room for is dropped, and so is not found again
-unfoldable pub held_of : List ℕ → Held
-held_of ns = cond (eqb (get_or ns 0 0) 0) Nothing (Flight (record { state = state_of (drop 1 ns) }) (kept 1801 (get_or ns 9 0)))
+unfoldable pub held_of : List ℕ → Place
+held_of ns = cond (eqb (get_or ns 0 0) 0) None (Some (record { held = record { state = state_of (drop 1 ns) }; length = kept 1801 (get_or ns 9 0) }))
 
 abbrev pub places_from : ℕ → List ℕ → List Place
 places_from zero ns = []
-places_from (suc n) ns = record { held = held_of ns } ∷ places_from n (drop 10 ns)
+places_from (suc n) ns = held_of ns ∷ places_from n (drop 10 ns)
 
 unfoldable pub board_of : List ℕ → List Place
 board_of ns = places_from 20 ns
 
 unfoldable pub is_board : List ℕ → Bool
 is_board ns = same (board_numbers (board_of ns)) ns
+
+-- what is handed in
+abbrev pub handed_as : List ℕ → Option Board
+handed_as ns = cond (is_board ns) (Some (record { places = board_of ns })) None
 
 -- EXAMPLES, computed: the empty board, and one with a filed strip of 75 bytes in the second firm's slot 1
 
@@ -53,7 +55,7 @@ pub empty_board : (is_board nothing ≡ true) × (board_of nothing ≡ replicate
 unfolding is_board board_of held_of board_numbers
 empty_board = (refl, refl)
 
-one_strip : (board_numbers (set (replicate 20 vacant) 11 (record { held = Flight just_filed 75 })) ≡ with (1 ∷ 0 ∷ 0 ∷ 0 ∷ 0 ∷ 0 ∷ 0 ∷ 0 ∷ 0 ∷ 75 ∷ []))
+one_strip : (board_numbers (set (replicate 20 vacant) 11 (Some (record { held = just_filed; length = 75 }))) ≡ with (1 ∷ 0 ∷ 0 ∷ 0 ∷ 0 ∷ 0 ∷ 0 ∷ 0 ∷ 0 ∷ 75 ∷ []))
     × (is_board (with (1 ∷ 0 ∷ 0 ∷ 0 ∷ 0 ∷ 0 ∷ 0 ∷ 0 ∷ 0 ∷ 75 ∷ [])) ≡ true)
     × (is_board (with (1 ∷ 0 ∷ 0 ∷ 0 ∷ 0 ∷ 0 ∷ 0 ∷ 0 ∷ 0 ∷ 1800 ∷ [])) ≡ true)
 unfolding is_board board_of held_of board_numbers

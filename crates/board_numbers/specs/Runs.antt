@@ -1,11 +1,8 @@
 -- What numbers can hold of a board, what is accepted, and runs of calls on numbers (proofs/Laws.antt, Zero.antt, Runs.antt). Assumes nothing.
-use Rattle.std.specs.Prelude.{ℕ, ◌≤◌, ◌≡◌, Bool, true, false, List, [], ◌∷◌, map}
+use Rattle.std.specs.Prelude.{ℕ, ◌≤◌, ◌≡◌, Bool, true, false, None, Some, List, [], ◌∷◌, map}
 use Rattle.handed.specs.States.{state_numbers, state_of}
 use Rattle.rooms.specs.Rooms.{Call}
-use Rattle.racks.specs.declared.Held.{Held}
-use Rattle.racks.specs.declared.Held.TheVariants.{Nothing, Flight}
-use Rattle.racks.specs.declared.Place.{Place}
-use Rattle.racks.specs.Places.{held_at}
+use Rattle.racks.specs.Places.{Place, held_at}
 use Rattle.board.specs.declared.Verdict.{Verdict}
 use Rattle.board.specs.declared.Verdict.TheVariants.{Filed, Updated, Cleared, Refused}
 use Rattle.board.specs.declared.Looked.{Looked}
@@ -15,9 +12,9 @@ use Rattle.board_numbers.specs.Numbers.{board_of, is_board}
 use Rattle.board_numbers.specs.Calls.{verdict_numbers, Called}
 
 -- a state that is found again from its numbers, as every sound one is, and a length that a place has room for
-abbrev pub Storable : Held → Type 0
-Storable Nothing = Unit
-Storable (Flight held n) = (state_of (state_numbers held.state) ≡ held.state) × (n ≤ 1800)
+abbrev pub Storable : Place → Type 0
+Storable None = Unit
+Storable (Some p) = (state_of (state_numbers p.held.state) ≡ p.held.state) × (p.length ≤ 1800)
 
 abbrev pub AllStorable : List Place → Type 0
 AllStorable ps = (i : ℕ) → Storable (held_at ps i)

@@ -6,34 +6,37 @@ ghost use Rattle.text.specs.Lent.{front};
 ghost use Rattle.handed.specs.States.{kept};
 ghost use Rattle.rooms.specs.Rooms.{firm_of};
 ghost use Rattle.board.specs.Turns.{filing, updating};
-ghost use Rattle.board_numbers.specs.Numbers.{held_numbers, board_numbers, held_of, board_of, is_board, nothing};
+ghost use Rattle.board_numbers.specs.Numbers.{held_numbers, board_numbers, held_of, board_of, handed_as, nothing};
 ghost use Rattle.board_numbers.specs.Calls.{verdict_number, verdict_numbers, not_board, Called, Clears};
 ghost use Rattle.board_numbers.specs.Calls.{look_number, look_numbers, not_board_look, start_of, Looks};
 
 use board::{Looked, Verdict};
-use racks::{Board, Held, Place};
-use rooms::{Firm, Named};
+use racks::{Board, Flight};
+use rooms::Firm;
 use state::Strip;
 
 const PLACES: usize = 20;
 
-// What a caller's numbers are: `board` is the board that they mean, if `taken`; otherwise they are no board's.
-#[derive(Clone, Copy)]
-pub struct Handed {
-    pub board: Board,
-    pub taken: bool,
-}
-
 // The numbers of a place.
-fn held_numbers(held: Held) -> [u64; 10]
-    ensures { result ≡ held_numbers held }
+fn held_numbers(place: Option<Flight>) -> [u64; 10]
+    ensures { result ≡ held_numbers place }
 {
-    match held {
-        Held::Nothing => [0; 10],
-        Held::Flight(strip, n) => {
-            let s = strip.state;
-            let e = handed::state_numbers(s);
-            [1, e[0], e[1], e[2], e[3], e[4], e[5], e[6], e[7], n as u64]
+    match place {
+        None => [0; 10],
+        Some(flight) => {
+            let e = handed::state_numbers(flight.held.state);
+            [
+                1,
+                e[0],
+                e[1],
+                e[2],
+                e[3],
+                e[4],
+                e[5],
+                e[6],
+                e[7],
+                flight.length as u64,
+            ]
         }
     }
 }
@@ -43,11 +46,7 @@ fn put_row(row: &[u64], out: &mut [u64])
     requires { length row.now ≤ length out.old }
     ensures { out.new ≡ front row.now out.old }
 {
-    let mut i = 0;
-    while i < row.len() {
-        out[i] = row[i];
-        i += 1;
-    }
+    out[..row.len()].copy_from_slice(row);
 }
 
 // Writes a board's numbers, place by place.
@@ -55,15 +54,8 @@ fn put_places(board: Board, out: &mut [u64])
     requires { length out.old ≡ 200 }
     ensures { out.new ≡ board_numbers board.places }
 {
-    let places = board.places;
-    let mut i = 0;
-    while i < PLACES {
-        let p = places[i];
-        let held = p.held;
-        let row = held_numbers(held);
-        let at = 10 * i;
-        put_row(&row, &mut out[at..]);
-        i += 1;
+    for i in 0..PLACES {
+        put_row(&held_numbers(board.places[i]), &mut out[10 * i..]);
     }
 }
 
@@ -82,18 +74,20 @@ fn length_of(n: u64) -> usize
 }
 
 // What the first ten numbers mean, if they are those of a place.
-fn held_of(row: &[u64]) -> Held
+fn held_of(row: &[u64]) -> Option<Flight>
     requires { 10 ≤ length row.now }
     ensures { result ≡ held_of row.now }
 {
     if row[0] == 0 {
-        return Held::Nothing;
+        return None;
     }
-    let e = [
+    let state = handed::state_of(&[
         row[1], row[2], row[3], row[4], row[5], row[6], row[7], row[8],
-    ];
-    let state = handed::state_of(&e);
-    Held::Flight(Strip { state }, length_of(row[9]))
+    ]);
+    Some(Flight {
+        held: Strip { state },
+        length: length_of(row[9]),
+    })
 }
 
 // The board that numbers mean, if they are those of a board.
@@ -101,42 +95,37 @@ fn places_of(numbers: &[u64]) -> Board
     requires { length numbers.now ≡ 200 }
     ensures { result.places ≡ board_of numbers.now }
 {
-    let vacant = Place {
-        held: Held::Nothing,
-    };
-    let mut places = [vacant; PLACES];
-    let mut i = 0;
-    while i < PLACES {
-        let at = 10 * i;
-        let held = held_of(&numbers[at..]);
-        places[i] = Place { held };
-        i += 1;
+    let mut places = [None; PLACES];
+    for i in 0..PLACES {
+        places[i] = held_of(&numbers[10 * i..]);
     }
     Board { places }
 }
 
 // The board that a caller hands in; numbers that are not those of a board are none.
-pub fn hand_in(numbers: &[u64; 200]) -> Handed
-    ensures { (result.board.places ≡ board_of numbers.now) × (result.taken ≡ is_board numbers.now) }
+pub fn hand_in(numbers: &[u64; 200]) -> Option<Board>
+    ensures { result ≡ handed_as numbers.now }
 {
     let board = places_of(numbers);
     let mut again = [0; 200];
     put_board(board, &mut again);
-    let taken = handed::same_numbers(&again, numbers);
-    Handed { board, taken }
+    if again != *numbers {
+        return None;
+    }
+    Some(board)
 }
 
 // The verdict where numbers are no board's: 18 before 15.
 fn not_board(firm: u8) -> Verdict
     ensures { result ≡ not_board (firm_of firm) }
 {
-    match rooms::firm_named(firm) {
-        Named::Nobody => Verdict::Refused {
+    match Firm::from_number(firm) {
+        None => Verdict::Refused {
             number: 18,
             field: 0,
             place: 0,
         },
-        Named::By(_) => Verdict::Refused {
+        Some(_) => Verdict::Refused {
             number: 15,
             field: 0,
             place: 0,
@@ -153,11 +142,7 @@ fn tell(v: Verdict, answer: &mut [u64; 4]) -> u8
             *answer = [0, 0, 0, k as u64];
             0
         }
-        Verdict::Updated(_, _) => {
-            *answer = [0; 4];
-            0
-        }
-        Verdict::Cleared => {
+        Verdict::Updated(_, _) | Verdict::Cleared => {
             *answer = [0; 4];
             0
         }
@@ -184,16 +169,12 @@ pub fn file(
         strips.new }
 {
     let by = handed::byte_of(firm);
-    let h = hand_in(numbers);
-    if !h.taken {
+    let Some(board) = hand_in(numbers) else {
         return tell(not_board(by), answer);
-    }
-    let b = h.board;
-    let t = board::file(b, by, msg, strips);
-    let after = t.board;
-    put_board(after, numbers);
-    let v = t.verdict;
-    tell(v, answer)
+    };
+    let t = board::file(board, by, msg, strips);
+    put_board(t.board, numbers);
+    tell(t.verdict, answer)
 }
 
 // A firm offers a message to the strip in one of its slots, as `board::update` does.
@@ -209,16 +190,12 @@ pub fn update(
         numbers.new strips.new }
 {
     let by = handed::byte_of(firm);
-    let h = hand_in(numbers);
-    if !h.taken {
+    let Some(board) = hand_in(numbers) else {
         return tell(not_board(by), answer);
-    }
-    let b = h.board;
-    let t = board::update(b, by, slot as usize, msg, strips);
-    let after = t.board;
-    put_board(after, numbers);
-    let v = t.verdict;
-    tell(v, answer)
+    };
+    let t = board::update(board, by, slot as usize, msg, strips);
+    put_board(t.board, numbers);
+    tell(t.verdict, answer)
 }
 
 // A firm clears one of its slots, as `board::clear` does.
@@ -226,29 +203,25 @@ pub fn clear(numbers: &mut [u64; 200], firm: u64, slot: u64, answer: &mut [u64; 
     ensures { Clears firm slot numbers.old result answer.new numbers.new }
 {
     let by = handed::byte_of(firm);
-    let h = hand_in(numbers);
-    if !h.taken {
+    let Some(board) = hand_in(numbers) else {
         return tell(not_board(by), answer);
-    }
-    let b = h.board;
-    let t = board::clear(b, by, slot as usize);
-    let after = t.board;
-    put_board(after, numbers);
-    let v = t.verdict;
-    tell(v, answer)
+    };
+    let t = board::clear(board, by, slot as usize);
+    put_board(t.board, numbers);
+    tell(t.verdict, answer)
 }
 
 // What a look shows where numbers are no board's: 18 before 15.
 fn not_board_look(firm: u8) -> Looked
     ensures { result ≡ not_board_look (firm_of firm) }
 {
-    match rooms::firm_named(firm) {
-        Named::Nobody => Looked::Refused {
+    match Firm::from_number(firm) {
+        None => Looked::Refused {
             number: 18,
             field: 0,
             place: 0,
         },
-        Named::By(_) => Looked::Refused {
+        Some(_) => Looked::Refused {
             number: 15,
             field: 0,
             place: 0,
@@ -260,9 +233,9 @@ fn not_board_look(firm: u8) -> Looked
 fn start_of(firm: u8, slot: usize) -> usize
     ensures { result ≡ start_of (firm_of firm) slot }
 {
-    match rooms::firm_named(firm) {
-        Named::Nobody => 0,
-        Named::By(f) => {
+    match Firm::from_number(firm) {
+        None => 0,
+        Some(f) => {
             if 10 <= slot {
                 return 0;
             }
@@ -280,8 +253,7 @@ fn tell_look(l: Looked, from: usize, long: usize, answer: &mut [u64; 13]) -> u8
 {
     match l {
         Looked::Stands(strip) => {
-            let s = strip.state;
-            let e = handed::state_numbers(s);
+            let e = handed::state_numbers(strip.state);
             *answer = [
                 0,
                 0,
@@ -335,14 +307,17 @@ pub fn look(
     ensures { Looks firm slot numbers.now strips.now result answer.new }
 {
     let by = handed::byte_of(firm);
-    let h = hand_in(numbers);
-    if !h.taken {
+    let Some(board) = hand_in(numbers) else {
         return tell_look(not_board_look(by), 0, 0, answer);
-    }
-    let b = h.board;
+    };
     let k = slot as usize;
-    let part = board::strip_of(b, by, k, strips);
-    tell_look(board::look(b, by, k), start_of(by, k), part.len(), answer)
+    let part = board::strip_of(board, by, k, strips);
+    tell_look(
+        board::look(board, by, k),
+        start_of(by, k),
+        part.len(),
+        answer,
+    )
 }
 
 // A board on which nothing stands.

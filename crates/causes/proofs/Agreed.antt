@@ -15,20 +15,20 @@ use Rattle.sent.specs.Sent.{message_of}
 use Rattle.plan.specs.Unexplained.{type_unexplained, departure_unexplained, without_dest, without_altn, unexplained}
 use Rattle.kinds.specs.declared.Role.{Role}
 use Rattle.kinds.specs.Kinds.{role_of, plan9, plan13, plan16, plan18}
-use Rattle.message.specs.declared.Answer.{Answer}
-use Rattle.message.specs.declared.Answer.TheVariants.{Accepted as ReadAs, Refused as NotRead}
+use Rattle.message.specs.Answer.{Answer}
 use Rattle.message.specs.Reading.{unexplained_in, answer_of}
 use Rattle.state.specs.declared.Event.{Event}
 use Rattle.state.specs.declared.Strip.{Strip}
 use Rattle.state.specs.State.{sound, allowed_in, next_of}
-use Rattle.opening.specs.declared.Opening.TheVariants.{Refused as NotOpened}
 use Rattle.opening.specs.Opening.{text_said, canonical_plan, read_as, opening_of}
 use Rattle.amending.specs.Amended.{amended}
-use Rattle.strip.specs.declared.Updated.TheVariants.{Accepted, Refused}
 use Rattle.strip.specs.Updating.{event_of, differences, differs, room_as, amended_as, event_as, offered_as, opened_as, update_of}
 use Rattle.causes.specs.declared.Key.TheVariants.{Typ, Dep, Dest, Altn}
 use Rattle.causes.specs.declared.Cause.TheVariants.{NothingMore, Another, Missing, Forbidden}
 use Rattle.causes.specs.Causes.{key_for, amended_cause, event_cause, offered_cause, opened_cause, cause_of, field_for, shows_nothing, Agree}
+use Rattle.std.specs.Prelude.{Ok, Err}
+use Rattle.outer.specs.declared.Refusal.{Refusal}
+use Rattle.outer.specs.Refusal.{refusal}
 
 -- the field that is unexplained, by the four tests
 abbrev named : Bool → Bool → Bool → Bool → ℕ
@@ -54,7 +54,7 @@ module _ (held next : Strip) (room : ℕ) where
   room_agrees : (new : List ℕ) → Agree held NothingMore (room_as new next room)
   room_agrees new = go (ltb most (length new)) (ltb room (length new))
     where
-      go : (a b : Bool) → shows_nothing (cond a (Refused 16 0 0) (cond b (Refused 11 0 0) (Accepted next (length new)))) ≡ true
+      go : (a b : Bool) → shows_nothing (cond a (Err (refusal 16 0 0)) (cond b (Err (refusal 11 0 0)) (Ok (next, length new)))) ≡ true
       go true b = refl
       go false true = refl
       go false false = refl
@@ -64,9 +64,9 @@ module _ (held next : Strip) (room : ℕ) where
     where
       go : (b : Bool) → eqb (unexplained_in cs) 0 ≡ b
           → Agree held (cond b NothingMore (Missing (key_for (unexplained_in cs) cs)))
-          (cond b (room_as (message_of cs) next room) (Refused 10 (unexplained_in cs) 0))
+          (cond b (room_as (message_of cs) next room) (Err (refusal 10 (unexplained_in cs) 0)))
       go true e = room_agrees (message_of cs)
-      go false e = ap (λ (f : ℕ). Refused 10 f 0) (sym (key_field cs (eqb-false (unexplained_in cs) 0 e)))
+      go false e = ap (λ (f : ℕ). Err (refusal 10 f 0)) (sym (key_field cs (eqb-false (unexplained_in cs) 0 e)))
 
 module _ (held : Strip) (room : ℕ) where
   offered_agrees : (role : Role) (plan said : List ℕ) → Agree held (offered_cause role plan held said) (offered_as role plan held said room)
@@ -80,13 +80,13 @@ module _ (held : Strip) (room : ℕ) where
           told : (a : Bool) → differs (differences role (split 45 plan) (split 45 said)) ≡ a → (b : Bool)
               → Agree held
               (cond a (Another (differences role (split 45 plan) (split 45 said))) (cond b (amended_cause (amended role plan said)) (Forbidden held.state)))
-              (cond a (Refused 12 0 0) (cond b (amended_as (amended role plan said) (next_of held e) room) (Refused 13 0 0)))
+              (cond a (Err (refusal 12 0 0)) (cond b (amended_as (amended role plan said) (next_of held e) room) (Err (refusal 13 0 0))))
           told true d b = (refl, d)
           told false d true = amended_agrees held (next_of held e) room (amended role plan said)
           told false d false = (refl, refl)
 
 -- numbers 1 to 9 show nothing
-small : (number field place : ℕ) → number ≤ 9 → shows_nothing (Refused number field place) ≡ true
+small : (number field place : ℕ) → number ≤ 9 → shows_nothing (Err (refusal number field place)) ≡ true
 small number field place h =
     rw (ne_eqb number 10 (λ e. omega arith), ne_eqb number 12 (λ e. omega arith), ne_eqb number 13 (λ e. omega arith))
 
@@ -95,14 +95,13 @@ pub agrees : (strip : List ℕ) (held : Strip) (m : List ℕ) (room : ℕ) → A
 unfolding cause_of update_of opening_of
 agrees strip held m room = go (sound held && canonical_plan strip) (answer_of m most)
   where
-    not_read : (number field place : ℕ) (b : Bool) → leb number 9 ≡ b
-        → Agree held (opened_cause (cond b (NotOpened number field place) (NotOpened 14 0 0)) strip held m)
-        (opened_as (cond b (NotOpened number field place) (NotOpened 14 0 0)) strip held m room)
-    not_read number field place true e = small number field place (leb-true number 9 e)
-    not_read number field place false e = refl
+    not_read : (r : Refusal) (b : Bool) → leb r.number 9 ≡ b → shows_nothing (Err (cond b r (refusal 14 0 0))) ≡ true
+    not_read r true e = small r.number r.field r.place (leb-true r.number 9 e)
+    not_read r false e = refl
 
     go : (b : Bool) (a : Answer)
-        → Agree held (opened_cause (cond b (read_as a) (NotOpened 15 0 0)) strip held m) (opened_as (cond b (read_as a) (NotOpened 15 0 0)) strip held m room)
+        → Agree held (opened_cause (cond b (read_as a) (Err (refusal 15 0 0))) strip held m) (opened_as (cond b (read_as a) (Err
+        (refusal 15 0 0))) strip held m room)
     go false a = refl
-    go true (ReadAs t n) = offered_agrees held room (role_of t) (inner strip) (text_said t m)
-    go true (NotRead number field place) = not_read number field place (leb number 9) refl
+    go true (Ok (t, n)) = offered_agrees held room (role_of t) (inner strip) (text_said t m)
+    go true (Err r) = not_read r (leb r.number 9) refl

@@ -16,8 +16,7 @@ use Rattle.message.specs.Reading.{unexplained_in}
 use Rattle.state.specs.declared.Event.{Event}
 use Rattle.state.specs.declared.Strip.{Strip}
 use Rattle.state.specs.State.{allowed_in}
-use Rattle.opening.specs.declared.Opening.{Opening}
-use Rattle.opening.specs.declared.Opening.TheVariants.{Read, Refused as NotOpened}
+use Rattle.message.specs.Answer.{Answer}
 use Rattle.opening.specs.Opening.{text_said, opening_of}
 use Rattle.amending.specs.Amended.{amended}
 use Rattle.strip.specs.declared.Differences.{Differences}
@@ -27,6 +26,8 @@ use Rattle.causes.specs.declared.Key.TheVariants.{Typ, Dep, Dest, Altn}
 use Rattle.causes.specs.declared.Cause.{Cause}
 use Rattle.causes.specs.declared.Cause.TheVariants.{NothingMore, Another, Missing, Forbidden}
 use Rattle.causes.specs.Causes.{key_for, amended_cause, event_cause, offered_cause, opened_cause, cause_of}
+use Rattle.std.specs.Prelude.{Ok, Err}
+use Rattle.outer.specs.Refusal.{refusal}
 
 -- THE KEY
 
@@ -83,14 +84,14 @@ module _ (role : Role) (plan : List ℕ) (held : Strip) (said : List ℕ) where
 -- THE OPENING
 
 module _ (strip : List ℕ) (held : Strip) (m : List ℕ) where
-  pub not_opened : (number field place : ℕ) → opening_of strip held m ≡ NotOpened number field place → NothingMore ≡ cause_of strip held m
+  pub not_opened : (number field place : ℕ) → opening_of strip held m ≡ Err (refusal number field place) → NothingMore ≡ cause_of strip held m
   unfolding cause_of
-  not_opened number field place e = sym (ap (λ (o : Opening). opened_cause o strip held m) e)
+  not_opened number field place e = sym (ap (λ (o : Answer). opened_cause o strip held m) e)
 
-  pub was_opened : (t : MessageType) (n : ℕ) → opening_of strip held m ≡ Read t n → (role : Role) → role ≡ role_of t
+  pub was_opened : (t : MessageType) (n : ℕ) → opening_of strip held m ≡ Ok (t, n) → (role : Role) → role ≡ role_of t
       → (plan said : List ℕ) → plan ≡ inner strip → said ≡ text_said t m → (c : Cause) → c ≡ offered_cause role plan held said → c ≡ cause_of strip held m
   unfolding cause_of
   was_opened t n e role r plan said p s c k =
       k ∙ ap (λ (x : Role). offered_cause x plan held said) r ∙ ap (λ (x : List ℕ). offered_cause (role_of t) x held said) p
       ∙ ap (λ (x : List ℕ). offered_cause (role_of t) (inner strip) held x) s
-      ∙ sym (ap (λ (o : Opening). opened_cause o strip held m) e)
+      ∙ sym (ap (λ (o : Answer). opened_cause o strip held m) e)

@@ -1,6 +1,6 @@
 -- Why an update is refused (document 02, request 8): for 12 what differs, for 10 the missing key, for 13 the state found; other numbers, and an
 -- accepted update, show nothing more. The room lent plays no part. Assumes nothing.
-use Rattle.std.specs.Prelude.{ℕ, ◌≡◌, refl, Bool, true, false, cond, List, [], ◌∷◌, eqb, get_or, Option, Some, None}
+use Rattle.std.specs.Prelude.{ℕ, ◌≡◌, refl, Bool, true, false, cond, List, [], ◌∷◌, eqb, get_or, Option, Some, None, Ok, Err}
 use Rattle.alphabet.specs.Text.{bytes}
 use Rattle.alphabet.specs.Alphabet.{one_of}
 use Rattle.text.specs.Words.{Word, split}
@@ -18,17 +18,15 @@ use Rattle.state.specs.declared.Event.{Event}
 use Rattle.state.specs.declared.State.TheVariants.{Departed}
 use Rattle.state.specs.declared.Strip.{Strip}
 use Rattle.state.specs.State.{just_filed, allowed_in}
-use Rattle.opening.specs.declared.Opening.{Opening}
-use Rattle.opening.specs.declared.Opening.TheVariants.{Read, Refused as NotOpened}
+use Rattle.message.specs.Answer.{Answer}
 use Rattle.opening.specs.Opening.{text_said, opening_of}
 use Rattle.amending.specs.Amended.{amended}
-use Rattle.strip.specs.declared.Updated.{Updated}
-use Rattle.strip.specs.declared.Updated.TheVariants.{Accepted, Refused}
-use Rattle.strip.specs.Updating.{event_of, differences, differs}
+use Rattle.strip.specs.Updating.{Updated, event_of, differences, differs}
 use Rattle.causes.specs.declared.Key.{Key}
 use Rattle.causes.specs.declared.Key.TheVariants.{Typ, Dep as DepKey, Dest, Altn}
 use Rattle.causes.specs.declared.Cause.{Cause}
 use Rattle.causes.specs.declared.Cause.TheVariants.{NothingMore, Another, Missing, Forbidden}
+use Rattle.outer.specs.Refusal.{refusal}
 
 -- 10: the key that the field named wants in 18; of 16, DEST before ALTN
 
@@ -52,9 +50,9 @@ event_cause (Some e) role plan held said =
 unfoldable pub offered_cause : Role → List ℕ → Strip → List ℕ → Cause
 offered_cause role plan held said = event_cause (event_of role (split 45 said)) role plan held said
 
-abbrev pub opened_cause : Opening → List ℕ → Strip → List ℕ → Cause
-opened_cause (NotOpened number field place) strip held m = NothingMore
-opened_cause (Read t n) strip held m = offered_cause (role_of t) (inner strip) held (text_said t m)
+abbrev pub opened_cause : Answer → List ℕ → Strip → List ℕ → Cause
+opened_cause (Err r) strip held m = NothingMore
+opened_cause (Ok (t, n)) strip held m = offered_cause (role_of t) (inner strip) held (text_said t m)
 
 unfoldable pub cause_of : List ℕ → Strip → List ℕ → Cause
 cause_of strip held m = opened_cause (opening_of strip held m) strip held m
@@ -69,14 +67,14 @@ field_for Dest = 16
 field_for Altn = 16
 
 abbrev pub shows_nothing : Updated → Bool
-shows_nothing (Accepted next n) = true
-shows_nothing (Refused number field place) = cond (one_of number (10 ∷ 12 ∷ 13 ∷ [])) false true
+shows_nothing (Ok (next, n)) = true
+shows_nothing (Err r) = cond (one_of r.number (10 ∷ 12 ∷ 13 ∷ [])) false true
 
 abbrev pub Agree : Strip → Cause → Updated → Type 0
 Agree held NothingMore answer = shows_nothing answer ≡ true
-Agree held (Another d) answer = (answer ≡ Refused 12 0 0) × (differs d ≡ true)
-Agree held (Missing key) answer = answer ≡ Refused 10 (field_for key) 0
-Agree held (Forbidden state) answer = (answer ≡ Refused 13 0 0) × (state ≡ held.state)
+Agree held (Another d) answer = (answer ≡ Err (refusal 12 0 0)) × (differs d ≡ true)
+Agree held (Missing key) answer = answer ≡ Err (refusal 10 (field_for key) 0)
+Agree held (Forbidden state) answer = (answer ≡ Err (refusal 13 0 0)) × (state ≡ held.state)
 
 -- EXAMPLES, computed
 

@@ -9,7 +9,6 @@ ghost use Rattle.strip.specs.Steps.{Texts};
 ghost use Rattle.causes.specs.Causes.{key_for, amended_cause, offered_cause, cause_of};
 
 use kinds::Role;
-use opening::Opening;
 use state::{State, Strip};
 use strip::Differences;
 
@@ -93,12 +92,8 @@ pub fn cause_of(strip: &[u8], held: Strip, msg: &[u8]) -> Cause
 {
     let mut scratch = [0u8; outer::MOST_BYTES];
     match opening::open_strip(strip, held, msg, &mut scratch) {
-        Opening::Refused {
-            number: _,
-            field: _,
-            place: _,
-        } => Cause::NothingMore,
-        Opening::Read(t, n) => {
+        Err(_) => Cause::NothingMore,
+        Ok((t, n)) => {
             let e = n - 1;
             let last = strip.len() - 1;
             offered_cause(t.role(), held, &strip[1..last], &scratch[1..e])

@@ -34,7 +34,6 @@ use Rattle.force.specs.InForce.Reordered.{empty, keep, swap}
 use Rattle.state.specs.State.{just_filed}
 use Rattle.opening.specs.Opening.{canonical_plan, opening_of}
 use Rattle.amending.specs.Amended.{new_strip}
-use Rattle.strip.specs.declared.Updated.TheVariants.{Refused}
 use Rattle.strip.specs.Updating.{offered_as, update_of, out_after}
 use Rattle.history.specs.Demand3.{updater, Standing, Offer, answered, offered, offered_all}
 use Rattle.history.specs.Slips.{first_entry}
@@ -42,6 +41,8 @@ use Rattle.demands.specs.Examples.{AllHold}
 use Rattle.demands.specs.Turns.{standing, offer}
 use Rattle.demands.specs.Bundles.{Accepts, OneByOne, none_left, and_then, SameOneByOne, of_unlisted, of_heads}
 use Rattle.demands.proofs.Bundles.{one_by_one}
+use Rattle.std.specs.Prelude.{Err}
+use Rattle.outer.specs.Refusal.{refusal}
 
 pub unlisted_hold : AllHold of_unlisted
 unfolding answer_of count_as fault_in spelling_of outer parens parens_from letters_from in_alphabet white text reduced reduced_from stands_for_run opens closes
@@ -117,7 +118,7 @@ same_end =
 
 -- WHY EACH MUST BE ACCEPTED: with the ZZZZ first, which is refused, the end is another. Byte 14 is the first of field 9
 
-aircraft_refused : (answered updater filed aircraft ≡ Refused 10 9 0) × (offered updater filed aircraft ≡ filed)
+aircraft_refused : (answered updater filed aircraft ≡ Err (refusal 10 9 0)) × (offered updater filed aircraft ≡ filed)
     × (get_or (offered updater filed bundle).strip 14 0 ≡ 90)
 unfolding answer_of count_as fault_in spelling_of outer parens parens_from letters_from in_alphabet white text reduced reduced_from stands_for_run opens closes
     hyphens type_named type_ranked types_read types forms_of plan_forms brief_forms fits3 numbers_fit fits7 fits8 fits9 count_fits aircraft_fits fits10

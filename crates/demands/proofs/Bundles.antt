@@ -11,7 +11,6 @@ use Rattle.sent.specs.Sent.{message_of, contents}
 use Rattle.kinds.specs.declared.MessageType.{MessageType}
 use Rattle.kinds.specs.declared.MessageType.TheVariants.{Fpl, Chg}
 use Rattle.kinds.specs.Kinds.{role_of, first_entry}
-use Rattle.message.specs.declared.Answer.TheVariants.{Accepted as ReadAs}
 use Rattle.message.specs.Reading.{count_of}
 use Rattle.message.specs.Message.{none_twice}
 use Rattle.message.proofs.Reached.{Reached, accepted_taken}
@@ -21,8 +20,7 @@ use Rattle.force.proofs.Laws.{amended_replaced, replaced_moved, chg_named, chg_r
 use Rattle.state.specs.declared.Strip.{Strip}
 use Rattle.state.specs.State.{next_of}
 use Rattle.opening.specs.Opening.{text_said}
-use Rattle.strip.specs.declared.Updated.{Updated}
-use Rattle.strip.specs.Updating.{out_after}
+use Rattle.strip.specs.Updating.{Updated, out_after}
 use Rattle.history.specs.History.{nine}
 use Rattle.history.specs.Demand3.{updater, Standing, Offer, Proper, amended_on, put_as, offered, offered_all}
 use Rattle.history.proofs.Strip.{said_contents, strip_contents, Stripped, proper_stripped, plan_contents}
@@ -30,6 +28,7 @@ use Rattle.history.proofs.Causes.{event, amended_on_lem, Took, Verdict, verdict}
 use Rattle.history.proofs.Demand3.{took_fits, took_written}
 use Rattle.demands.specs.Turns.{standing}
 use Rattle.demands.specs.Bundles.{Accepts, OneByOne, none_left, and_then, SameOneByOne}
+use Rattle.std.specs.Prelude.{Ok}
 
 -- ONE ACCEPTED CHG: the strip's contents with its entries put in, one after the other; the record stays
 
@@ -46,7 +45,7 @@ module _ (b : Standing) (o : Offer) (es : List Word) (c : Accepts updater b o es
   stripped = proper_stripped b.strip b.held proper
 
   type_is : took.passes.type ≡ Chg
-  type_is = let e : ReadAs took.passes.type took.passes.long ≡ ReadAs Chg c.long = sym took.passes.read ∙ c.read in cc
+  type_is = let e : Ok (took.passes.type, took.passes.long) ≡ Ok (Chg, c.long) = sym took.passes.read ∙ c.read in cc
 
   -- a CHG does not move the state
   held_is : c.held ≡ b.held

@@ -10,15 +10,13 @@ use Rattle.text.specs.Lent.{front}
 use Rattle.sent.specs.Sent.{contents}
 use Rattle.kinds.specs.declared.MessageType.{MessageType}
 use Rattle.kinds.specs.declared.MessageType.TheVariants.{Cnl, Dla}
-use Rattle.message.specs.declared.Answer.{Answer}
-use Rattle.message.specs.declared.Answer.TheVariants.{Accepted, Refused}
+use Rattle.message.specs.Answer.{Answer}
 use Rattle.message.specs.Reading.{answer_of, out_after}
 use Rattle.message.specs.Message.{Message, canonical_message, spelling, valid_message, SentAs, message_from, accepts}
 use Rattle.message.proofs.Answers.{answered, accepted as answered-accepted, refused as answered-refused, Answered}
 use Rattle.message.proofs.Answers.{refused-leaves, accepted-writes, refused-number}
 use Rattle.message.proofs.Accepted.{accepted_record, accepted_fits as accepted-of, one_record, record_accepted, record_spelling}
-use Rattle.message.proofs.Canonical.{canonical_settled, canonical_valid, spelling_settled, spelling_sent}
-use Rattle.message.proofs.Canonical.{equal_records as records-equal}
+use Rattle.message.proofs.Canonical.{canonical_settled, canonical_valid, spelling_settled, spelling_sent, equal_records as records-equal}
 use Rattle.message.proofs.Examples.{cancelled, accepted_types}
 use Rattle.message.proofs.Readers.{refuses_all_lem, accepts_all, one_answer, one_acceptance, one_spelling}
 use Rattle.history.specs.Demand3.{updater, Meets as Meets3}
@@ -27,6 +25,8 @@ use Rattle.demands.specs.Demands.{Reader, Reads, Demand1, accepted, refused, IsR
 use Rattle.message.proofs.Places.{refused_place}
 use Rattle.demands.proofs.Named.{refused_named}
 use Rattle.demands.proofs.Pointed.{refused_points}
+use Rattle.std.specs.Prelude.{Ok, Err}
+use Rattle.outer.specs.Refusal.{refusal}
 
 -- DEMAND 1
 
@@ -36,7 +36,7 @@ demand1 m out a after r = go (answered a)
     go : Answered a → Demand1 m out a after
     go (answered-accepted t n e) = accepted t n e
     go (answered-refused number field place e) =
-        let q : answer_of m (length out) ≡ Refused number field place = sym r.answer_is ∙ e in
+        let q : answer_of m (length out) ≡ Err (refusal number field place) = sym r.answer_is ∙ e in
         let k = refused-number m (length out) number field place q in
         refused number field place e
         (record {
@@ -109,7 +109,7 @@ module _ (m out : List ℕ) (a : Answer) (after : List ℕ) (r : Reads m out a a
       let w = accepted-writes m out x.type (length (spelling x)) e in
       let t : M.type ≡ x.type = ap (λ (N : Message). N.type) q.kept in
       record {
-        answer_is = r.answer_is ∙ e ∙ sym (ap₂ Accepted t (ap length l));
+        answer_is = r.answer_is ∙ e ∙ sym (ap₂ (λ (u : MessageType) (n : ℕ). Ok (u, n)) t (ap length l));
         output_is = r.output_is ∙ w ∙ ap (λ (s : List ℕ). front s out) (record_spelling x m q.valid q.sent ∙ sym l);
       }
 
@@ -183,7 +183,7 @@ record Typed (t : MessageType) (m : List ℕ) (room : ℕ) : Type 0 where
   fit : Fits m room
   typed : fit.of.type ≡ t
 
-accepted_typed : (t : MessageType) (m : List ℕ) (room n : ℕ) → answer_of m room ≡ Accepted t n → Typed t m room
+accepted_typed : (t : MessageType) (m : List ℕ) (room n : ℕ) → answer_of m room ≡ Ok (t, n) → Typed t m room
 unfolding sent_fits
 accepted_typed t m room n e =
     let k = accepted_record m room t n e in

@@ -21,36 +21,31 @@ use Rattle.dates.specs.Dates.{with_date, Puts}
 use Rattle.kinds.specs.declared.Form.{Form}
 use Rattle.kinds.specs.Kinds.{first_entry}
 use Rattle.forms.specs.Forms.{rank_in, written_of}
-use Rattle.message.specs.declared.Answer.{Answer}
+use Rattle.message.specs.Answer.{Answer}
 use Rattle.lines.specs.declared.Told.{Told}
 use Rattle.lines.specs.Lines.{Tells}
 use Rattle.state.specs.declared.Strip.{Strip}
-use Rattle.opening.specs.declared.Opening.{Opening}
 use Rattle.opening.specs.Opening.{opening_of, scratch_after}
 use Rattle.force.specs.declared.Span.{Span}
 use Rattle.force.specs.InForce.{in_force, AtEntries, FoundIn}
-use Rattle.strip.specs.declared.Updated.{Updated}
-use Rattle.strip.specs.Updating.{update_of, out_after as updated_out}
-use Rattle.asked.specs.declared.Asked.{Asked}
-use Rattle.asked.specs.declared.Asked.TheVariants.{InStrip, InChange, Refused}
-use Rattle.asked.specs.Asking.{rank_of, asked_of, shown, StandsAt}
+use Rattle.strip.specs.Updating.{Updated, update_of, out_after as updated_out}
+use Rattle.asked.specs.Asking.{Asked, rank_of, asked_of, shown, StandsAt}
 use Rattle.asked.specs.Parts.{Shows}
-use Rattle.parts.specs.declared.Part.{Part}
-use Rattle.parts.specs.declared.Planned.{Planned}
-use Rattle.parts.specs.Parts.{field_of, content_asked as content_numbered, planned_of}
+use Rattle.parts.specs.Parts.{Part, Planned, field_of, content_asked as content_numbered, planned_of}
 use Rattle.parts.specs.Shown.{Shows as ShowsField, ShowsPlan}
 use Rattle.history.specs.Demand3.{Standing, Offer}
 use Rattle.rooms.specs.Rooms.{Call}
 use Rattle.rooms.specs.declared.Firm.{Firm}
-use Rattle.racks.specs.declared.Place.{Place}
 use Rattle.racks.specs.declared.Board.{Board}
-use Rattle.racks.specs.Places.{Puts as PutsIn}
+use Rattle.racks.specs.Places.{Place, Puts as PutsIn}
 use Rattle.board.specs.declared.Turn.{Turn}
 use Rattle.board.specs.Turns.{Turned, clearing, Clearing}
 use Rattle.board.proofs.Turns.{turned_one}
 use Rattle.demands.specs.Demands.{Reads}
 use Rattle.demands.specs.Determined.{Determines}
 use Rattle.demands.specs.Turns.{Updates}
+use Rattle.std.specs.Prelude.{Ok, Err}
+use Rattle.asked.specs.declared.Place.TheVariants.{InChange, InStrip}
 
 -- AN EQUATION: the contract gives the result, `r ≡ v`
 
@@ -165,9 +160,9 @@ pub shown_one : {A : Type 0} (strip : List ℕ) (held : Strip) (chg : List ℕ) 
 shown_one strip held chg number sb sp cb cp x y p q = go (asked_of strip held chg number) p.1 q.1
   where
     go : (a : Asked) → StandsAt a sb sp cb cp x.1.0 x.1.1 → StandsAt a sb sp cb cp y.1.0 y.1.1 → x ≡ y
-    go (InStrip from to) u v = placed x.0 y.0 x.1.0 y.1.0 x.1.1 y.1.1 (p.0 ∙ sym q.0) (u.0 ∙ sym v.0) (u.1 ∙ sym v.1)
-    go (InChange from to) u v = placed x.0 y.0 x.1.0 y.1.0 x.1.1 y.1.1 (p.0 ∙ sym q.0) (u.0 ∙ sym v.0) (u.1 ∙ sym v.1)
-    go (Refused n field place) u v = placed x.0 y.0 x.1.0 y.1.0 x.1.1 y.1.1 (p.0 ∙ sym q.0) (u.0 ∙ sym v.0) (u.1 ∙ sym v.1)
+    go (Ok (InStrip from to)) u v = placed x.0 y.0 x.1.0 y.1.0 x.1.1 y.1.1 (p.0 ∙ sym q.0) (u.0 ∙ sym v.0) (u.1 ∙ sym v.1)
+    go (Ok (InChange from to)) u v = placed x.0 y.0 x.1.0 y.1.0 x.1.1 y.1.1 (p.0 ∙ sym q.0) (u.0 ∙ sym v.0) (u.1 ∙ sym v.1)
+    go (Err r) u v = placed x.0 y.0 x.1.0 y.1.0 x.1.1 y.1.1 (p.0 ∙ sym q.0) (u.0 ∙ sym v.0) (u.1 ∙ sym v.1)
 
 -- `asked::ask`: the answer, and what its place says of the bytes there
 pub ask_one : (strip : List ℕ) (held : Strip) (chg : List ℕ) (number : ℕ)
@@ -184,8 +179,8 @@ planned_one m = bounded Planned (planned_of m) (λ r. ShowsPlan r m)
 -- OPENING A STRIP: the answer, and every byte of the scratch
 
 pub open_one : (strip : List ℕ) (held : Strip) (m scratch : List ℕ)
-    → Determines (Opening × List ℕ) (λ r. (r.0 ≡ opening_of strip held m) × (r.1 ≡ scratch_after (opening_of strip held m) m scratch))
-open_one strip held m scratch = written Opening (opening_of strip held m) (scratch_after (opening_of strip held m) m scratch)
+    → Determines (Answer × List ℕ) (λ r. (r.0 ≡ opening_of strip held m) × (r.1 ≡ scratch_after (opening_of strip held m) m scratch))
+open_one strip held m scratch = written Answer (opening_of strip held m) (scratch_after (opening_of strip held m) m scratch)
 
 -- UPDATING: the answer with the record, and every byte of the output
 

@@ -32,7 +32,6 @@ use Rattle.sent.specs.Sent.{message_of, contents}
 use Rattle.kinds.specs.declared.MessageType.{MessageType}
 use Rattle.kinds.specs.declared.MessageType.TheVariants.{Fpl}
 use Rattle.kinds.specs.Kinds.{role_of, plan_forms, brief_forms, forms_of, types_read, type_ranked, type_named}
-use Rattle.message.specs.declared.Answer.TheVariants.{Accepted as ReadAs, Refused as NotRead}
 use Rattle.message.specs.Reading.{spelling_of, fault_in, count_as, answer_of}
 use Rattle.message.proofs.Reached.{accepted_taken}
 use Rattle.message.proofs.Valid.{fitting_length}
@@ -43,7 +42,6 @@ use Rattle.opening.specs.Opening.{text_said, canonical_plan, opening_of}
 use Rattle.opening.proofs.Steps.{spelling_two}
 use Rattle.amending.specs.Amended.{new_strip}
 use Rattle.amending.proofs.Room.{new_room}
-use Rattle.strip.specs.declared.Updated.TheVariants.{Accepted, Refused}
 use Rattle.strip.specs.Updating.{offered_as, update_of}
 use Rattle.history.specs.History.{spelled}
 use Rattle.history.specs.Demand3.{Passes, Cause, amended_on}
@@ -53,17 +51,19 @@ use Rattle.history.proofs.Late.{late_plan}
 use Rattle.history.proofs.Strip.{proper_stripped, plan_contents}
 use Rattle.history.proofs.Causes.{Took, Verdict, amended_on_lem, verdict, refused_cause}
 use Rattle.demands.specs.Rooms.{ReadingNeeds, UpdateNeeds}
+use Rattle.std.specs.Prelude.{Ok, Err}
+use Rattle.outer.specs.Refusal.{refusal}
 
 -- READING
 
 -- a message that is read has a spelling no longer than it
-read_short : (m : List ℕ) (room : ℕ) (t : MessageType) (n : ℕ) → answer_of m room ≡ ReadAs t n → (n ≡ length (spelling_of t m)) × (n ≤ length m)
+read_short : (m : List ℕ) (room : ℕ) (t : MessageType) (n : ℕ) → answer_of m room ≡ Ok (t, n) → (n ≡ length (spelling_of t m)) × (n ≤ length m)
 read_short m room t n e =
     let k = accepted_taken t m room n e in
     (k.long, omega (arith, spelling_short m k.reached.good t, k.long))
 
 -- with 1,800 bytes lent 11 is not an answer: behind 9 there is only 10
-never_most : (m : List ℕ) (field place : ℕ) → answer_of m most ≡ NotRead 11 field place → ⊥
+never_most : (m : List ℕ) (field place : ℕ) → answer_of m most ≡ Err (refusal 11 field place) → ⊥
 never_most m field place e = let z = (late_plan m 11 field place e (omega arith)).0 in omega arith
 
 pub reading_needs : (m : List ℕ) (room : ℕ) → ReadingNeeds m room
@@ -112,12 +112,12 @@ module _ (strip : List ℕ) (held : Strip) (m : List ℕ) (room : ℕ) where
   no_room_left number field place (too_long k u l) e = absurd (omega arith)
   no_room_left number field place (no_room_lem k u l r) e = let n = new_short k in (omega arith, omega arith)
 
-  taken_short : (next : Strip) (n : ℕ) → update_of strip held m room ≡ Accepted next n → n ≤ length strip + length m
+  taken_short : (next : Strip) (n : ℕ) → update_of strip held m room ≡ Ok (next, n) → n ≤ length strip + length m
   taken_short next n e =
       let t : Took strip held m room next n = subst (Verdict strip held m room) e (verdict strip held m room) in
       omega (arith, t.long, new_short t.passes)
 
-  left : (field place : ℕ) → update_of strip held m room ≡ Refused 11 field place → (room < most) × (room < length strip + length m)
+  left : (field place : ℕ) → update_of strip held m room ≡ Err (refusal 11 field place) → (room < most) × (room < length strip + length m)
   left field place e = no_room_left 11 field place (refused_cause strip held m room 11 field place e) refl
 
   pub update_needs : UpdateNeeds strip held m room
@@ -130,7 +130,7 @@ module _ (strip : List ℕ) (held : Strip) (m : List ℕ) (room : ℕ) where
 
 -- NO LESS WILL DO: a spelling just as long as its message, and an update that needs more than the strip's bytes, computed
 
-read_tight : answer_of (bytes "(CNL-ABC12-EHAM0930-EDDF-0)") 26 ≡ NotRead 11 0 0
+read_tight : answer_of (bytes "(CNL-ABC12-EHAM0930-EDDF-0)") 26 ≡ Err (refusal 11 0 0)
 unfolding answer_of count_as fault_in spelling_of outer parens parens_from letters_from in_alphabet white reduced reduced_from stands_for_run opens closes
     hyphens type_named type_ranked types_read types forms_of brief_forms fits3 numbers_fit fits7 four_letters joined time_fits fits_in
 read_tight = refl
@@ -138,7 +138,7 @@ read_tight = refl
 abbrev filed : List ℕ
 filed = bytes "(FPL-ABC12-IS-B738/M-SDFG/S-EHAM0930-N0440F310 DCT PAM DCT-EDDF0100 EDDK-0)"
 
-update_tight : update_of filed just_filed (bytes "(CHG-ABC12-EHAM0930-EDDF-0-9/2B738/M)") (length filed) ≡ Refused 11 0 0
+update_tight : update_of filed just_filed (bytes "(CHG-ABC12-EHAM0930-EDDF-0-9/2B738/M)") (length filed) ≡ Err (refusal 11 0 0)
 unfolding answer_of count_as fault_in spelling_of outer parens parens_from letters_from in_alphabet white text reduced reduced_from stands_for_run opens closes
     hyphens type_named type_ranked types_read types forms_of plan_forms brief_forms fits3 numbers_fit fits7 fits8 fits9 count_fits aircraft_fits fits10
     valid10 present fits16plan fits15 starts speeds levels speed_digits level_digits element_fits letters within radial_fits indicators name_fits

@@ -7,15 +7,12 @@ use lib.ListN.{length, drop}
 use Rattle.outer.specs.Outer.{most}
 use Rattle.sent.specs.Sent.{contents}
 use Rattle.kinds.specs.declared.MessageType.TheVariants.{Fpl}
-use Rattle.message.specs.declared.Answer.TheVariants.{Accepted as ReadAs}
 use Rattle.message.specs.Reading.{answer_of}
 use Rattle.message.specs.Message.{canonical_message, message_from}
 use Rattle.message.proofs.Accepted.{accepted_record}
 use Rattle.message.proofs.Canonical.{canonical_valid, spelling_settled, spelling_contents}
 use Rattle.state.specs.declared.Strip.{Strip}
-use Rattle.strip.specs.declared.Updated.{Updated}
-use Rattle.strip.specs.declared.Updated.TheVariants.{Accepted}
-use Rattle.strip.specs.Updating.{update_of, out_after}
+use Rattle.strip.specs.Updating.{Updated, update_of, out_after}
 use Rattle.history.specs.Demand3.{Updater, updater, Standing, Offer, Proper, put_as, entered_as, answered, offered, offered_all, log_all, Demand3, filed_as}
 use Rattle.history.specs.History.{plan_in, nine, given}
 use Rattle.history.proofs.Strip.{proper_stripped}
@@ -25,6 +22,7 @@ use Rattle.history.proofs.Causes.{Verdict, verdict, refused_cause, cause_refused
 use Rattle.history.proofs.Demand3.{took_behind, Stands, kept_on, filed_stands, refused_stays, stepped_length, demand3}
 use Rattle.history.proofs.Only.{standing_last, log_last}
 use Rattle.demands.specs.Turns.{OnStrip, Updates, Turns}
+use Rattle.std.specs.Prelude.{Ok}
 
 -- THE RECORD ON A STRIP
 
@@ -47,7 +45,7 @@ pub strip_record : (U : Updater) (filed : List (List ℕ)) (start : Standing) (r
 strip_record U filed start run d = subst OnStrip (sym d.strip_is) (proper_record _ d.held d.stays_proper)
 
 -- and the contents are those of the history's plan
-pub plan_fields_lem : (m : List ℕ) (room n : ℕ) → answer_of m room ≡ ReadAs Fpl n → (run : List Offer) (d : Demand3 updater (contents m) (filed_as m) run)
+pub plan_fields_lem : (m : List ℕ) (room n : ℕ) → answer_of m room ≡ Ok (Fpl, n) → (run : List Offer) (d : Demand3 updater (contents m) (filed_as m) run)
     → contents (offered_all updater (filed_as m) run).strip ≡ nine d.plan
 plan_fields_lem m room n e run d =
     let filed = plan_in (contents m) in
@@ -65,10 +63,10 @@ module _ (b : Standing) (o : Offer) (a : Updated) (after : List ℕ) (u : Update
   put_so : offered updater b o ≡ put_as a after b
   put_so = ap₂ (λ (x : Updated) (w : List ℕ). put_as x w b) (sym u.answer_is) (sym u.output_is)
 
-  accepted_length : (next : Strip) (n : ℕ) → a ≡ Accepted next n → n ≡ length (put_as a after b).strip
+  accepted_length : (next : Strip) (n : ℕ) → a ≡ Ok (next, n) → n ≡ length (put_as a after b).strip
   accepted_length next n q = stepped_length b o next n (sym u.answer_is ∙ q) ∙ ap (λ (x : Standing). length x.strip) put_so
 
-  accepted_behind : (next : Strip) (n : ℕ) → a ≡ Accepted next n → drop n after ≡ drop n o.lent
+  accepted_behind : (next : Strip) (n : ℕ) → a ≡ Ok (next, n) → drop n after ≡ drop n o.lent
   accepted_behind next n q =
       let e = sym u.answer_is ∙ q in
       let room = length o.lent in

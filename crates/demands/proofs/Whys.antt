@@ -21,18 +21,16 @@ use Rattle.kinds.specs.declared.Role.{Role}
 use Rattle.kinds.specs.declared.Role.TheVariants.{Files, Changes, Delays, Cancels, Departs, Arrives, Neither}
 use Rattle.kinds.specs.Kinds.{role_of, plan7, plan13, plan16, plan18, brief7, brief13, brief16, brief18}
 use Rattle.plan.specs.Unexplained.{unexplained}
-use Rattle.message.specs.declared.Answer.{Answer}
+use Rattle.message.specs.Answer.{Answer}
 use Rattle.message.specs.Reading.{unexplained_in, answer_of}
 use Rattle.message.proofs.Reached.{accepted_taken}
 use Rattle.state.specs.declared.Event.{Event}
 use Rattle.state.specs.declared.State.{State}
 use Rattle.state.specs.declared.Strip.{Strip}
 use Rattle.state.specs.State.{allowed_in}
-use Rattle.opening.specs.declared.Opening.TheVariants.{Refused as NotOpened}
 use Rattle.opening.specs.Opening.{text_said, read_as, opening_of}
 use Rattle.amending.specs.Amended.{amended}
 use Rattle.strip.specs.declared.Differences.{Differences}
-use Rattle.strip.specs.declared.Updated.TheVariants.{Refused}
 use Rattle.strip.specs.Updating.{event_of, compares_time, compares_date, other_day, differences, differs, update_of}
 use Rattle.causes.specs.declared.Key.{Key}
 use Rattle.causes.specs.declared.Key.TheVariants.{Typ, Dep, Dest, Altn}
@@ -50,6 +48,8 @@ use Rattle.history.proofs.Strip.{plain, said_contents, proper_stripped, proper_t
 use Rattle.history.proofs.Causes.{told_is, amended_on_lem, refused_cause, cause_refused}
 use Rattle.demands.specs.Whys.{Sorted, OfEach, OfDates, TheSet, name_of, wants, rank_of, Lacks, Heard, Why}
 use Rattle.demands.specs.Whys.Why.{differing, not_allowed, lacking, no_more}
+use Rattle.std.specs.Prelude.{Err}
+use Rattle.outer.specs.Refusal.{refusal}
 
 -- THE SET
 
@@ -316,7 +316,7 @@ module _ (strip : List ℕ) (held : Strip) (m : List ℕ) where
     heard_cause : shown ≡ offered_cause role (inner strip) held (text_said h.type m)
     unfolding cause_of opening_of
     heard_cause =
-        ap (λ (b : Bool). opened_cause (cond b (read_as (answer_of m most)) (NotOpened 15 0 0)) strip held m) (proper_tested strip held h.proper)
+        ap (λ (b : Bool). opened_cause (cond b (read_as (answer_of m most)) (Err (refusal 15 0 0))) strip held m) (proper_tested strip held h.proper)
         ∙ ap (λ (a : Answer). opened_cause (read_as a) strip held m) h.read
 
     heard_contents : split 45 (text_said h.type m) ≡ contents m
@@ -398,10 +398,11 @@ module _ (strip : List ℕ) (held : Strip) (m : List ℕ) where
       go : (c : Shown) → cause_of strip held m ≡ c → Agree held c (update_of strip held m most) → Why strip held m c
       go NothingMore e a = no_more none
         where
-          silent : (room number field place : ℕ) → update_of strip held m room ≡ Refused number field place → one_of number (10 ∷ 12 ∷ 13 ∷ []) ≡ true → ⊥
+          silent : (room number field place : ℕ) → update_of strip held m room ≡ Err (refusal number field place) → one_of number (10 ∷ 12 ∷ 13 ∷ []) ≡ true → ⊥
           silent room number field place u l =
-              let s : shows_nothing (Refused number field place) ≡ true
-              = subst (λ (c : Shown). Agree held c (Refused number field place)) e (subst (Agree held (cause_of strip held m)) u (agrees strip held m room)) in
+              let s : shows_nothing (Err (refusal number field place)) ≡ true
+              = subst (λ (c : Shown). Agree held c (Err (refusal number field place))) e (subst (Agree held (cause_of strip held m)) u
+                  (agrees strip held m room)) in
               false≢true (sym (ap (λ (b : Bool). cond b false true) l) ∙ s)
 
           none : (room number field place : ℕ) → Cause strip held m room number field place → one_of number (10 ∷ 12 ∷ 13 ∷ []) ≡ true → ⊥

@@ -1,7 +1,6 @@
 -- One board for two handlers (document 02, request 6): all that was asked of it, `OneBoard`, with a part for each sentence. The board is that of the
 -- crate rooms with the strip's own rules (board: specs/House.antt), and a run is any list of calls from the empty board. Assumes nothing.
-use Rattle.std.specs.Prelude.{ℕ, ◌≡◌, List}
-use Rattle.std.proofs.Math.Option.{none, some}
+use Rattle.std.specs.Prelude.{ℕ, ◌≡◌, List, None, Some}
 use Rattle.rooms.specs.declared.Firm.{Firm}
 use Rattle.rooms.specs.Rooms.{firm_of, Act, Call, Board, Said, empty, stands, said, offered_at, cleared_at}
 use Rattle.rooms.specs.Rooms.Act.{file, update, clear}
@@ -35,14 +34,14 @@ pub record OneBoard : Type 0 where
   -- make 16 after every run; and as many strips stand in each firm's slots as it holds by these counts
   pub counted : (cs : Calls) → Counted house (after cs) (log cs)
   -- FILING. 20 exactly when the firm holds 6 or more and none of the 4 is free; otherwise reading decides, and a plan gets the lowest empty slot
-  pub files : (cs : Calls) (n : ℕ) (f : Firm) → firm_of n ≡ some f → (m : List ℕ) → Files house f (after cs) (log cs) m (answer cs n (file m))
+  pub files : (cs : Calls) (n : ℕ) (f : Firm) → firm_of n ≡ Some f → (m : List ℕ) → Files house f (after cs) (log cs) m (answer cs n (file m))
   -- ITS OWN STRIPS ALONE, by slots that are the firm's own: 19 where nothing stands there; otherwise the strip's own rules decide of an update, and a
   -- strip that has arrived or was cancelled is cleared, while any other gets 13
-  pub updates : (cs : Calls) (n : ℕ) (f : Firm) → firm_of n ≡ some f → (k : ℕ) (m : List ℕ)
+  pub updates : (cs : Calls) (n : ℕ) (f : Firm) → firm_of n ≡ Some f → (k : ℕ) (m : List ℕ)
       → answer cs n (update k m) ≡ offered_at house (stands house (after cs) f k) k m
-  pub clears : (cs : Calls) (n : ℕ) (f : Firm) → firm_of n ≡ some f → (k : ℕ) → answer cs n (clear k) ≡ cleared_at house (stands house (after cs) f k) k
+  pub clears : (cs : Calls) (n : ℕ) (f : Firm) → firm_of n ≡ Some f → (k : ℕ) → answer cs n (clear k) ≡ cleared_at house (stands house (after cs) f k) k
   -- 18 to whoever is not 1 or 2, whatever is asked
-  pub strangers : (cs : Calls) (n : ℕ) → firm_of n ≡ none → (a : Act (List ℕ)) → answer cs n a ≡ no_firm
+  pub strangers : (cs : Calls) (n : ℕ) → firm_of n ≡ None → (a : Act (List ℕ)) → answer cs n a ≡ no_firm
   -- ONE FIRM AND THE OTHER. What a firm is answered goes by its own calls and, with its filings alone, by how many of the 4 the other holds then: in two
   -- runs in which these are the same (`view`), all its answers are the same and so are its strips
   pub apart : (f : Firm) (cs ds : Calls) → view house f (empty house) cs ≡ view house f (empty house) ds → Agree house (keeper house) f cs ds

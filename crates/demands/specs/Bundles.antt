@@ -1,16 +1,14 @@
 -- Several changes in one, or one by one (document 02, request 14), of any updater: a CHG with its entries, single CHGs in its place, and what is claimed
 -- of the two. Assumes nothing.
-use Rattle.std.specs.Prelude.{ℕ, ◌≡◌, List, [], ◌∷◌, drop}
+use Rattle.std.specs.Prelude.{ℕ, ◌≡◌, List, [], ◌∷◌, drop, Ok}
 use Rattle.text.specs.Words.{Word}
 use Rattle.outer.specs.Outer.{most}
 use Rattle.sent.specs.Sent.{contents}
 use Rattle.kinds.specs.declared.MessageType.TheVariants.{Chg}
 use Rattle.kinds.specs.Kinds.{first_entry}
-use Rattle.message.specs.declared.Answer.TheVariants.{Accepted as ReadAs}
 use Rattle.message.specs.Reading.{answer_of}
 use Rattle.force.specs.InForce.{Reordered}
 use Rattle.state.specs.declared.Strip.{Strip}
-use Rattle.strip.specs.declared.Updated.TheVariants.{Accepted}
 use Rattle.history.specs.Demand3.{Updater, Standing, Offer, answered, offered, offered_all}
 use Rattle.demands.specs.Examples.{Example, updated, not_updated}
 
@@ -18,11 +16,11 @@ use Rattle.demands.specs.Examples.{Example, updated, not_updated}
 -- room lent nothing is asked but that it is accepted
 pub record Accepts (U : Updater) (b : Standing) (o : Offer) (es : List Word) : Type 0 where
   pub long : ℕ
-  pub read : answer_of o.bytes most ≡ ReadAs Chg long
+  pub read : answer_of o.bytes most ≡ Ok (Chg, long)
   pub entries_are : drop first_entry (contents o.bytes) ≡ es
   pub held : Strip
   pub written : ℕ
-  pub accepted : answered U b o ≡ Accepted held written
+  pub accepted : answered U b o ≡ Ok (held, written)
 
 -- ONE BY ONE: a run of single CHGs, each with one entry and each accepted on the strip at its turn; the first is offered to b. The entries are listed in
 -- the order of their coming

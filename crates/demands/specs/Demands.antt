@@ -1,18 +1,17 @@
 -- The client's demands 1 and 2, said of a result of reading: the bytes sent, the output as it was lent, the answer, the output afterwards.
 -- Assumes nothing.
-use Rattle.std.specs.Prelude.{ℕ, ◌≤◌, ◌≡◌, refl, true, false, List, [], ◌∷◌, length, take}
+use Rattle.std.specs.Prelude.{ℕ, ◌≤◌, ◌≡◌, refl, true, false, List, [], ◌∷◌, length, take, Ok, Err}
 use Rattle.alphabet.specs.Alphabet.{one_of}
 use Rattle.text.specs.Lent.{front}
 use Rattle.places.specs.Place.{IsPlace}
 use Rattle.space.specs.Places.{sent_place}
 use Rattle.kinds.specs.declared.MessageType.{MessageType}
-use Rattle.kinds.specs.declared.Named.TheVariants.{Read}
 use Rattle.kinds.specs.Kinds.{form_at, number_of, type_named}
 use Rattle.forms.specs.Forms.{field_of}
-use Rattle.message.specs.declared.Answer.{Answer}
-use Rattle.message.specs.declared.Answer.TheVariants.{Accepted, Refused}
+use Rattle.message.specs.Answer.{Answer}
 use Rattle.message.specs.Reading.{count_of, content_of, three, answer_of, out_after}
 use Rattle.message.specs.Message.{Message, canonical_message, spelling, valid_message, SentAs, accepts, Meets, Writes}
+use Rattle.outer.specs.Refusal.{refusal}
 
 -- A READER, by the results that it may give: for the bytes m and the output `out`, an answer and the output `after`
 
@@ -31,7 +30,7 @@ pub record Reads (m out : List ℕ) (a : Answer) (after : List ℕ) : Type 0 whe
 -- content that fits its form could go on, or the one just behind it
 pub record Points (m : List ℕ) (field place : ℕ) : Type 0 where
   pub type : MessageType
-  pub type_is : type_named (three m) ≡ Read type
+  pub type_is : type_named (three m) ≡ Ok type
   -- which field, counted from 0, and the place in its content
   pub which : ℕ
   pub at : ℕ
@@ -57,8 +56,8 @@ pub record Refusal (m out : List ℕ) (number field place : ℕ) (after : List �
   pub stays : after ≡ out
 
 pub data Demand1 (m out : List ℕ) (a : Answer) (after : List ℕ) : Type 0 where
-  accepted : (t : MessageType) (n : ℕ) → a ≡ Accepted t n → Demand1 m out a after
-  refused : (number field place : ℕ) → a ≡ Refused number field place → Refusal m out number field place after → Demand1 m out a after
+  accepted : (t : MessageType) (n : ℕ) → a ≡ Ok (t, n) → Demand1 m out a after
+  refused : (number field place : ℕ) → a ≡ Err (refusal number field place) → Refusal m out number field place after → Demand1 m out a after
 
 -- DEMAND 2
 
@@ -78,13 +77,13 @@ pub record Fits (m : List ℕ) (room : ℕ) : Type 0 where
 
 -- the answer gives the record's type and the length of its spelling, which is at the front of the output; the bytes behind it are as they were
 pub record Spelled (M : Message) (out : List ℕ) (a : Answer) (after : List ℕ) : Type 0 where
-  pub answer_is : a ≡ Accepted M.type (length (spelling M))
+  pub answer_is : a ≡ Ok (M.type, length (spelling M))
   pub output_is : after ≡ front (spelling M) out
 
 -- the spelling as a caller finds it: as many bytes of the output as the answer says
 abbrev pub spelling_in : Answer → List ℕ → List ℕ
-spelling_in (Accepted t n) after = take n after
-spelling_in (Refused number field place) after = []
+spelling_in (Ok (t, n)) after = take n after
+spelling_in (Err r) after = []
 
 pub record Demand2 (R : Reader) (m out : List ℕ) (a : Answer) (after : List ℕ) : Type 0 where
   -- a message is accepted exactly when it fits the forms and its spelling fits the room lent
@@ -128,4 +127,4 @@ pub record NotPassing : Type 1 where
   pub accepts_all : (r : List ℕ → ℕ → Answer) → ((m : List ℕ) (room : ℕ) → accepts (r m room) ≡ true) → Meets r → ⊥
   pub one_answer : (a : Answer) → Meets (λ m room. a) → ⊥
   pub one_acceptance : (t : MessageType) (n : ℕ) (r : List ℕ → ℕ → Answer)
-      → ((m : List ℕ) (room : ℕ) → accepts (r m room) ≡ true → r m room ≡ Accepted t n) → Meets r → ⊥
+      → ((m : List ℕ) (room : ℕ) → accepts (r m room) ≡ true → r m room ≡ Ok (t, n)) → Meets r → ⊥

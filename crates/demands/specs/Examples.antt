@@ -1,5 +1,5 @@
 -- The examples that document 01 marks to be proved, some others of it and of document 02: one list, and one statement over it. Assumes nothing.
-use Rattle.std.specs.Prelude.{ℕ, ◌≡◌, true, false, List, [], ◌∷◌, ◌++◌, length, replicate}
+use Rattle.std.specs.Prelude.{ℕ, ◌≡◌, true, false, List, [], ◌∷◌, ◌++◌, length, replicate, Ok, Err}
 use Prim.Native.String.{String}
 use Rattle.std.proofs.Math.Option.{some}
 use Rattle.alphabet.specs.Text.{bytes}
@@ -18,14 +18,12 @@ use Rattle.canonical.specs.Canonical.{field19}
 use Rattle.kinds.specs.declared.MessageType.{MessageType}
 use Rattle.kinds.specs.declared.MessageType.TheVariants.{Cnl}
 use Rattle.outer.specs.Outer.{most}
-use Rattle.message.specs.declared.Answer.TheVariants.{Accepted, Refused}
 use Rattle.message.specs.Reading.{answer_of, spelling_of}
 use Rattle.state.specs.State.{just_filed}
-use Rattle.strip.specs.declared.Updated.TheVariants.{Accepted as Taken, Refused as NotTaken}
 use Rattle.strip.specs.Updating.{update_of, out_after}
-use Rattle.asked.specs.declared.Asked.{Asked}
-use Rattle.asked.specs.declared.Asked.TheVariants.{InStrip, InChange, Refused as NotShown}
-use Rattle.asked.specs.Asking.{asked_of}
+use Rattle.asked.specs.Asking.{Asked, asked_of}
+use Rattle.outer.specs.Refusal.{refusal}
+use Rattle.asked.specs.declared.Place.TheVariants.{InChange, InStrip}
 
 -- what an example says of the definitions
 pub data Example : Type 1 where
@@ -61,12 +59,12 @@ Holds (route_as w x) = (field15.fits (alone w) ≡ true) × ((record15 (alone w)
 Holds (route_no w) = field15.fits (alone w) ≡ false
 Holds (time s) = clock_fits (bytes s) ≡ true
 Holds (no_time s) = clock_fits (bytes s) ≡ false
-Holds (accepted s t w) = (answer_of (bytes s) most ≡ Accepted t (length (bytes w))) × (spelling_of t (bytes s) ≡ bytes w)
-Holds (refused s number field place) = answer_of (bytes s) most ≡ Refused number field place
+Holds (accepted s t w) = (answer_of (bytes s) most ≡ Ok (t, length (bytes w))) × (spelling_of t (bytes s) ≡ bytes w)
+Holds (refused s number field place) = answer_of (bytes s) most ≡ Err (refusal number field place)
 Holds (updated s m w) =
-    (update_of (bytes s) just_filed (bytes m) (length (bytes w)) ≡ Taken just_filed (length (bytes w)))
+    (update_of (bytes s) just_filed (bytes m) (length (bytes w)) ≡ Ok (just_filed, length (bytes w)))
     × (out_after (bytes s) just_filed (bytes m) (replicate (length (bytes w)) 0) ≡ bytes w)
-Holds (not_updated s m number field place) = update_of (bytes s) just_filed (bytes m) most ≡ NotTaken number field place
+Holds (not_updated s m number field place) = update_of (bytes s) just_filed (bytes m) most ≡ Err (refusal number field place)
 Holds (asked s m number a) = asked_of (bytes s) just_filed (bytes m) number ≡ a
 
 abbrev pub AllHold : List Example → Type 0
@@ -131,17 +129,18 @@ of_destinations =
     ∷ (updated "(FPL-ABC12-IS-B738/M-SDFG/S-EHAM0930-N0440F310 DCT PAM DCT-EDDN0100 EDDK-0)" "(CHG-ABC12-EHAM0930-EDDN-0-16/EDDN0100)"
     "(FPL-ABC12-IS-B738/M-SDFG/S-EHAM0930-N0440F310 DCT PAM DCT-EDDN0100-0)"
     ∷ (not_updated "(FPL-ABC12-IS-B738/M-SDFG/S-EHAM0930-N0440F310 DCT PAM DCT-EDDF0100 EDDK-0)" "(CHG-ABC12-EHAM0930-EDDF-0-16/ZZZZ)" 10 16 0
-    ∷ (asked "(FPL-ABC12-IS-B738/M-SDFG/S-EHAM0930-N0440F310 DCT PAM DCT-EDDF0100 EDDK-0)" "(CHG-ABC12-EHAM0930-EDDF-0-16/EDDN-8/IN)" 16 (NotShown 17 0 0)
+    ∷ (asked "(FPL-ABC12-IS-B738/M-SDFG/S-EHAM0930-N0440F310 DCT PAM DCT-EDDF0100 EDDK-0)" "(CHG-ABC12-EHAM0930-EDDF-0-16/EDDN-8/IN)" 16 (Err (refusal 17 0 0))
     ∷ (asked "(FPL-ABC12-IS-B738/M-SDFG/S-EHAM0930-N0440F310 DCT PAM DCT-EDDF0100 EDDK-0)" "(CHG-ABC12-EHAM0930-EDDF-0-16/EDDN-8/IN)" 8
-    (InChange 37 39) ∷ []))))))))
+    (Ok (InChange 37 39)) ∷ []))))))))
 
 -- document 01's strip and its CHG
 abbrev pub of_strips : List Example
 of_strips =
     updated "(FPL-ABC12-IS-B738/M-SDFG/S-EHAM0930-N0440F310 DCT PAM DCT-EDDF0100 EDDK-0)" "(CHG-ABC12-EHAM0930-EDDF-0-9/B39M/M-8/IN)"
     "(FPL-ABC12-IN-B39M/M-SDFG/S-EHAM0930-N0440F310 DCT PAM DCT-EDDF0100 EDDK-0)"
-    ∷ (asked "(FPL-ABC12-IS-B738/M-SDFG/S-EHAM0930-N0440F310 DCT PAM DCT-EDDF0100 EDDK-0)" "(CHG-ABC12-EHAM0930-EDDF-0-9/B39M/M-8/IN)" 9 (InChange 29 35)
-    ∷ (asked "(FPL-ABC12-IS-B738/M-SDFG/S-EHAM0930-N0440F310 DCT PAM DCT-EDDF0100 EDDK-0)" "(CHG-ABC12-EHAM0930-EDDF-0-9/B39M/M-8/IN)" 10 (InStrip 21 27) ∷ []))
+    ∷ (asked "(FPL-ABC12-IS-B738/M-SDFG/S-EHAM0930-N0440F310 DCT PAM DCT-EDDF0100 EDDK-0)" "(CHG-ABC12-EHAM0930-EDDF-0-9/B39M/M-8/IN)" 9 (Ok (InChange 29 35))
+    ∷ (asked "(FPL-ABC12-IS-B738/M-SDFG/S-EHAM0930-N0440F310 DCT PAM DCT-EDDF0100 EDDK-0)" "(CHG-ABC12-EHAM0930-EDDF-0-9/B39M/M-8/IN)" 10 (Ok
+        (InStrip 21 27)) ∷ []))
 
 -- dates (document 02, request 5): a DLA's goes into the strip, in the key order; a CHG's must be the strip's, where both carry one
 abbrev pub OfDates : List Example
@@ -156,7 +155,7 @@ OfDates =
     ∷ (updated "(FPL-ABC12-IS-B738/M-SDFG/S-EHAM0930-N0440F310 DCT PAM DCT-EDDF0100 EDDK-DOF/240229)" "(CHG-ABC12-EHAM0930-EDDF-0-8/IN)"
     "(FPL-ABC12-IN-B738/M-SDFG/S-EHAM0930-N0440F310 DCT PAM DCT-EDDF0100 EDDK-DOF/240229)"
     ∷ (asked "(FPL-ABC12-IS-B738/M-SDFG/S-EHAM0930-N0440F310 DCT PAM DCT-EDDF0100 EDDK-DOF/240229)" "(CHG-ABC12-EHAM0930-EDDF-DOF/240301-8/IN)" 8
-    (NotShown 12 0 0) ∷ [])))))
+    (Err (refusal 12 0 0)) ∷ [])))))
 
 abbrev pub examples : List Example
 examples = of_fields ++ (of_elapsed ++ (of_messages ++ (of_strips ++ (of_destinations ++ OfDates))))

@@ -1,16 +1,15 @@
 -- Demand 3 (history: specs/Demand3.antt) beside the other two: what stands on a strip is one of demand 2's records, written out; and the demand
 -- as it reads at one call of the update. Assumes nothing.
-use Rattle.std.specs.Prelude.{ℕ, ◌≡◌, true, List, [], ◌∷◌, ◌++◌, length, drop}
+use Rattle.std.specs.Prelude.{ℕ, ◌≡◌, true, List, [], ◌∷◌, ◌++◌, length, drop, Ok, Err}
 use Rattle.sent.specs.Sent.{contents}
 use Rattle.kinds.specs.declared.MessageType.TheVariants.{Fpl}
-use Rattle.message.specs.declared.Answer.TheVariants.{Accepted as ReadAs}
 use Rattle.message.specs.Reading.{answer_of}
 use Rattle.message.specs.Message.{Message, sent_contents, spelling, valid_message}
 use Rattle.state.specs.declared.Strip.{Strip}
-use Rattle.strip.specs.declared.Updated.{Updated}
-use Rattle.strip.specs.declared.Updated.TheVariants.{Accepted, Refused}
+use Rattle.strip.specs.Updating.{Updated}
 use Rattle.history.specs.Demand3.{updater, Standing, Offer, put_as, entered_as, offered_all, log_all, Cause, Demand3, filed_as}
 use Rattle.demands.specs.Demands.{IsRecord}
+use Rattle.outer.specs.Refusal.{refusal}
 
 -- THE RECORD ON A STRIP: a valid record of an FPL, the one that the forms allow for the strip's bytes, and they are its spelling
 pub record OnStrip (strip : List ℕ) : Type 0 where
@@ -42,17 +41,17 @@ pub record Turn (filed : List ℕ) (run : List Offer) (b : Standing) (o : Offer)
   -- and all that is demanded of a run holds of it
   pub demanded : Demand3 updater (contents filed) (filed_as filed) (run ++ (o ∷ []))
   -- the message is refused exactly where there is a cause, and then nothing lent is changed
-  pub refused_cause : (number field place : ℕ) → a ≡ Refused number field place
+  pub refused_cause : (number field place : ℕ) → a ≡ Err (refusal number field place)
       → Cause b.strip b.held o.bytes (length o.lent) number field place
   pub cause_refused : (number field place : ℕ) → Cause b.strip b.held o.bytes (length o.lent) number field place
-      → a ≡ Refused number field place
-  pub unchanged : (number field place : ℕ) → a ≡ Refused number field place → after ≡ o.lent
+      → a ≡ Err (refusal number field place)
+  pub unchanged : (number field place : ℕ) → a ≡ Err (refusal number field place) → after ≡ o.lent
   -- of an accepted one the answer gives the new strip's length, and what lies behind it stays
-  pub length_is : (next : Strip) (n : ℕ) → a ≡ Accepted next n → n ≡ length (put_as a after b).strip
-  pub behind_stays : (next : Strip) (n : ℕ) → a ≡ Accepted next n → drop n after ≡ drop n o.lent
+  pub length_is : (next : Strip) (n : ℕ) → a ≡ Ok (next, n) → n ≡ length (put_as a after b).strip
+  pub behind_stays : (next : Strip) (n : ℕ) → a ≡ Ok (next, n) → drop n after ≡ drop n o.lent
 
 -- whatever FPL was filed, and whatever run of offers led to the strip
 abbrev pub Turns : Standing → Offer → Updated → List ℕ → Type 0
 Turns b o a after =
-    (filed : List ℕ) (room n : ℕ) → answer_of filed room ≡ ReadAs Fpl n → (run : List Offer) → offered_all updater (filed_as filed) run ≡ b
+    (filed : List ℕ) (room n : ℕ) → answer_of filed room ≡ Ok (Fpl, n) → (run : List Offer) → offered_all updater (filed_as filed) run ≡ b
     → Turn filed run b o a after

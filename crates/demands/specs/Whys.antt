@@ -1,6 +1,6 @@
 -- Why an update is refused (document 02, request 8), in the words of the history and of its causes (history: specs/Demand3.antt): what the set of 12
 -- holds, which key 10 misses, and which state 13 found. It names nothing of the update. Assumes nothing.
-use Rattle.std.specs.Prelude.{ℕ, ◌<◌, ◌≡◌, refl, Bool, true, false, ◌&&◌, ◌||◌, not, List, [], ◌∷◌, take, drop, get_or}
+use Rattle.std.specs.Prelude.{ℕ, ◌<◌, ◌≡◌, refl, Bool, true, false, ◌&&◌, ◌||◌, not, List, [], ◌∷◌, take, drop, get_or, Ok}
 use Rattle.alphabet.specs.Text.{bytes}
 use Rattle.alphabet.specs.Alphabet.{one_of}
 use Rattle.text.specs.Words.{Word, split, before}
@@ -13,7 +13,6 @@ use Rattle.kinds.specs.declared.MessageType.{MessageType}
 use Rattle.kinds.specs.declared.Role.{Role}
 use Rattle.kinds.specs.Kinds.{role_of, plan9, plan13, plan16, plan18, brief7, brief13, brief16, brief18}
 use Rattle.plan.specs.Unexplained.{unlisted, filed_in_flight}
-use Rattle.message.specs.declared.Answer.TheVariants.{Accepted as ReadAs}
 use Rattle.message.specs.Reading.{answer_of}
 use Rattle.state.specs.declared.Strip.{Strip}
 use Rattle.strip.specs.declared.Differences.{Differences}
@@ -87,7 +86,7 @@ pub record Heard (strip : List ℕ) (held : Strip) (m : List ℕ) : Type 0 where
   pub proper : Proper strip held
   pub type : MessageType
   pub long : ℕ
-  pub read : answer_of m most ≡ ReadAs type long
+  pub read : answer_of m most ≡ Ok (type, long)
   pub fit : fit_type type ≡ true
 
 -- of an update of a strip, beside its answer

@@ -3,130 +3,96 @@
 #![tactic(auto)]
 
 ghost use Rattle.outer.specs.Outer.{most};
-ghost use Rattle.std.specs.Prelude.{◌≡◌, ◌≤◌, length};
-ghost use Rattle.std.proofs.Math.Option.{none};
+ghost use Rattle.std.specs.Prelude.{◌≡◌, ◌≤◌, None, Some, length};
 ghost use Rattle.pieces.specs.Pieces.{pieces_of};
 ghost use Rattle.desk.specs.Desk.{standing_in, cause_to, standing_after, after_all, InRoom, Offering};
 
 use causes::Cause;
-use message::Answer;
+use outer::Refusal;
+use racks::Flight;
 use say::Console;
 use state::{State, Strip};
 use std::process::ExitCode;
 use strip::Updated;
 
-// What the desk holds: nothing yet, or a flight's state and how many bytes of a buffer its strip takes.
-#[derive(Clone, Copy)]
-pub enum Held {
-    Nothing,
-    Flight(Strip, usize),
-}
-
 // Before there is a strip: an accepted FPL becomes it, and another type is not fit.
 fn file(piece: &[u8], strip: &mut [u8]) -> Updated
     requires { length strip.old ≡ most }
-    ensures { Offering Held.Nothing strip.old piece.now result strip.new }
+    ensures { Offering None strip.old piece.now result strip.new }
 {
-    match message::read(piece, strip) {
-        Answer::Accepted(t, n) => {
-            if !message::is_plan(t) {
-                return Updated::Refused {
-                    number: 14,
-                    field: 0,
-                    place: 0,
-                };
-            }
-            Updated::Accepted(
-                Strip {
-                    state: State::Filed,
-                },
-                n,
-            )
-        }
-        Answer::Refused {
-            number,
-            field,
-            place,
-        } => Updated::Refused {
-            number,
-            field,
-            place,
-        },
+    let (t, n) = message::read(piece, strip)?;
+    if !message::is_plan(t) {
+        return Err(Refusal::of(14));
     }
+    let filed = Strip {
+        state: State::Filed,
+    };
+    Ok((filed, n))
 }
 
-// Offers a piece to the strip in the first n bytes of `strip`, and puts the new strip in its place.
-fn offer(held: Strip, n: usize, piece: &[u8], strip: &mut [u8]) -> Updated
-    requires { (length strip.old ≡ most) × (n ≤ most) }
-    ensures { Offering (Held.Flight held n) strip.old piece.now result strip.new }
+// Offers a piece to the strip in the first bytes of `strip`, and puts the new strip in its place.
+fn offer(flight: Flight, piece: &[u8], strip: &mut [u8]) -> Updated
+    requires { (length strip.old ≡ most) × (flight.length ≤ most) }
+    ensures { Offering (Some flight) strip.old piece.now result strip.new }
 {
     let mut new = [0u8; outer::MOST_BYTES];
-    match strip::update(&strip[..n], held, piece, &mut new) {
-        Updated::Accepted(next, k) => {
-            text::put(&new[..k], strip);
-            Updated::Accepted(next, k)
-        }
-        Updated::Refused {
-            number,
-            field,
-            place,
-        } => Updated::Refused {
-            number,
-            field,
-            place,
-        },
-    }
+    let (next, k) = strip::update(&strip[..flight.length], flight.held, piece, &mut new)?;
+    text::put(&new[..k], strip);
+    Ok((next, k))
 }
 
 // The answer to a piece, with what the desk then holds in `strip`.
-fn answer(desk: Held, piece: &[u8], strip: &mut [u8]) -> Updated
+fn answer(desk: Option<Flight>, piece: &[u8], strip: &mut [u8]) -> Updated
     requires { (length strip.old ≡ most) × InRoom desk }
     ensures { Offering desk strip.old piece.now result strip.new }
 {
     match desk {
-        Held::Nothing => file(piece, strip),
-        Held::Flight(held, n) => offer(held, n, piece, strip),
+        None => file(piece, strip),
+        Some(flight) => offer(flight, piece, strip),
     }
 }
 
 // Why a piece is refused; before there is a strip, nothing more is shown.
-fn cause(desk: Held, piece: &[u8], strip: &[u8]) -> Cause
+fn cause(desk: Option<Flight>, piece: &[u8], strip: &[u8]) -> Cause
     requires { (length strip.now ≡ most) × InRoom desk }
     ensures { result ≡ cause_to (standing_in desk strip.now) piece.now }
 {
     match desk {
-        Held::Nothing => Cause::NothingMore,
-        Held::Flight(held, n) => causes::cause_of(&strip[..n], held, piece),
+        None => Cause::NothingMore,
+        Some(flight) => causes::cause_of(&strip[..flight.length], flight.held, piece),
     }
 }
 
 // Takes a piece: prints its line and hands back what the desk then holds.
-fn take<R: Print>(console: &Console<'_, R>, desk: Held, piece: &[u8], strip: &mut [u8]) -> Held
+fn take<R: Print>(console: &Console<'_, R>, desk: Option<Flight>, piece: &[u8], strip: &mut [u8]) -> Option<Flight>
     requires { (length strip.old ≡ most) × InRoom desk }
     ensures { (standing_in result strip.new ≡ standing_after (standing_in desk strip.old) piece.now) × InRoom result }
 {
     match answer(desk, piece, strip) {
-        Updated::Accepted(held, n) => {
-            say::strip(console, held, &strip[..n]);
-            Held::Flight(held, n)
+        Ok((held, length)) => {
+            say::strip(console, held, &strip[..length]);
+            Some(Flight { held, length })
         }
-        Updated::Refused {
-            number,
-            field,
-            place,
-        } => {
-            say_cause::refusal(console, number, field, place, cause(desk, piece, strip));
+        Err(refusal) => {
+            let why = cause(desk, piece, strip);
+            say_cause::refusal(
+                console,
+                refusal.number,
+                refusal.field,
+                refusal.place,
+                why,
+            );
             desk
         }
     }
 }
 
 // Takes each piece of an input in its turn.
-fn run<R: Print>(console: &Console<'_, R>, s: &[u8], strip: &mut [u8]) -> Held
+fn run<R: Print>(console: &Console<'_, R>, s: &[u8], strip: &mut [u8]) -> Option<Flight>
     requires { length strip.old ≡ most }
-    ensures { standing_in result strip.new ≡ after_all none (pieces_of s.now) }
+    ensures { standing_in result strip.new ≡ after_all None (pieces_of s.now) }
 {
-    let mut desk = Held::Nothing;
+    let mut desk = None;
     let mut at = pieces::skip_white(s, 0);
     while at < s.len() {
         let e = pieces::piece_end(s, at);

@@ -10,8 +10,7 @@ use lib.Seq.{length-take-le}
 use Rattle.rooms.specs.Rooms.{Board, empty}
 use Rattle.rooms.specs.Rooms.{Call as OnBoard}
 use Rattle.racks.specs.declared.Board.{Board as Rack}
-use Rattle.racks.specs.declared.Place.{Place}
-use Rattle.racks.specs.Places.{vacant, board_in, Sized}
+use Rattle.racks.specs.Places.{Place, vacant, board_in, Sized}
 use Rattle.board.specs.House.{house}
 use Rattle.board.specs.declared.Turn.{Turn}
 use Rattle.board.specs.Turns.{Turned, filing, updating, clearing}

@@ -4,8 +4,7 @@ use Rattle.std.specs.Prelude.{ℕ, ◌≡◌, refl, Bool, true, false, ◌&&◌,
 use Rattle.alphabet.specs.Text.{bytes}
 use Rattle.rooms.specs.Rooms.{Board, empty, said, after}
 use Rattle.rooms.specs.Rooms.{Call as OnBoard}
-use Rattle.racks.specs.declared.Place.{Place}
-use Rattle.racks.specs.Places.{board_in, Sized}
+use Rattle.racks.specs.Places.{Place, board_in, Sized}
 use Rattle.board.specs.House.{house}
 use Rattle.board.specs.declared.Verdict.{Verdict}
 use Rattle.board.specs.declared.Verdict.TheVariants.{Filed, Updated, Cleared, Refused}

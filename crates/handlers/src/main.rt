@@ -20,12 +20,7 @@ use std::process::ExitCode;
 fn is_accepted(v: Verdict) -> bool
     ensures { result ≡ accepted_as v }
 {
-    match v {
-        Verdict::Filed(_) => true,
-        Verdict::Updated(_, _) => true,
-        Verdict::Cleared => true,
-        Verdict::Refused { .. } => false,
-    }
+    !matches!(v, Verdict::Refused { .. })
 }
 
 // A call on the board.
@@ -55,17 +50,13 @@ fn make<R: Print>(
 {
     let mut trial = *bytes;
     let t = play(board, call, line, &mut trial);
-    let b = t.board;
-    let v = t.verdict;
-    if is_accepted(v) {
-        if !journal::keep(journal, line) {
-            say::print(console, b"NOT KEPT\n");
-            return board;
-        }
+    if is_accepted(t.verdict) && !journal::keep(journal, line) {
+        say::print(console, b"NOT KEPT\n");
+        return board;
     }
     *bytes = trial;
-    say_board::tell(console, b, call, v, line, bytes);
-    b
+    say_board::tell(console, t.board, call, t.verdict, line, bytes);
+    t.board
 }
 
 fn take<R: Print>(
@@ -161,12 +152,10 @@ fn replay_line(board: Board, line: &[u8], bytes: &mut [u8; 36000]) -> Played
         return stuck(board);
     };
     let t = play(board, call, line, bytes);
-    let b = t.board;
-    let v = t.verdict;
     Played {
-        board: b,
+        board: t.board,
         torn: 0,
-        going: is_accepted(v),
+        going: is_accepted(t.verdict),
     }
 }
 
@@ -199,7 +188,7 @@ fn replay_all<R>(console: &Console<'_, R>, file: &JournalFile, bytes: &mut [u8; 
 {
     let mut chunk = [0u8; 4096];
     let mut line = [0u8; 4096];
-    let mut now = racks::empty();
+    let mut now = Board::empty();
     let mut reader = Reader { at: 0, got: 0 };
     for _ in 0..u64::MAX {
         let t = journal::next_of_journal(console, file, reader, &mut chunk, &mut line);
@@ -235,8 +224,7 @@ fn start<R: Print, I: Read>(
         return;
     }
     if journal::drop_torn(console, file, s.torn) {
-        let board = s.board;
-        serve(console, from, board, Journal::At(file), bytes);
+        serve(console, from, s.board, Journal::At(file), bytes);
     }
 }
 
@@ -248,7 +236,7 @@ fn main(rt: HostRuntime) -> ExitCode {
         serve(
             &console,
             &mut input,
-            racks::empty(),
+            Board::empty(),
             Journal::Nowhere,
             &mut bytes,
         );

@@ -31,8 +31,7 @@ use Rattle.kinds.proofs.Roles.{each_of_role, form_code, form_one}
 use Rattle.records.specs.Records.{fit_all}
 use Rattle.forms.specs.Field22.{fits22}
 use Rattle.forms.specs.Forms.{field_of}
-use Rattle.message.specs.declared.Answer.{Answer}
-use Rattle.message.specs.declared.Answer.TheVariants.{Accepted as ReadAs, Refused as NotRead}
+use Rattle.message.specs.Answer.{Answer}
 use Rattle.message.specs.Reading.{count_of, unexplained_in, answer_of}
 use Rattle.message.proofs.Reached.{accepted_taken}
 use Rattle.message.proofs.Valid.{Fitting, fitting_forms, fitting_length, reached_fitting}
@@ -43,12 +42,9 @@ use Rattle.state.specs.declared.Event.{Event}
 use Rattle.state.specs.declared.Event.TheVariants.{Change, Delay, Cancel, Depart, Arrive}
 use Rattle.state.specs.State.{permits, allowed_in, next_of, sound, sound_event}
 use Rattle.state.proofs.Laws.{depart_sound, arrive_sound}
-use Rattle.opening.specs.declared.Opening.TheVariants.{Refused as NotOpened}
 use Rattle.opening.specs.Opening.{canonical_plan, text_said, read_as, opening_of}
-use Rattle.strip.specs.declared.Updated.{Updated}
-use Rattle.strip.specs.declared.Updated.TheVariants.{Accepted, Refused}
+use Rattle.strip.specs.Updating.{Updated, time_of, arrival, event_of, compares_time, compares_date, other_day, differences, differs}
 use Rattle.amending.specs.Amended.{amended}
-use Rattle.strip.specs.Updating.{time_of, arrival, event_of, compares_time, compares_date, other_day, differences, differs}
 use Rattle.strip.specs.Updating.{room_as, amended_as, event_as, offered_as, opened_as, update_of}
 use Rattle.history.specs.History.{plan_in, nine, spelled, Told, landing, with_told}
 use Rattle.history.specs.Eighteen.{date_told}
@@ -59,6 +55,8 @@ use Rattle.history.proofs.Strip.{plain, said_contents, proper_stripped, tested_p
 use Rattle.history.proofs.Late.{late_plan}
 use Rattle.history.proofs.Eighteen.{date_told_lem}
 use Rattle.history.proofs.Amended.{entries_fit, Sayings, amended_nine}
+use Rattle.std.specs.Prelude.{Ok, Err}
+use Rattle.outer.specs.Refusal.{refusal}
 
 -- WHAT THE CONTENTS OF AN ACCEPTED MESSAGE ARE, by its role
 
@@ -316,19 +314,19 @@ told_same t cs ds s =
 -- THE ANSWER, with the plan of the history
 
 abbrev answer_by : Bool → Bool → List Word → Strip → ℕ → Updated
-answer_by differ allow A next room = cond differ (Refused 12 0 0) (cond allow (amended_as A next room) (Refused 13 0 0))
+answer_by differ allow A next room = cond differ (Err (refusal 12 0 0)) (cond allow (amended_as A next room) (Err (refusal 13 0 0)))
 
 -- the opening, by its two tests
 opening_is : (strip : List ℕ) (s : Strip) (m : List ℕ) (room : ℕ) (b : Bool) → (sound s && canonical_plan strip) ≡ b
-    → update_of strip s m room ≡ opened_as (cond b (read_as (answer_of m 1800)) (NotOpened 15 0 0)) strip s m room
+    → update_of strip s m room ≡ opened_as (cond b (read_as (answer_of m 1800)) (Err (refusal 15 0 0))) strip s m room
 unfolding update_of opening_of
-opening_is strip s m room b e = ap (λ (x : Bool). opened_as (cond x (read_as (answer_of m 1800)) (NotOpened 15 0 0)) strip s m room) e
+opening_is strip s m room b e = ap (λ (x : Bool). opened_as (cond x (read_as (answer_of m 1800)) (Err (refusal 15 0 0))) strip s m room) e
 
 module _ (strip : List ℕ) (s : Strip) (m : List ℕ) (room : ℕ) (p : Proper strip s) where
   proper_update : {a : Answer} → answer_of m 1800 ≡ a → update_of strip s m room ≡ opened_as (read_as a) strip s m room
   proper_update q = opening_is strip s m room true (proper_tested strip s p) ∙ ap (λ (a : Answer). opened_as (read_as a) strip s m room) q
 
-  module _ (t : MessageType) (n : ℕ) (q : answer_of m 1800 ≡ ReadAs t n) where
+  module _ (t : MessageType) (n : ℕ) (q : answer_of m 1800 ≡ Ok (t, n)) where
     pub told_is : told m ≡ record { type = t; fields = contents m }
     told_is = ap (λ (a : Answer). told_as a m) q
 
@@ -339,7 +337,7 @@ module _ (strip : List ℕ) (s : Strip) (m : List ℕ) (room : ℕ) (p : Proper 
     unfolding offered_as
     type_update = proper_update q
 
-    unfit_update : fit_type t ≡ false → update_of strip s m room ≡ Refused 14 0 0
+    unfit_update : fit_type t ≡ false → update_of strip s m room ≡ Err (refusal 14 0 0)
     unfit_update e =
         type_update
         ∙ ap (λ (o : Option Event). event_as o (role_of t) (inner strip) s (text_said t m) room) (unfit_role (role_of t) (split 45 (text_said t m)) e)
@@ -388,13 +386,13 @@ pub record Took (strip : List ℕ) (s : Strip) (m : List ℕ) (room : ℕ) (held
 
 module _ (strip : List ℕ) (s : Strip) (m : List ℕ) (room : ℕ) where
   abbrev pub Verdict : Updated → Type 0
-  Verdict (Accepted held n) = Took strip s m room held n
-  Verdict (Refused number field place) = Cause strip s m room number field place
+  Verdict (Ok (held, n)) = Took strip s m room held n
+  Verdict (Err r) = Cause strip s m room r.number r.field r.place
 
   in_room : (k : Passes strip s m) → unexplained_in (nine (amended_on strip m)) ≡ 0 → (a b : Bool)
       → ltb 1800 (length (spelled (amended_on strip m))) ≡ a → ltb room (length (spelled (amended_on strip m))) ≡ b
-      → Verdict (cond a (Refused 16 0 0) (cond b (Refused 11 0 0)
-      (Accepted (next_of s (event (role_of k.type) (contents m))) (length (spelled (amended_on strip m))))))
+      → Verdict (cond a (Err (refusal 16 0 0)) (cond b (Err (refusal 11 0 0))
+      (Ok (next_of s (event (role_of k.type) (contents m)), length (spelled (amended_on strip m))))))
   in_room k u true b p q = too_long k u (ltb-true 1800 (length (spelled (amended_on strip m))) p)
   in_room k u false true p q =
       no_room_lem k u (ltb-false 1800 (length (spelled (amended_on strip m))) p) (ltb-true room (length (spelled (amended_on strip m))) q)
@@ -410,15 +408,15 @@ module _ (strip : List ℕ) (s : Strip) (m : List ℕ) (room : ℕ) where
 
   in_plan : (k : Passes strip s m) → (b : Bool) → eqb (unexplained_in (nine (amended_on strip m))) 0 ≡ b
       → Verdict (cond b (room_as (spelled (amended_on strip m)) (next_of s (event (role_of k.type) (contents m))) room)
-      (Refused 10 (unexplained_in (nine (amended_on strip m))) 0))
+      (Err (refusal 10 (unexplained_in (nine (amended_on strip m))) 0)))
   in_plan k true p =
       in_room k (eqb-true (unexplained_in (nine (amended_on strip m))) 0 p) (ltb 1800 (length (spelled (amended_on strip m))))
       (ltb room (length (spelled (amended_on strip m)))) refl refl
   in_plan k false p = unexplained k (eqb-false (unexplained_in (nine (amended_on strip m))) 0 p)
 
-  module _ (p : Proper strip s) (t : MessageType) (n : ℕ) (q : answer_of m 1800 ≡ ReadAs t n) where
+  module _ (p : Proper strip s) (t : MessageType) (n : ℕ) (q : answer_of m 1800 ≡ Ok (t, n)) where
     in_state : fit_type t ≡ true → Same (plan_on strip) (told m) → (b : Bool) → allowed s.state t ≡ b
-        → Verdict (cond b (amended_as (nine (amended_on strip m)) (next_of s (event (role_of t) (contents m))) room) (Refused 13 0 0))
+        → Verdict (cond b (amended_as (nine (amended_on strip m)) (next_of s (event (role_of t) (contents m))) room) (Err (refusal 13 0 0)))
     in_state e h true a =
         in_plan (record { proper = p; type = t; long = n; read = q; fit = e; for_this = h; permits = a })
         (eqb (unexplained_in (nine (amended_on strip m))) 0) refl
@@ -435,15 +433,15 @@ module _ (strip : List ℕ) (s : Strip) (m : List ℕ) (room : ℕ) where
     in_type false e = subst Verdict (sym (unfit_update strip s m room p t n q e)) (no_type p q e)
 
   in_answer : Proper strip s → (a : Answer) → answer_of m 1800 ≡ a → Verdict (update_of strip s m room)
-  in_answer p (ReadAs t n) q = in_type p t n q (fit_type t) refl
-  in_answer p (NotRead number field place) q =
-      subst Verdict (sym (proper_update strip s m room p q)) (go (leb number 9) refl)
+  in_answer p (Ok (t, n)) q = in_type p t n q (fit_type t) refl
+  in_answer p (Err r) q =
+      subst Verdict (sym (proper_update strip s m room p q)) (go (leb r.number 9) refl)
     where
-      go : (b : Bool) → leb number 9 ≡ b → Verdict (opened_as (cond b (NotOpened number field place) (NotOpened 14 0 0)) strip s m room)
-      go true e = not_read p q (leb-true number 9 e)
+      go : (b : Bool) → leb r.number 9 ≡ b → Verdict (opened_as (Err (cond b r (refusal 14 0 0))) strip s m room)
+      go true e = not_read p q (leb-true r.number 9 e)
       go false e =
-          let ten = (late_plan m number field place q (leb-false number 9 e)).0 in
-          not_fit p (q ∙ ap (λ (k : ℕ). NotRead k field place) ten)
+          let ten = (late_plan m r.number r.field r.place q (leb-false r.number 9 e)).0 in
+          not_fit p (q ∙ ap (λ (k : ℕ). Err (refusal k r.field r.place)) ten)
 
   pub verdict : Verdict (update_of strip s m room)
   verdict = go (sound s && canonical_plan strip) refl
@@ -455,12 +453,12 @@ module _ (strip : List ℕ) (s : Strip) (m : List ℕ) (room : ℕ) where
           (not_proper (λ p. false≢true (sym q ∙ proper_tested strip s p)))
 
   -- an accepted update fits the room that it was lent
-  pub accepted_fits : (next : Strip) (k : ℕ) → update_of strip s m room ≡ Accepted next k → k ≤ room
+  pub accepted_fits : (next : Strip) (k : ℕ) → update_of strip s m room ≡ Ok (next, k) → k ≤ room
   accepted_fits next k e = let t : Took strip s m room next k = subst Verdict e verdict in omega (arith, t.long, t.fits)
 
   -- REFUSED WITH A NUMBER exactly where that cause is
 
-  pub refused_cause : (number field place : ℕ) → update_of strip s m room ≡ Refused number field place → Cause strip s m room number field place
+  pub refused_cause : (number field place : ℕ) → update_of strip s m room ≡ Err (refusal number field place) → Cause strip s m room number field place
   refused_cause number field place e = subst Verdict e verdict
 
   passed_update : (k : Passes strip s m)
@@ -469,10 +467,10 @@ module _ (strip : List ℕ) (s : Strip) (m : List ℕ) (room : ℕ) where
       fit_update strip s m room k.proper k.type k.long k.read k.fit
       ∙ rw (on_same strip s m room k.proper k.type k.long k.read k.fit k.for_this, k.permits)
 
-  pub cause_refused : (number field place : ℕ) → Cause strip s m room number field place → update_of strip s m room ≡ Refused number field place
+  pub cause_refused : (number field place : ℕ) → Cause strip s m room number field place → update_of strip s m room ≡ Err (refusal number field place)
   cause_refused number field place (not_proper h) = go (sound s && canonical_plan strip) refl
     where
-      go : (b : Bool) → (sound s && canonical_plan strip) ≡ b → update_of strip s m room ≡ Refused 15 0 0
+      go : (b : Bool) → (sound s && canonical_plan strip) ≡ b → update_of strip s m room ≡ Err (refusal 15 0 0)
       go true q = absurd (h (tested_proper strip s q))
       go false q = opening_is strip s m room false q
   cause_refused number field place (not_read p q l) =
@@ -484,7 +482,7 @@ module _ (strip : List ℕ) (s : Strip) (m : List ℕ) (room : ℕ) where
       fit_update strip s m room p t n q e ∙ go (differs (differences (role_of t) (contents strip) (contents m))) refl
     where
       go : (b : Bool) → differs (differences (role_of t) (contents strip) (contents m)) ≡ b
-          → answer_by b (allowed s.state t) (nine (amended_on strip m)) (next_of s (event (role_of t) (contents m))) room ≡ Refused 12 0 0
+          → answer_by b (allowed s.state t) (nine (amended_on strip m)) (next_of s (event (role_of t) (contents m))) room ≡ Err (refusal 12 0 0)
       go true d = refl
       go false d = absurd (h (same_on strip s m room p t n q e d))
   cause_refused number field place (not_allowed p {t} {n} q e h a) =

@@ -8,27 +8,24 @@ use mathlib.Core.Option.{get_or}
 use native.Mathlib.Omega.{arith}
 use lib.ListN.{length, take, drop}
 use lib.Seq.{take_at, drop_at}
+use Rattle.std.specs.Prelude.{None}
 use Rattle.text.specs.Words.{Word}
 use Rattle.text.specs.Lent.{front}
 use Rattle.sent.specs.Sent.{message_of, contents}
 use Rattle.kinds.specs.declared.MessageType.TheVariants.{Fpl}
 use Rattle.kinds.specs.Kinds.{role_of}
-use Rattle.message.specs.declared.Answer.{Answer}
-use Rattle.message.specs.declared.Answer.TheVariants.{Accepted as ReadAs}
+use Rattle.message.specs.Answer.{Answer}
 use Rattle.message.specs.Reading.{count_of, answer_of, unexplained_in}
 use Rattle.message.proofs.Reached.{accepted_taken}
 use Rattle.message.proofs.Valid.{Fitting, reached_passed}
 use Rattle.message.proofs.Canonical.{accepted_shorter}
 use Rattle.state.specs.declared.State.{State}
 use Rattle.state.specs.declared.State.TheVariants.{Filed}
-use Rattle.state.specs.declared.Departure.TheVariants.{Unknown}
 use Rattle.state.specs.declared.Strip.{Strip}
 use Rattle.state.specs.State.{just_filed, sound, next_state}
 use Rattle.state.proofs.Laws.{next_sound}
-use Rattle.strip.specs.declared.Updated.{Updated}
-use Rattle.strip.specs.declared.Updated.TheVariants.{Accepted, Refused}
+use Rattle.strip.specs.Updating.{Updated, type_read, strip_after, written_as, update_of, out_after}
 use Rattle.amending.specs.Amended.{new_strip}
-use Rattle.strip.specs.Updating.{type_read, strip_after, written_as, update_of, out_after}
 use Rattle.history.specs.History.{Part, Plan, plan_in, nine, spelled, Told, given, with_told, departs, becomes, Left, plan_by, departure_by, state_by}
 use Rattle.history.specs.Demand3.{updater, Standing, Offer, told, put_as, entered_as, answered, offered, offered_all, log_all}
 use Rattle.history.specs.Demand3.{Proper, allowed, plan_on, amended_on, Cause, Demand3, filed_as, Meets}
@@ -37,6 +34,8 @@ use Rattle.history.proofs.Strip.{plain_spelling, strip_contents, strip_proper, f
 use Rattle.history.proofs.Amended.{nine_plan, amended_fits, amended_part}
 use Rattle.history.proofs.Causes.{event, event_sound, sayings, told_is, read_fitting, amended_on_lem, Took, Verdict, verdict, refused_cause, cause_refused}
 use Rattle.history.proofs.Latest.{latest_left, state_moved}
+use Rattle.std.specs.Prelude.{Ok, Err}
+use Rattle.outer.specs.Refusal.{refusal}
 
 -- AN ACCEPTED MESSAGE
 
@@ -85,7 +84,7 @@ module _ (strip : List ℕ) (s : Strip) (m : List ℕ) (room : ℕ) (held : Stri
       ∙ ap message_of (amended_on_lem strip s m room k.passes.proper k.passes.type k.passes.long k.passes.read k.passes.fit)
 
   -- and it is written: as many bytes as the answer says
-  pub took_written : (out : List ℕ) → update_of strip s m (length out) ≡ Accepted held n → take n (out_after strip s m out) ≡ spelled (amended_on strip m)
+  pub took_written : (out : List ℕ) → update_of strip s m (length out) ≡ Ok (held, n) → take n (out_after strip s m out) ≡ spelled (amended_on strip m)
   unfolding out_after front
   took_written out e =
       let w = spelled (amended_on strip m) in
@@ -94,7 +93,7 @@ module _ (strip : List ℕ) (s : Strip) (m : List ℕ) (room : ℕ) (held : Stri
       ∙ take_at w (drop (length w) out) n (sym k.long)
 
   -- and what lies behind stays
-  pub took_behind : (out : List ℕ) → update_of strip s m (length out) ≡ Accepted held n → drop n (out_after strip s m out) ≡ drop n out
+  pub took_behind : (out : List ℕ) → update_of strip s m (length out) ≡ Ok (held, n) → drop n (out_after strip s m out) ≡ drop n out
   unfolding out_after front
   took_behind out e =
       let w = spelled (amended_on strip m) in
@@ -140,13 +139,13 @@ module _ (filed : Plan) where
   -- one offer more
   stepped : (b : Standing) (log : List Told) (o : Offer) → Stands filed b log → (u : Updated) → update_of b.strip b.held o.bytes (length o.lent) ≡ u
       → Stands filed (put_as u (out_after b.strip b.held o.bytes o.lent) b) (entered_as u o.bytes log)
-  stepped b log o h (Accepted held n) e =
+  stepped b log o h (Ok (held, n)) e =
       let room = length o.lent in
       let k : Took b.strip b.held o.bytes room held n
       = subst (Verdict b.strip b.held o.bytes room) e (verdict b.strip b.held o.bytes room) in
       took_stands b log o.bytes room held n (take n (out_after b.strip b.held o.bytes o.lent)) h k
       (took_written b.strip b.held o.bytes room held n k o.lent e)
-  stepped b log o h (Refused number field place) e = h
+  stepped b log o h (Err r) e = h
 
   -- after any run the strip is the history's
   pub kept_on : (run : List Offer) (b : Standing) (log : List Told) → Stands filed b log → Stands filed (offered_all updater b run) (log_all updater b log run)
@@ -156,7 +155,7 @@ module _ (filed : Plan) where
 
 -- AS FILED
 
-pub filed_stands : (m : List ℕ) (room n : ℕ) → answer_of m room ≡ ReadAs Fpl n → Stands (plan_in (contents m)) (filed_as m) []
+pub filed_stands : (m : List ℕ) (room n : ℕ) → answer_of m room ≡ Ok (Fpl, n) → Stands (plan_in (contents m)) (filed_as m) []
 filed_stands m room n e =
     let k = accepted_taken Fpl m room n e in
     let f = fpl_fits m k.reached in
@@ -172,13 +171,13 @@ filed_stands m room n e =
 -- THE THIRD DEMAND
 
 -- a refusal leaves the output
-pub refused_stays : (strip : List ℕ) (s : Strip) (m out : List ℕ) (number field place : ℕ) → update_of strip s m (length out) ≡ Refused number field place
+pub refused_stays : (strip : List ℕ) (s : Strip) (m out : List ℕ) (number field place : ℕ) → update_of strip s m (length out) ≡ Err (refusal number field place)
     → out_after strip s m out ≡ out
 unfolding out_after
 refused_stays strip s m out number field place e = ap (λ (u : Updated). written_as u strip m out) e
 
 -- the length that is answered is that of the strip which is put down
-pub stepped_length : (b : Standing) (o : Offer) (held : Strip) (n : ℕ) → answered updater b o ≡ Accepted held n → n ≡ length (offered updater b o).strip
+pub stepped_length : (b : Standing) (o : Offer) (held : Strip) (n : ℕ) → answered updater b o ≡ Ok (held, n) → n ≡ length (offered updater b o).strip
 stepped_length b o held n q =
     let room = length o.lent in
     let k : Took b.strip b.held o.bytes room held n
@@ -202,7 +201,7 @@ demand3 m room n e run =
       held_is = refl;
       stays_proper = subst (λ (w : List ℕ). Proper w b.held) spelt h.proper;
       parts = λ f. latest_left (given f) (filed f) log;
-      departed = latest_left departs Unknown log;
+      departed = latest_left departs None log;
       stated = subst (Left (becomes (departure_by log)) Filed log) (sym h.state_is) (latest_left (becomes (departure_by log)) Filed log);
       refused_cause = λ o number field place q.
           subst (λ (w : List ℕ). Cause w b.held o.bytes (length o.lent) number field place) spelt
@@ -219,8 +218,8 @@ demand3 m room n e run =
     }
 
 -- so number 15 never comes from the updater's own strips
-pub never_fifteen : (m : List ℕ) (room n : ℕ) → answer_of m room ≡ ReadAs Fpl n → (run : List Offer) (o : Offer) (field place : ℕ)
-    → answered updater (offered_all updater (filed_as m) run) o ≡ Refused 15 field place → ⊥
+pub never_fifteen : (m : List ℕ) (room n : ℕ) → answer_of m room ≡ Ok (Fpl, n) → (run : List Offer) (o : Offer) (field place : ℕ)
+    → answered updater (offered_all updater (filed_as m) run) o ≡ Err (refusal 15 field place) → ⊥
 never_fifteen m room n e run o field place q = go (d.refused_cause o 15 field place q) refl
   where
     d : Demand3 updater (contents m) (filed_as m) run

@@ -25,8 +25,8 @@ use Rattle.kinds.specs.declared.MessageType.TheVariants.{Fpl}
 use Rattle.kinds.specs.Kinds.{plan_forms, brief_forms, forms_of, types_read, type_ranked, type_named}
 use Rattle.forms.specs.Field22.{labels, fits22, fault22}
 use Rattle.plan.specs.Unexplained.{unexplained}
-use Rattle.message.specs.declared.Answer.TheVariants.{Accepted as ReadAs}
 use Rattle.message.specs.Reading.{spelling_of, fault_in, count_as, answer_of}
+use Rattle.std.specs.Prelude.{Ok}
 
 abbrev pub filing : List ℕ
 filing = bytes "(FPL-ABC12-IS-B738/M-SDFG/S-EHAM0930-N0440F310 DCT PAM DCT-EDDF0100 EDDK-0)"
@@ -34,7 +34,7 @@ filing = bytes "(FPL-ABC12-IS-B738/M-SDFG/S-EHAM0930-N0440F310 DCT PAM DCT-EDDF0
 abbrev pub change : List ℕ
 change = bytes "(CHG-ABC12-EHAM0930-EDDF-0-9/B39M/M-8/IN)"
 
-pub filing_read : answer_of filing 1800 ≡ ReadAs Fpl 75
+pub filing_read : answer_of filing 1800 ≡ Ok (Fpl, 75)
 unfolding answer_of count_as fault_in spelling_of outer parens parens_from letters_from in_alphabet white text reduced reduced_from stands_for_run opens closes
     hyphens type_named type_ranked types_read types forms_of plan_forms brief_forms fits3
     numbers_fit fits7 fits8 fits9 count_fits aircraft_fits fits10 valid10 present fits16plan fits15 starts speeds levels
@@ -45,7 +45,7 @@ filing_read = refl
 abbrev pub dated_filing : List ℕ
 dated_filing = bytes "(FPL-ABC12-IS-B738/M-SDFG/S-EHAM0930-N0440F310 DCT PAM DCT-EDDF0100 EDDK-DOF/240229 REG/PHBXA)"
 
-pub dated_read : answer_of dated_filing 1800 ≡ ReadAs Fpl 94
+pub dated_read : answer_of dated_filing 1800 ≡ Ok (Fpl, 94)
 unfolding answer_of count_as fault_in spelling_of outer parens parens_from letters_from in_alphabet white text reduced reduced_from stands_for_run opens closes
     hyphens type_named type_ranked types_read types forms_of plan_forms brief_forms fits3
     numbers_fit fits7 fits8 fits9 count_fits aircraft_fits fits10 valid10 present fits16plan fits15 starts speeds levels

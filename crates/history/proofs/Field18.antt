@@ -19,15 +19,11 @@ use Rattle.kinds.specs.declared.Role.{Role}
 use Rattle.kinds.specs.declared.Role.TheVariants.{Files, Changes, Delays, Cancels, Departs, Arrives, Neither}
 use Rattle.kinds.specs.Kinds.{role_of, plan18, brief18, first_entry}
 use Rattle.forms.specs.Field22.{labels, fits22}
-use Rattle.message.specs.declared.Answer.TheVariants.{Accepted as ReadAs}
 use Rattle.message.specs.Reading.{count_of, answer_of}
-use Rattle.strip.specs.declared.Updated.{Updated}
-use Rattle.strip.specs.declared.Updated.TheVariants.{Accepted, Refused}
+use Rattle.strip.specs.Updating.{Updated, update_of, out_after}
 use Rattle.state.specs.declared.Strip.{Strip}
-use Rattle.strip.specs.Updating.{update_of, out_after}
 use Rattle.history.specs.Eighteen.{date_told, other_items, eighteen}
-use Rattle.history.specs.History.{nine, spelled, Told, entry_of, entered, carried, given_by, with_told}
-use Rattle.history.specs.History.{names_by, carries_by, Leaves18, Left18}
+use Rattle.history.specs.History.{nine, spelled, Told, entry_of, entered, carried, given_by, with_told, names_by, carries_by, Leaves18, Left18}
 use Rattle.history.specs.History.Part.{date, other}
 use Rattle.history.specs.History.Left18.{never_set, by_change, by_delay}
 use Rattle.history.specs.Demand3.{updater, Standing, Offer, told, put_as, entered_as, answered, offered, offered_all, log_all}
@@ -38,6 +34,7 @@ use Rattle.history.proofs.Amended.{plan_fit, entry_lookup, lookup_fits, Sayings}
 use Rattle.history.proofs.Causes.{sayings, Took, Verdict, verdict}
 use Rattle.history.proofs.Demand3.{fits, heard, took_fits, took_written}
 use Rattle.message.proofs.Reached.{accepted_taken}
+use Rattle.std.specs.Prelude.{Ok, Err}
 
 -- WHAT ONE MESSAGE MAKES OF IT, as it stood
 
@@ -123,7 +120,7 @@ module _ (filed : Word) where
   stepped18 : (b : Standing) (log : List Told) (o : Offer) → Left18 filed log (eighteen_on b.strip)
       → (u : Updated) → update_of b.strip b.held o.bytes (length o.lent) ≡ u
       → Left18 filed (entered_as u o.bytes log) (eighteen_on (put_as u (out_after b.strip b.held o.bytes o.lent) b).strip)
-  stepped18 b log o h (Accepted held n) e =
+  stepped18 b log o h (Ok (held, n)) e =
       let room = length o.lent in
       let k : Took b.strip b.held o.bytes room held n
       = subst (Verdict b.strip b.held o.bytes room) e (verdict b.strip b.held o.bytes room) in
@@ -132,7 +129,7 @@ module _ (filed : Word) where
       (subst (λ (x : Told). Left18 filed (x ∷ log) (eighteen_on new)) (sym (heard b.strip b.held o.bytes room held n k))
       (one_more_lem filed (told_so b.strip b.held o.bytes room held n k) log (eighteen_on b.strip) (eighteen_on new)
       (took18 b.strip b.held o.bytes room held n k) h))
-  stepped18 b log o h (Refused number field place) e = h
+  stepped18 b log o h (Err r) e = h
 
   kept18 : (run : List Offer) (b : Standing) (log : List Told) → Left18 filed log (eighteen_on b.strip)
       → Left18 filed (log_all updater b log run) (eighteen_on (offered_all updater b run).strip)
@@ -140,7 +137,7 @@ module _ (filed : Word) where
   kept18 (o ∷ os) b log h =
       kept18 os (offered updater b o) (entered_as (answered updater b o) o.bytes log) (stepped18 b log o h (answered updater b o) refl)
 
-pub left18 : (m : List ℕ) (room n : ℕ) → answer_of m room ≡ ReadAs Fpl n → (run : List Offer)
+pub left18 : (m : List ℕ) (room n : ℕ) → answer_of m room ≡ Ok (Fpl, n) → (run : List Offer)
     → Left18 (get_or (contents m) plan18 []) (log_all updater (filed_as m) [] run) (get_or (contents (offered_all updater (filed_as m) run).strip) plan18 [])
 left18 m room n e run =
     let k = accepted_taken Fpl m room n e in

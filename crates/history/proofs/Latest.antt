@@ -12,11 +12,10 @@ use Rattle.kinds.specs.declared.MessageType.{MessageType}
 use Rattle.kinds.specs.declared.Role.{Role}
 use Rattle.kinds.specs.declared.Role.TheVariants.{Files, Changes, Delays, Cancels, Departs, Arrives, Neither}
 use Rattle.kinds.specs.Kinds.{role_of}
-use Rattle.state.specs.declared.Departure.{Departure}
 use Rattle.state.specs.declared.State.{State}
 use Rattle.state.specs.declared.State.TheVariants.{Filed, Arrived}
 use Rattle.state.specs.State.{next_state, departure_of}
-use Rattle.history.specs.History.{Told, landing, departs_by, becomes_by, becomes, Left, latest, departure_by, state_by}
+use Rattle.history.specs.History.{Told, landing, Departure, departs_by, becomes_by, becomes, Left, latest, departure_by, state_by}
 use Rattle.history.specs.History.Left.{as_filed, by}
 use Rattle.history.specs.Demand3.{allowed}
 use Rattle.history.proofs.Causes.{event}

@@ -5,24 +5,21 @@ use mathlib.Core.Path.{◌≡◌, refl, sym, ap, ap₂, subst, ◌∙◌}
 use mathlib.Core.Bool.{false≢true}
 use mathlib.Core.List.{List, [], ◌∷◌, ◌++◌, append_assoc}
 use lib.ListN.{length}
+use Rattle.std.specs.Prelude.{None, Ok, Err}
 use Rattle.sent.specs.Sent.{contents}
 use Rattle.kinds.specs.declared.MessageType.TheVariants.{Fpl}
-use Rattle.message.specs.declared.Answer.TheVariants.{Accepted as ReadAs}
 use Rattle.message.specs.Reading.{answer_of}
-use Rattle.state.specs.declared.Departure.{Departure}
-use Rattle.state.specs.declared.Departure.TheVariants.{Unknown}
 use Rattle.state.specs.declared.State.{State}
 use Rattle.state.specs.declared.State.TheVariants.{Filed}
 use Rattle.state.specs.declared.Strip.{Strip}
-use Rattle.strip.specs.declared.Updated.{Updated}
-use Rattle.strip.specs.declared.Updated.TheVariants.{Accepted, Refused}
-use Rattle.strip.specs.Updating.{update_of}
-use Rattle.history.specs.History.{plan_in, spelled, Told, departs, becomes, latest, plan_by, held_by}
+use Rattle.strip.specs.Updating.{Updated, update_of}
+use Rattle.history.specs.History.{plan_in, spelled, Told, Departure, departs, becomes, latest, plan_by, held_by}
 use Rattle.history.specs.Demand3.{Updater, updater, Standing, Offer, told, entered_as, answered, offered, offered_all, log_all, Cause, filed_as, Meets}
 use Rattle.history.proofs.Causes.{refused_cause}
 use Rattle.history.proofs.Latest.{left_latest}
 use Rattle.history.proofs.Demand3.{demand3}
 use Rattle.history.proofs.Refuted.{accepts, meets_strip, meets_refused}
+use Rattle.outer.specs.Refusal.{refusal}
 
 -- A RUN AND ONE OFFER MORE
 
@@ -39,7 +36,7 @@ none_more : (run : List Offer) → run ++ [] ≡ run
 none_more [] = refl
 none_more (x ∷ run) = ap (λ (r : List Offer). x ∷ r) (none_more run)
 
-module _ (m : List ℕ) (room n : ℕ) (e : answer_of m room ≡ ReadAs Fpl n) where
+module _ (m : List ℕ) (room n : ℕ) (e : answer_of m room ≡ Ok (Fpl, n)) where
   meets_held : (U : Updater) → Meets U → (run : List Offer) → (offered_all U (filed_as m) run).held ≡ held_by (log_all U (filed_as m) [] run)
   meets_held U h run =
       let d = h m room n e run in
@@ -47,7 +44,7 @@ module _ (m : List ℕ) (room n : ℕ) (e : answer_of m room ≡ ReadAs Fpl n) w
       d.held_is
       ∙ ap {B = Strip} (λ (x : State). record { state = x })
       (left_latest (becomes d.departure) Filed log d.held.state d.stated
-      ∙ ap (λ (x : Departure). latest (becomes x) Filed log) (left_latest departs Unknown log d.departure d.departed))
+      ∙ ap (λ (x : Departure). latest (becomes x) Filed log) (left_latest departs None log d.departure d.departed))
 
   module _ (U : Updater) (h : Meets U) where
     abbrev SameLog : List Offer → Type 0
@@ -73,7 +70,8 @@ module _ (m : List ℕ) (room n : ℕ) (e : answer_of m room ≡ ReadAs Fpl n) w
       same_update = ap₂ (λ (w : List ℕ) (x : Strip). update_of w x o.bytes (length o.lent)) (same_strip run q) (same_held run q)
 
       -- it refuses what the update refuses
-      also_refused : (number field place : ℕ) → answered updater ours o ≡ Refused number field place → answered U theirs o ≡ Refused number field place
+      also_refused : (number field place : ℕ) → answered updater ours o ≡ Err (refusal number field place)
+          → answered U theirs o ≡ Err (refusal number field place)
       also_refused number field place r =
           let d = h m room n e run in
           d.cause_refused o number field place
@@ -83,11 +81,11 @@ module _ (m : List ℕ) (room n : ℕ) (e : answer_of m room ≡ ReadAs Fpl n) w
 
       entered_same : (u v : Updated) → answered U theirs o ≡ u → answered updater ours o ≡ v
           → entered_as u o.bytes (log_all U (filed_as m) [] run) ≡ entered_as v o.bytes (log_all updater (filed_as m) [] run)
-      entered_same (Accepted held k) (Accepted held' k') x y = ap (λ (log : List Told). told o.bytes ∷ log) q
-      entered_same (Refused a b c) (Refused a' b' c') x y = q
-      entered_same (Refused a b c) (Accepted held k) x y =
-          absurd (false≢true (sym (ap accepts (sym same_update ∙ meets_refused U h m room n e run o a b c x)) ∙ ap accepts y))
-      entered_same (Accepted held k) (Refused a b c) x y = absurd (false≢true (sym (ap accepts (also_refused a b c y)) ∙ ap accepts x))
+      entered_same (Ok (held, k)) (Ok (held', k')) x y = ap (λ (log : List Told). told o.bytes ∷ log) q
+      entered_same (Err r) (Err r') x y = q
+      entered_same (Err r) (Ok (held, k)) x y =
+          absurd (false≢true (sym (ap accepts (sym same_update ∙ meets_refused U h m room n e run o r.number r.field r.place x)) ∙ ap accepts y))
+      entered_same (Ok (held, k)) (Err r) x y = absurd (false≢true (sym (ap accepts (also_refused r.number r.field r.place y)) ∙ ap accepts x))
 
       one_more_lem : SameLog (run ++ (o ∷ []))
       one_more_lem =
@@ -108,6 +106,6 @@ module _ (m : List ℕ) (room n : ℕ) (e : answer_of m room ≡ ReadAs Fpl n) w
 
     -- and the same refusals
     pub only_refusals : (run : List Offer) (o : Offer) (number field place : ℕ)
-        → answered updater (offered_all updater (filed_as m) run) o ≡ Refused number field place
-        → answered U (offered_all U (filed_as m) run) o ≡ Refused number field place
+        → answered updater (offered_all updater (filed_as m) run) o ≡ Err (refusal number field place)
+        → answered U (offered_all U (filed_as m) run) o ≡ Err (refusal number field place)
     only_refusals run o number field place r = also_refused run o (same_log run) number field place r

@@ -10,15 +10,12 @@ use native.Mathlib.Omega.{arith}
 use lib.ListN.{length, get_or, replicate}
 use Rattle.sent.specs.Sent.{contents}
 use Rattle.kinds.specs.declared.MessageType.TheVariants.{Fpl}
-use Rattle.message.specs.declared.Answer.TheVariants.{Accepted as ReadAs}
 use Rattle.message.specs.Reading.{spelling_of, fault_in, count_as, answer_of}
 use Rattle.state.specs.declared.Strip.{Strip}
 use Rattle.state.specs.State.{just_filed}
 use Rattle.opening.specs.Opening.{canonical_plan, opening_of}
-use Rattle.strip.specs.declared.Updated.{Updated}
-use Rattle.strip.specs.declared.Updated.TheVariants.{Accepted, Refused}
+use Rattle.strip.specs.Updating.{Updated, offered_as, update_of, out_after}
 use Rattle.amending.specs.Amended.{new_strip}
-use Rattle.strip.specs.Updating.{offered_as, update_of, out_after}
 use Rattle.history.specs.History.{plan_in, spelled, given, plan_by}
 use Rattle.history.specs.Demand3.{Updater, Offer, offered_all, log_all, answered, Cause, filed_as, Meets}
 use Rattle.history.specs.Slips.{refuses_all, does_nothing, copies, first_entry, first_message, matches_after, dep_overwrites, searches}
@@ -52,10 +49,12 @@ use Rattle.kinds.specs.Kinds.{plan_forms, brief_forms, forms_of, types_read, typ
 use Rattle.forms.specs.Field22.{labels, fits22, fault22}
 use Rattle.plan.specs.Unexplained.{unexplained}
 use Rattle.force.specs.InForce.{named_by}
+use Rattle.std.specs.Prelude.{Ok, Err}
+use Rattle.outer.specs.Refusal.{refusal}
 
 -- WHAT AN UPDATER THAT MEETS THE DEMAND DOES
 
-module _ (U : Updater) (h : Meets U) (m : List ℕ) (room n : ℕ) (e : answer_of m room ≡ ReadAs Fpl n) (run : List Offer) where
+module _ (U : Updater) (h : Meets U) (m : List ℕ) (room n : ℕ) (e : answer_of m room ≡ Ok (Fpl, n)) (run : List Offer) where
   -- its strip is the history's
   pub meets_strip : (offered_all U (filed_as m) run).strip ≡ spelled (plan_by (plan_in (contents m)) (log_all U (filed_as m) [] run))
   meets_strip =
@@ -63,8 +62,8 @@ module _ (U : Updater) (h : Meets U) (m : List ℕ) (room n : ℕ) (e : answer_o
       d.strip_is ∙ ap spelled (fun_ext (λ f. left_latest (given f) (plan_in (contents m) f) (log_all U (filed_as m) [] run) (d.plan f) (d.parts f)))
 
   -- and it refuses only what the update refuses
-  pub meets_refused : (o : Offer) (number field place : ℕ) → answered U (offered_all U (filed_as m) run) o ≡ Refused number field place
-      → update_of (offered_all U (filed_as m) run).strip (offered_all U (filed_as m) run).held o.bytes (length o.lent) ≡ Refused number field place
+  pub meets_refused : (o : Offer) (number field place : ℕ) → answered U (offered_all U (filed_as m) run) o ≡ Err (refusal number field place)
+      → update_of (offered_all U (filed_as m) run).strip (offered_all U (filed_as m) run).held o.bytes (length o.lent) ≡ Err (refusal number field place)
   meets_refused o number field place q =
       let d = h m room n e run in
       let b = offered_all U (filed_as m) run in
@@ -74,8 +73,8 @@ module _ (U : Updater) (h : Meets U) (m : List ℕ) (room n : ℕ) (e : answer_o
       (d.refused_cause o number field place q)))
 
 abbrev pub accepts : Updated → Bool
-accepts (Accepted held n) = true
-accepts (Refused number field place) = false
+accepts (Ok (held, n)) = true
+accepts (Err r) = false
 
 -- OFFERS to document 01's strip
 
@@ -177,7 +176,7 @@ abbrev retiming : Offer
 retiming = record { bytes = bytes "(CHG-ABC12-EHAM0930-EDDF-0-13/EHAM1000)"; lent = replicate 75 0 }
 
 retiming_taken : (accepts (update_of (filed_as filing).strip just_filed retiming.bytes 75) ≡ true)
-    × (answered matches_after (filed_as filing) retiming ≡ Refused 12 0 0)
+    × (answered matches_after (filed_as filing) retiming ≡ Err (refusal 12 0 0))
 unfolding answer_of count_as fault_in spelling_of outer parens parens_from letters_from in_alphabet white text reduced reduced_from stands_for_run opens closes
     hyphens type_named type_ranked types_read types forms_of plan_forms brief_forms fits3 numbers_fit fits7 fits8 fits9 count_fits aircraft_fits fits10
     valid10 present fits16plan fits15 starts speeds levels speed_digits level_digits element_fits letters within radial_fits indicators name_fits
@@ -283,7 +282,7 @@ late = record { bytes = bytes "(DLA-ABC12-EHAM1015-EDDF-DOF/240301)"; lent = rep
 -- ONE THAT COMPARES A DLA'S DATE
 
 late_taken : (accepts (update_of (filed_as dated_filing).strip just_filed late.bytes 94) ≡ true)
-    × (answered compares_delay (filed_as dated_filing) late ≡ Refused 12 0 0)
+    × (answered compares_delay (filed_as dated_filing) late ≡ Err (refusal 12 0 0))
 unfolding answer_of count_as fault_in spelling_of outer parens parens_from letters_from in_alphabet white text reduced reduced_from stands_for_run opens closes
     hyphens type_named type_ranked types_read types forms_of plan_forms brief_forms fits3 numbers_fit fits7 fits8 fits9 count_fits aircraft_fits fits10
     valid10 present fits16plan fits15 starts speeds levels speed_digits level_digits element_fits letters within radial_fits indicators name_fits
@@ -321,7 +320,7 @@ abbrev renaming : Offer
 renaming = record { bytes = bytes "(CHG-ABC12-EHAM0930-EDDF-0-18/DOF/240301)"; lent = replicate 94 0 }
 
 renaming_taken : (accepts (update_of (filed_as dated_filing).strip just_filed renaming.bytes 94) ≡ true)
-    × (answered entry_dates (filed_as dated_filing) renaming ≡ Refused 12 0 0)
+    × (answered entry_dates (filed_as dated_filing) renaming ≡ Err (refusal 12 0 0))
 unfolding answer_of count_as fault_in spelling_of outer parens parens_from letters_from in_alphabet white text reduced reduced_from stands_for_run opens closes
     hyphens type_named type_ranked types_read types forms_of plan_forms brief_forms fits3 numbers_fit fits7 fits8 fits9 count_fits aircraft_fits fits10
     valid10 present fits16plan fits15 starts speeds levels speed_digits level_digits element_fits letters within radial_fits indicators name_fits

@@ -22,8 +22,7 @@ use Rattle.kinds.specs.declared.Form.{Form}
 use Rattle.kinds.specs.Kinds.{least_of, greatest_of, role_of, types_read, forms_of, number_of}
 use Rattle.kinds.specs.Kinds.{plan_forms, brief_forms, request_forms, arrival_forms, diverted_forms, supplement_forms}
 use Rattle.kinds.proofs.Fields.{each_count}
-use Rattle.message.specs.declared.Answer.{Answer}
-use Rattle.message.specs.declared.Answer.TheVariants.{Accepted as ReadAs, Refused as NotRead}
+use Rattle.message.specs.Answer.{Answer}
 use Rattle.message.specs.Reading.{count_of, spelling_of, answer_of}
 use Rattle.message.proofs.Plans.{plan_type}
 use Rattle.message.proofs.Written.{spelled_message, all_stay_lem}
@@ -33,6 +32,7 @@ use Rattle.state.specs.declared.Strip.{Strip}
 use Rattle.state.specs.State.{sound}
 use Rattle.opening.specs.Opening.{read_as_plan, canonical_plan, text_said}
 use Rattle.history.specs.Demand3.{Proper}
+use Rattle.std.specs.Prelude.{Ok, Err}
 
 -- CONTENTS THAT FIT are cut from their message again
 
@@ -98,10 +98,10 @@ module _ (cs : List Word) (f : Fitting Fpl 9 cs) where
     pub strip_spelling : spelling_of Fpl strip_of ≡ strip_of
     strip_spelling = plain_spelling Fpl strip_of refl strip_reached ∙ ap message_of strip_contents
 
-    pub strip_read : answer_of strip_of 1800 ≡ ReadAs Fpl (length strip_of)
+    pub strip_read : answer_of strip_of 1800 ≡ Ok (Fpl, length strip_of)
     strip_read =
         let e = ap length strip_spelling in
-        reached_accepted Fpl strip_of 1800 strip_reached (omega (arith, e, short)) ∙ ap (ReadAs Fpl) e
+        reached_accepted Fpl strip_of 1800 strip_reached (omega (arith, e, short)) ∙ ap (λ (n : ℕ). Ok (Fpl, n)) e
 
     pub strip_proper : (s : Strip) → sound s ≡ true → Proper strip_of s
     strip_proper s h = record { long = length strip_of; read = strip_read; canonical = strip_spelling; held_sound = h }
@@ -138,8 +138,8 @@ tested_proper strip s e =
     go a.0 (same-eq (spelling_of Fpl strip) strip b.1) (answer_of strip most) refl b.0
   where
     go : sound s ≡ true → spelling_of Fpl strip ≡ strip → (r : Answer) → answer_of strip most ≡ r → read_as_plan r ≡ true → Proper strip s
-    go h c (ReadAs t n) q z = record { long = n; read = q ∙ ap (λ (u : MessageType). ReadAs u n) (plan_type t z); canonical = c; held_sound = h }
-    go h c (NotRead number field place) q z = absurd (false≢true z)
+    go h c (Ok (t, n)) q z = record { long = n; read = q ∙ ap (λ (u : MessageType). Ok (u, n)) (plan_type t z); canonical = c; held_sound = h }
+    go h c (Err r) q z = absurd (false≢true z)
 
 pub proper_tested : (strip : List ℕ) (s : Strip) → Proper strip s → (sound s && canonical_plan strip) ≡ true
 unfolding canonical_plan

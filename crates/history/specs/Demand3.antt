@@ -1,6 +1,6 @@
 -- The third demand (document 00), of any updater: what an updater is, a strip and the messages offered to it, the causes for which document 01
 -- lets a message be refused, and what must hold after any run of offers. Assumes nothing.
-use Rattle.std.specs.Prelude.{ℕ, ◌≤◌, ◌<◌, ◌≡◌, Bool, true, false, List, [], ◌∷◌, length, take, drop, get_or}
+use Rattle.std.specs.Prelude.{ℕ, ◌≤◌, ◌<◌, ◌≡◌, Bool, true, false, None, List, [], ◌∷◌, length, take, drop, get_or, Ok, Err}
 use Rattle.text.specs.Words.{Word, before}
 use Rattle.outer.specs.Outer.{most}
 use Rattle.sent.specs.Sent.{contents}
@@ -9,21 +9,17 @@ use Rattle.kinds.specs.declared.MessageType.TheVariants.{Fpl}
 use Rattle.kinds.specs.declared.Role.{Role}
 use Rattle.kinds.specs.declared.Role.TheVariants.{Files, Changes, Delays, Cancels, Departs, Arrives, Neither}
 use Rattle.kinds.specs.Kinds.{role_of, brief7, brief13, brief16, brief18}
-use Rattle.message.specs.declared.Answer.{Answer}
-use Rattle.message.specs.declared.Answer.TheVariants.{Accepted as ReadAs, Refused as NotRead}
+use Rattle.message.specs.Answer.{Answer}
 use Rattle.message.specs.Reading.{unexplained_in, spelling_of, answer_of}
-use Rattle.state.specs.declared.Departure.{Departure}
-use Rattle.state.specs.declared.Departure.TheVariants.{Unknown}
 use Rattle.state.specs.declared.State.{State}
 use Rattle.state.specs.declared.State.TheVariants.{Filed, Departed, Arrived, Cancelled}
 use Rattle.state.specs.declared.Strip.{Strip}
 use Rattle.state.specs.State.{just_filed, sound}
-use Rattle.strip.specs.declared.Updated.{Updated}
-use Rattle.strip.specs.declared.Updated.TheVariants.{Accepted, Refused}
-use Rattle.strip.specs.Updating.{update_of, out_after}
+use Rattle.strip.specs.Updating.{Updated, update_of, out_after}
 use Rattle.history.specs.Eighteen.{date_told}
-use Rattle.history.specs.History.{Part, Plan, plan_in, nine, spelled, Told, given, with_told, departs, becomes, Left}
+use Rattle.history.specs.History.{Part, Plan, plan_in, nine, spelled, Told, given, with_told, Departure, departs, becomes, Left}
 use Rattle.history.specs.History.Part.{identification, aerodrome, off_block, destination, date}
+use Rattle.outer.specs.Refusal.{refusal}
 
 -- AN UPDATER: its answer to a strip, its record, a message and the output lent, and what it leaves in the output
 
@@ -47,19 +43,19 @@ pub record Offer : Type 0 where
 
 -- the message as a log holds it: its type as read, and its contents
 abbrev pub told_as : Answer → List ℕ → Told
-told_as (ReadAs t n) m = record { type = t; fields = contents m }
-told_as (NotRead number field place) m = record { type = Fpl; fields = [] }
+told_as (Ok (t, n)) m = record { type = t; fields = contents m }
+told_as (Err r) m = record { type = Fpl; fields = [] }
 
 abbrev pub told : List ℕ → Told
 told m = told_as (answer_of m most) m
 
 abbrev pub put_as : Updated → List ℕ → Standing → Standing
-put_as (Accepted held n) out b = record { strip = take n out; held = held }
-put_as (Refused number field place) out b = b
+put_as (Ok (held, n)) out b = record { strip = take n out; held = held }
+put_as (Err r) out b = b
 
 abbrev pub entered_as : Updated → List ℕ → List Told → List Told
-entered_as (Accepted held n) m log = told m ∷ log
-entered_as (Refused number field place) m log = log
+entered_as (Ok (held, n)) m log = told m ∷ log
+entered_as (Err r) m log = log
 
 module _ (U : Updater) where
   abbrev pub answered : Standing → Offer → Updated
@@ -86,7 +82,7 @@ module _ (U : Updater) where
 -- 15: the strip is a canonical accepted FPL, and its state holds no time over 1,439 minutes and no aerodrome but of four letters
 pub record Proper (strip : List ℕ) (held : Strip) : Type 0 where
   pub long : ℕ
-  pub read : answer_of strip most ≡ ReadAs Fpl long
+  pub read : answer_of strip most ≡ Ok (Fpl, long)
   pub canonical : spelling_of Fpl strip ≡ strip
   pub held_sound : sound held ≡ true
 
@@ -165,7 +161,7 @@ pub record Passes (strip : List ℕ) (held : Strip) (m : List ℕ) : Type 0 wher
   pub proper : Proper strip held
   pub type : MessageType
   pub long : ℕ
-  pub read : answer_of m most ≡ ReadAs type long
+  pub read : answer_of m most ≡ Ok (type, long)
   pub fit : fit_type type ≡ true
   pub for_this : Same (plan_on strip) (told m)
   pub permits : allowed held.state type ≡ true
@@ -173,14 +169,14 @@ pub record Passes (strip : List ℕ) (held : Strip) (m : List ℕ) : Type 0 wher
 -- number, field and place of a refusal
 pub data Cause (strip : List ℕ) (held : Strip) (m : List ℕ) (room : ℕ) : ℕ → ℕ → ℕ → Type 0 where
   not_proper : (Proper strip held → ⊥) → Cause strip held m room 15 0 0
-  not_read : Proper strip held → {number field place : ℕ} → answer_of m most ≡ NotRead number field place → number ≤ 9
+  not_read : Proper strip held → {number field place : ℕ} → answer_of m most ≡ Err (refusal number field place) → number ≤ 9
       → Cause strip held m room number field place
   -- an FPL that leaves a field unexplained is of a type that is not fit
-  not_fit : Proper strip held → {field place : ℕ} → answer_of m most ≡ NotRead 10 field place → Cause strip held m room 14 0 0
-  no_type : Proper strip held → {t : MessageType} {n : ℕ} → answer_of m most ≡ ReadAs t n → fit_type t ≡ false → Cause strip held m room 14 0 0
-  another_flight : Proper strip held → {t : MessageType} {n : ℕ} → answer_of m most ≡ ReadAs t n → fit_type t ≡ true
+  not_fit : Proper strip held → {field place : ℕ} → answer_of m most ≡ Err (refusal 10 field place) → Cause strip held m room 14 0 0
+  no_type : Proper strip held → {t : MessageType} {n : ℕ} → answer_of m most ≡ Ok (t, n) → fit_type t ≡ false → Cause strip held m room 14 0 0
+  another_flight : Proper strip held → {t : MessageType} {n : ℕ} → answer_of m most ≡ Ok (t, n) → fit_type t ≡ true
       → (Same (plan_on strip) (told m) → ⊥) → Cause strip held m room 12 0 0
-  not_allowed : Proper strip held → {t : MessageType} {n : ℕ} → answer_of m most ≡ ReadAs t n → fit_type t ≡ true
+  not_allowed : Proper strip held → {t : MessageType} {n : ℕ} → answer_of m most ≡ Ok (t, n) → fit_type t ≡ true
       → Same (plan_on strip) (told m) → allowed held.state t ≡ false → Cause strip held m room 13 0 0
   unexplained : Passes strip held m → (unexplained_in (nine (amended_on strip m)) ≡ 0 → ⊥)
       → Cause strip held m room 10 (unexplained_in (nine (amended_on strip m))) 0
@@ -202,19 +198,19 @@ pub record Demand3 (U : Updater) (filed : List Word) (start : Standing) (run : L
   pub stays_proper : Proper (spelled plan) held
   -- every part as the last accepted CHG or DLA that set it left it, or as filed; the state and the actual times
   pub parts : (f : Part) → Left (given f) (plan_in filed f) (log_all U start [] run) (plan f)
-  pub departed : Left departs Unknown (log_all U start [] run) departure
+  pub departed : Left departs None (log_all U start [] run) departure
   pub stated : Left (becomes departure) Filed (log_all U start [] run) held.state
   -- the next message is refused exactly where there is a cause, and then nothing lent is changed
-  pub refused_cause : (o : Offer) (number field place : ℕ) → answered U (offered_all U start run) o ≡ Refused number field place
+  pub refused_cause : (o : Offer) (number field place : ℕ) → answered U (offered_all U start run) o ≡ Err (refusal number field place)
       → Cause (spelled plan) held o.bytes (length o.lent) number field place
   pub cause_refused : (o : Offer) (number field place : ℕ) → Cause (spelled plan) held o.bytes (length o.lent) number field place
-      → answered U (offered_all U start run) o ≡ Refused number field place
-  pub unchanged : (o : Offer) (number field place : ℕ) → answered U (offered_all U start run) o ≡ Refused number field place
+      → answered U (offered_all U start run) o ≡ Err (refusal number field place)
+  pub unchanged : (o : Offer) (number field place : ℕ) → answered U (offered_all U start run) o ≡ Err (refusal number field place)
       → left U (offered_all U start run) o ≡ o.lent
   -- of an accepted one the answer gives the new strip's length, and what lies behind it stays
-  pub length_is : (o : Offer) (next : Strip) (n : ℕ) → answered U (offered_all U start run) o ≡ Accepted next n
+  pub length_is : (o : Offer) (next : Strip) (n : ℕ) → answered U (offered_all U start run) o ≡ Ok (next, n)
       → n ≡ length (offered U (offered_all U start run) o).strip
-  pub behind_stays : (o : Offer) (next : Strip) (n : ℕ) → answered U (offered_all U start run) o ≡ Accepted next n
+  pub behind_stays : (o : Offer) (next : Strip) (n : ℕ) → answered U (offered_all U start run) o ≡ Ok (next, n)
       → drop n (left U (offered_all U start run) o) ≡ drop n o.lent
 
 -- an accepted FPL as a strip
@@ -222,4 +218,4 @@ abbrev pub filed_as : List ℕ → Standing
 filed_as m = record { strip = spelling_of Fpl m; held = just_filed }
 
 abbrev pub Meets : Updater → Type 0
-Meets U = (m : List ℕ) (room n : ℕ) → answer_of m room ≡ ReadAs Fpl n → (run : List Offer) → Demand3 U (contents m) (filed_as m) run
+Meets U = (m : List ℕ) (room n : ℕ) → answer_of m room ≡ Ok (Fpl, n) → (run : List Offer) → Demand3 U (contents m) (filed_as m) run

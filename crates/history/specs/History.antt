@@ -1,12 +1,13 @@
 -- The history of a strip (document 00, the third demand): each part of the plan as the last accepted message that set it left it, or as filed;
 -- the state and the actual times by the accepted messages. It names nothing of the update. Assumes nothing.
-use Rattle.std.specs.Prelude.{ℕ, ◌≡◌, refl, Bool, false, cond, eqb, length, take, drop, get_or}
+use Rattle.std.specs.Prelude.{ℕ, ◌≡◌, refl, Bool, false, cond, Option as Optional, None, Some, eqb, length, take, drop, get_or}
 use mathlib.Core.List.{List, [], ◌∷◌, ◌++◌, Memᴰ}
 use Rattle.std.proofs.Math.Option
 use Rattle.std.proofs.Math.Option.{Option, none, some}
 use Rattle.alphabet.specs.Text.{bytes}
 use Rattle.text.specs.Words.{Word, split, before, behind, null, same}
 use Rattle.sent.specs.Sent.{message_of}
+use Rattle.shape.specs.declared.Clock.{Clock}
 use Rattle.aerodromes.specs.Asked.{aerodrome_in}
 use Rattle.aerodromes.specs.Field13.{record13}
 use Rattle.aerodromes.specs.Field17.{record17}
@@ -14,11 +15,8 @@ use Rattle.kinds.specs.declared.MessageType.{MessageType}
 use Rattle.kinds.specs.declared.MessageType.TheVariants.{Chg, Dla}
 use Rattle.kinds.specs.declared.Role.{Role}
 use Rattle.kinds.specs.declared.Role.TheVariants.{Files, Changes, Delays, Cancels, Departs, Arrives, Neither}
-use Rattle.kinds.specs.Kinds.{role_of, plan3, plan7, plan8, plan9, plan10, plan13, plan15, plan16, plan18, first_entry}
-use Rattle.kinds.specs.Kinds.{brief13, brief16, brief17, brief18}
+use Rattle.kinds.specs.Kinds.{role_of, plan3, plan7, plan8, plan9, plan10, plan13, plan15, plan16, plan18, first_entry, brief13, brief16, brief17, brief18}
 use Rattle.other.specs.Rules.{base}
-use Rattle.state.specs.declared.Departure.{Departure}
-use Rattle.state.specs.declared.Departure.TheVariants.{Known, Unknown}
 use Rattle.state.specs.declared.State.{State}
 use Rattle.state.specs.declared.State.TheVariants.{Filed, Departed, Arrived, Cancelled}
 use Rattle.state.specs.declared.Strip.{Strip}
@@ -168,8 +166,12 @@ with_told p m = λ f. Option.get_or (given f m) (p f)
 abbrev pub landing : List Word → Word
 landing cs = cond (eqb (length cs) 4) (get_or cs brief16 []) (get_or cs brief17 [])
 
+-- the departure time of a state, if known
+abbrev pub Departure : Type 0
+Departure = Optional Clock
+
 abbrev pub departs_by : Role → List Word → Option Departure
-departs_by Departs cs = some (Known (record13 (get_or cs brief13 [])).time)
+departs_by Departs cs = some (Some (record13 (get_or cs brief13 [])).time)
 departs_by Changes cs = none
 departs_by Delays cs = none
 departs_by Cancels cs = none
@@ -251,7 +253,7 @@ abbrev pub plan_by : Plan → List Told → Plan
 plan_by filed log = λ f. latest (given f) (filed f) log
 
 abbrev pub departure_by : List Told → Departure
-departure_by log = latest departs Unknown log
+departure_by log = latest departs None log
 
 abbrev pub state_by : List Told → State
 state_by log = latest (becomes (departure_by log)) Filed log

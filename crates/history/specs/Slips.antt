@@ -1,6 +1,6 @@
 -- Updaters that must not pass (document 01, "Examples on each side" and "How far each contract reaches"; document 02). But for its slip each does as the
 -- update does. Assumes nothing.
-use Rattle.std.specs.Prelude.{ℕ, zero, suc, Bool, true, false, ◌&&◌, cond, List, [], ◌∷◌, ◌++◌, eqb, length, take, drop, get_or, set}
+use Rattle.std.specs.Prelude.{ℕ, zero, suc, Bool, true, false, ◌&&◌, cond, List, [], ◌∷◌, ◌++◌, eqb, length, take, drop, get_or, set, Ok, Err}
 use Rattle.std.proofs.Math.Option
 use Rattle.std.proofs.Math.Option.{Option, none, some}
 use Rattle.alphabet.specs.Text.{bytes}
@@ -17,18 +17,17 @@ use Rattle.kinds.specs.Kinds.{role_of, plan16, plan18, brief18, first_entry as e
 use Rattle.forms.specs.Field22.{label_of}
 use Rattle.message.specs.Reading.{answer_of}
 use Rattle.force.specs.InForce.{named_by, field_at, fields_from}
-use Rattle.strip.specs.declared.Updated.{Updated}
-use Rattle.strip.specs.declared.Updated.TheVariants.{Accepted, Refused}
+use Rattle.strip.specs.Updating.{Updated, other_day, differences, differs, update_of, type_read, out_after}
 use Rattle.opening.specs.Opening.{text_said}
 use Rattle.amending.specs.Amended.{content_of, amended, new_strip}
-use Rattle.strip.specs.Updating.{other_day, differences, differs, update_of, type_read, out_after}
 use Rattle.history.specs.Eighteen.{other_items}
 use Rattle.history.specs.History.{entry_of}
 use Rattle.history.specs.Demand3.{Updater}
+use Rattle.outer.specs.Refusal.{refusal}
 
 -- one that refuses all, with whatever number, field and place
 abbrev pub refuses_all : ℕ → ℕ → ℕ → Updater
-refuses_all number field place = record { answer = λ strip held m out. Refused number field place; output = λ strip held m out. out }
+refuses_all number field place = record { answer = λ strip held m out. Err (refusal number field place); output = λ strip held m out. out }
 
 -- one that does nothing: it writes nothing, whatever it answers
 abbrev pub does_nothing : Updater
@@ -36,12 +35,12 @@ does_nothing = record { answer = λ strip held m out. update_of strip held m (le
 
 -- one that copies the strip and calls it amended
 abbrev pub copied_as : Updated → List ℕ → Updated
-copied_as (Accepted held n) strip = Accepted held (length strip)
-copied_as (Refused number field place) strip = Refused number field place
+copied_as (Ok (held, n)) strip = Ok (held, length strip)
+copied_as (Err r) strip = Err r
 
 abbrev pub copy_as : Updated → List ℕ → List ℕ → List ℕ
-copy_as (Accepted held n) strip out = front strip out
-copy_as (Refused number field place) strip out = out
+copy_as (Ok (held, n)) strip out = front strip out
+copy_as (Err r) strip out = out
 
 abbrev pub copies : Updater
 copies =
@@ -76,7 +75,7 @@ matches_after =
       answer = λ strip held m out.
           let t = type_read (answer_of m most) in
           let found = differences (role_of t) (amended (role_of t) (inner strip) (text_said t m)) (split 45 (text_said t m)) in
-          cond (differs found) (Refused 12 0 0) (update_of strip held m (length out));
+          cond (differs found) (Err (refusal 12 0 0)) (update_of strip held m (length out));
       output = λ strip held m out.
           let t = type_read (answer_of m most) in
           let found = differences (role_of t) (amended (role_of t) (inner strip) (text_said t m)) (split 45 (text_said t m)) in
@@ -168,7 +167,7 @@ other_delay strip m =
 abbrev pub compares_delay : Updater
 compares_delay =
     record {
-      answer = λ strip held m out. cond (other_delay strip m) (Refused 12 0 0) (update_of strip held m (length out));
+      answer = λ strip held m out. cond (other_delay strip m) (Err (refusal 12 0 0)) (update_of strip held m (length out));
       output = λ strip held m out. cond (other_delay strip m) out (out_after strip held m out);
     }
 

@@ -5,17 +5,20 @@ use mathlib.Core.Path.{◌≡◌, refl, sym, ap, ◌∙◌}
 use mathlib.Core.Bool.{Bool, true, false, cond, not, false≢true}
 use mathlib.Core.List.{List, [], ◌∷◌, ◌++◌, map}
 use native.Mathlib.Omega.{arith}
-use borrow.Author.Tests.{eqb-true, not-false}
-use lib.Dec.{eqb}
-use lib.ListN.{length, get_or, get_or-append}
+use borrow.Author.Tests.{eqb-true, not-false, ltb-true, ltb-false}
+use lib.Dec.{eqb, ltb}
+use lib.ListN.{length, get_or, get_or-append, get_or-eq_default}
 use Rattle.text.specs.Words.{Word, same, elem, all, rank_from, rank}
 use Rattle.text.proofs.Tests.{both, same-eq, of_elem, rank-elem}
 use Rattle.head.specs.Field3.{types}
-use Rattle.kinds.specs.Kinds.{name_of, types_read, names_not_read, type_ranked, type_named}
+use Rattle.kinds.specs.Kinds.{name_of, types_read, names_not_read, type_ranked, type_named, Named}
 use Rattle.kinds.specs.declared.MessageType.{MessageType}
 use Rattle.kinds.specs.declared.MessageType.TheVariants.{Fpl, Chg, Cnl, Dla, Dep, Arr, Rqp, Rqs, Spl}
-use Rattle.kinds.specs.declared.Named.{Named}
-use Rattle.kinds.specs.declared.Named.TheVariants.{Read, NotRead, NoType}
+use Rattle.std.specs.Prelude.{Option, Some, None, Ok, Err, is_some, IfSome}
+use Rattle.std.specs.Option.{ok_or, option_copied}
+use Rattle.std.proofs.Common.{Bor}
+use Rattle.std.proofs.lemmas.List.{length-map}
+use Rattle.kinds.specs.declared.TypeFault.TheVariants.{NotRead, NoType}
 
 -- the standard types are those that are read, and then those that are not
 pub standard : types ≡ map name_of types_read ++ names_not_read
@@ -23,14 +26,20 @@ unfolding types types_read names_not_read
 standard = refl
 
 -- the type of a rank, as the code has it
-pub ranked_read : (ts : List MessageType) (i : ℕ) → i < length ts → Read (get_or ts i Fpl) ≡ get_or (map Read ts) i NotRead
-ranked_read [] i h = absurd (omega arith)
-ranked_read (x ∷ ts) zero h = refl
-ranked_read (x ∷ ts) (suc i) h = ranked_read ts i (omega arith)
+ranked_read : (ts : List MessageType) (i : ℕ) (d : MessageType) → i < length ts → Ok (get_or ts i d) ≡ get_or (map Ok ts) i (Err NotRead)
+ranked_read [] i d h = absurd (omega arith)
+ranked_read (x ∷ ts) zero d h = refl
+ranked_read (x ∷ ts) (suc i) d h = ranked_read ts i d (omega arith)
+
+pub ranked_found : (ts : List MessageType) (i : ℕ) (o : Option (Bor MessageType)) → is_some o ≡ ltb i (length ts)
+    → IfSome o (λ x. x.now ≡ get_or ts i x.now) → ok_or (option_copied o) NotRead ≡ get_or (map Ok ts) i (Err NotRead)
+ranked_found ts i None s h = sym (get_or-eq_default (map Ok ts) (Err NotRead) {n = i} (omega (arith, length-map {B = Named} ts Ok, ltb-false i (length ts)
+    (sym s))))
+ranked_found ts i (Some x) s h = ap Ok h ∙ ranked_read ts i x.now (ltb-true i (length ts) (sym s))
 
 -- A TYPE THAT IS READ is named by its own three letters
 
-pub name_read : (t : MessageType) → type_named (name_of t) ≡ Read t
+pub name_read : (t : MessageType) → type_named (name_of t) ≡ Ok t
 unfolding type_named type_ranked types_read types
 name_read Fpl = refl
 name_read Chg = refl
@@ -44,11 +53,11 @@ name_read Spl = refl
 
 -- two types with one name are one type
 pub name_one : (t u : MessageType) → name_of t ≡ name_of u → t ≡ u
-name_one t u e = let h : Read t ≡ Read u = sym (name_read t) ∙ ap type_named e ∙ name_read u in cc
+name_one t u e = let h : Ok t ≡ Ok u = sym (name_read t) ∙ ap type_named e ∙ name_read u in cc
 
 -- A TEST OF EVERY TYPE, computed over the list of those that are read, holds for a type
 
-test_at : (P : MessageType → Bool) (t : MessageType) (ts : List MessageType) (i : ℕ) → all P ts ≡ true → get_or (map Read ts) i NotRead ≡ Read t → P t ≡ true
+test_at : (P : MessageType → Bool) (t : MessageType) (ts : List MessageType) (i : ℕ) → all P ts ≡ true → get_or (map Ok ts) i (Err NotRead) ≡ Ok t → P t ≡ true
 test_at P t [] i h e = let z : ◌≡◌ {A = ℕ} 0 1 = cc in absurd (omega arith)
 test_at P t (x ∷ ts) zero h e = let q : x ≡ t = cc in ap P (sym q) ∙ (both (P x) (all P ts) h).0
 test_at P t (x ∷ ts) (suc i) h e = test_at P t ts i (both (P x) (all P ts) h).1 e
@@ -57,7 +66,7 @@ pub each : (P : MessageType → Bool) → all P types_read ≡ true → (t : Mes
 unfolding type_named type_ranked
 each P h t = go (rank (name_of t) types) (name_read t)
   where
-    go : (r : ℕ) → get_or (NoType ∷ map Read types_read) r NotRead ≡ Read t → P t ≡ true
+    go : (r : ℕ) → get_or (Err NoType ∷ map Ok types_read) r (Err NotRead) ≡ Ok t → P t ≡ true
     go zero e = let z : ◌≡◌ {A = ℕ} 0 1 = cc in absurd (omega arith)
     go (suc i) e = test_at P t types_read i h e
 
@@ -80,17 +89,17 @@ ranked k w (v ∷ vs) h = go (ranked (suc k) w vs) (same w v) refl h
         (omega (arith, r.0), rw z r.1)
 
 -- the name at a place where a type stands
-name_at : (t : MessageType) (ts : List MessageType) (i : ℕ) → get_or (map Read ts) i NotRead ≡ Read t
+name_at : (t : MessageType) (ts : List MessageType) (i : ℕ) → get_or (map Ok ts) i (Err NotRead) ≡ Ok t
     → (i < length (map name_of ts)) × (get_or (map name_of ts) i [] ≡ name_of t)
 name_at t [] i e = let z : ◌≡◌ {A = ℕ} 0 1 = cc in absurd (omega arith)
 name_at t (x ∷ ts) zero e = let q : x ≡ t = cc in (omega arith, ap name_of q)
 name_at t (x ∷ ts) (suc i) e = let r = name_at t ts i e in (omega (arith, r.0), r.1)
 
-pub read_name : (w : Word) (t : MessageType) → type_named w ≡ Read t → w ≡ name_of t
+pub read_name : (w : Word) (t : MessageType) → type_named w ≡ Ok t → w ≡ name_of t
 unfolding type_named type_ranked
 read_name w t e = go (rank w types) refl e
   where
-    go : (r : ℕ) → rank w types ≡ r → get_or (NoType ∷ map Read types_read) r NotRead ≡ Read t → w ≡ name_of t
+    go : (r : ℕ) → rank w types ≡ r → get_or (Err NoType ∷ map Ok types_read) r (Err NotRead) ≡ Ok t → w ≡ name_of t
     go zero q e = let z : ◌≡◌ {A = ℕ} 0 1 = cc in absurd (omega arith)
     go (suc i) q e =
         let n = name_at t types_read i e in
@@ -100,41 +109,41 @@ read_name w t e = go (rank w types) refl e
 
 -- NO TYPE: the bytes are none of the standard types
 
-pub none_names : (w : Word) → elem w types ≡ false → type_named w ≡ NoType
+pub none_names : (w : Word) → elem w types ≡ false → type_named w ≡ Err NoType
 unfolding type_named type_ranked
 none_names w e = ap type_ranked (eqb-true (rank w types) 0 (not-false (eqb (rank w types) 0) (rank-elem 1 w types (omega arith) ∙ e)))
 
-no_type_at : {A : Type 0} (ts : List MessageType) (i : ℕ) → get_or (map Read ts) i NotRead ≡ NoType → A
+no_type_at : {A : Type 0} (ts : List MessageType) (i : ℕ) → get_or (map Ok ts) i (Err NotRead) ≡ Err NoType → A
 no_type_at [] i e = let z : ◌≡◌ {A = ℕ} 0 1 = cc in absurd (omega arith)
 no_type_at (x ∷ ts) zero e = let z : ◌≡◌ {A = ℕ} 0 1 = cc in absurd (omega arith)
 no_type_at (x ∷ ts) (suc i) e = no_type_at ts i e
 
-pub names_none : (w : Word) → type_named w ≡ NoType → elem w types ≡ false
+pub names_none : (w : Word) → type_named w ≡ Err NoType → elem w types ≡ false
 unfolding type_named type_ranked
 names_none w e = go (rank w types) refl e
   where
-    go : (r : ℕ) → rank w types ≡ r → get_or (NoType ∷ map Read types_read) r NotRead ≡ NoType → elem w types ≡ false
+    go : (r : ℕ) → rank w types ≡ r → get_or (Err NoType ∷ map Ok types_read) r (Err NotRead) ≡ Err NoType → elem w types ≡ false
     go zero q e = sym (rank-elem 1 w types (omega arith)) ∙ ap (λ (r : ℕ). not (eqb r 0)) q
     go (suc i) q e = no_type_at types_read i e
 
 -- NOT READ: the bytes are one of the seven others
 
 abbrev is_read : Named → Bool
-is_read (Read t) = true
-is_read NotRead = false
-is_read NoType = false
+is_read (Ok t) = true
+is_read (Err NotRead) = false
+is_read (Err NoType) = false
 
 abbrev is_not_read : Named → Bool
-is_not_read (Read t) = false
-is_not_read NotRead = true
-is_not_read NoType = false
+is_not_read (Ok t) = false
+is_not_read (Err NotRead) = true
+is_not_read (Err NoType) = false
 
-is_not_read_lem : (n : Named) → is_not_read n ≡ true → n ≡ NotRead
-is_not_read_lem (Read t) e = absurd (false≢true e)
-is_not_read_lem NotRead e = refl
-is_not_read_lem NoType e = absurd (false≢true e)
+is_not_read_lem : (n : Named) → is_not_read n ≡ true → n ≡ Err NotRead
+is_not_read_lem (Ok t) e = absurd (false≢true e)
+is_not_read_lem (Err NotRead) e = refl
+is_not_read_lem (Err NoType) e = absurd (false≢true e)
 
-pub name_not_read : (w : Word) → elem w names_not_read ≡ true → type_named w ≡ NotRead
+pub name_not_read : (w : Word) → elem w names_not_read ≡ true → type_named w ≡ Err NotRead
 unfolding type_named type_ranked types_read types names_not_read
 name_not_read w e = is_not_read_lem (type_named w) (of_elem (λ v. is_not_read (type_named v)) names_not_read refl w e)
 
@@ -152,7 +161,7 @@ second w (u ∷ us) vs e = go (second w us vs) (same w u) e
     go ih true e = absurd (false≢true (sym e))
     go ih false e = ih e
 
-pub not_read_name : (w : Word) → type_named w ≡ NotRead → elem w names_not_read ≡ true
+pub not_read_name : (w : Word) → type_named w ≡ Err NotRead → elem w names_not_read ≡ true
 not_read_name w e =
     sym (second w (map name_of types_read) names_not_read (not_first (elem w (map name_of types_read)) refl))
     ∙ ap (elem w) (sym standard)

@@ -1,6 +1,6 @@
 -- The message types: a row for each, with its name, its counts, its fields (document 01, "Which fields, in order") and its role ("The strip").
 -- Assumes nothing.
-use Rattle.std.specs.Prelude.{ℕ, zero, suc, ◌-◌, ◌<◌, ◌≤◌, ◌≡◌, refl, cond, List, [], ◌∷◌, ◌++◌, map, eqb, get_or}
+use Rattle.std.specs.Prelude.{ℕ, zero, suc, ◌-◌, ◌<◌, ◌≤◌, ◌≡◌, refl, cond, List, [], ◌∷◌, ◌++◌, map, Result, Ok, Err, eqb, get_or}
 use Rattle.alphabet.specs.Text.{bytes}
 use Rattle.text.specs.Words.{Word, split, rank}
 use Rattle.head.specs.Field3.{types}
@@ -11,8 +11,10 @@ use Rattle.kinds.specs.declared.Role.TheVariants.{Files, Changes, Delays, Cancel
 use Rattle.kinds.specs.declared.Form.{Form}
 use Rattle.kinds.specs.declared.Form.TheVariants.{Field3, Field7, Field8, Field9, Field10, Field13, Field13Open, Field15}
 use Rattle.kinds.specs.declared.Form.TheVariants.{Field16, Field16Plan, Field17, Field18, Field19, Field22}
-use Rattle.kinds.specs.declared.Named.{Named}
-use Rattle.kinds.specs.declared.Named.TheVariants.{Read, NotRead, NoType}
+use Rattle.outer.specs.declared.Refusal.{Refusal}
+use Rattle.outer.specs.Refusal.{refusal}
+use Rattle.kinds.specs.declared.TypeFault.{TypeFault}
+use Rattle.kinds.specs.declared.TypeFault.TheVariants.{NotRead, NoType}
 
 -- FIELDS, in order. Of field 13 and of field 16 there are two forms: 13 in RQP, where the time may be absent, is the open one, and 16 in FPL
 -- and SPL, with elapsed time and alternates, is the plan's.
@@ -168,13 +170,22 @@ types_read = Fpl ∷ Chg ∷ Cnl ∷ Dla ∷ Dep ∷ Arr ∷ Rqp ∷ Rqs ∷ Spl
 unfoldable pub names_not_read : List Word
 names_not_read = split 32 (bytes "ALR RCF CPL EST CDN ACP LAM")
 
+-- what three bytes name: a type that is read, or why none
+abbrev pub Named : Type 0
+Named = Result MessageType TypeFault
+
 -- the type of a rank among the standard types: 0 is none, and those behind the ones that are read are not read
 unfoldable pub type_ranked : ℕ → Named
-type_ranked k = get_or (NoType ∷ map Read types_read) k NotRead
+type_ranked k = get_or (Err NoType ∷ map Ok types_read) k (Err NotRead)
 
 -- the type that the three bytes behind `(` name
 unfoldable pub type_named : Word → Named
 type_named w = type_ranked (rank w types)
+
+-- the refusal, which names field 3: number 4 where they name none, number 5 where it is not read
+abbrev pub type_refusal : TypeFault → Refusal
+type_refusal NoType = refusal 4 3 0
+type_refusal NotRead = refusal 5 3 0
 
 -- THE ROLES: document 01's table of the strip, and the FPL that files it; the types that the table has not do nothing to a strip
 
@@ -234,11 +245,12 @@ placed : (form_at Fpl 9 6 ≡ Field15) × (form_at Rqp 5 2 ≡ Field13Open) × (
 unfolding form_at forms_of plan_forms request_forms supplement_forms brief_forms
 placed = (refl, refl, refl, refl)
 
-named : (type_named (bytes "CHG") ≡ Read Chg) × (type_named (bytes "SPL") ≡ Read Spl) × (type_named (bytes "ALR") ≡ NotRead)
-    × (type_named (bytes "LAM") ≡ NotRead)
+named : (type_named (bytes "CHG") ≡ Ok Chg) × (type_named (bytes "SPL") ≡ Ok Spl) × (type_named (bytes "ALR") ≡ Err NotRead)
+    × (type_named (bytes "LAM") ≡ Err NotRead)
 unfolding type_named type_ranked types_read types
 named = (refl, refl, refl, refl)
 
-not_named : (type_named (bytes "XYZ") ≡ NoType) × (type_named (bytes "FP") ≡ NoType) × (type_named (bytes "") ≡ NoType) × (type_named (bytes " FP") ≡ NoType)
+not_named : (type_named (bytes "XYZ") ≡ Err NoType) × (type_named (bytes "FP") ≡ Err NoType) × (type_named (bytes "") ≡ Err NoType)
+    × (type_named (bytes " FP") ≡ Err NoType)
 unfolding type_named type_ranked types_read types
 not_named = (refl, refl, refl, refl)

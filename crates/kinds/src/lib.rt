@@ -4,6 +4,9 @@
 ghost use Rattle.std.specs.Prelude.{◌≡◌, ℕ, ◌<◌, ◌≤◌, get_or};
 ghost use Rattle.kinds.specs.declared.Form.TheVariants.{Field3, Field22};
 ghost use Rattle.kinds.specs.Kinds.{name_of, least_of, greatest_of, role_of, most_fields, RowFor, form_at, number_of, type_ranked, type_named};
+ghost use Rattle.kinds.specs.Kinds.{type_refusal};
+
+use outer::Refusal;
 
 // The types that are read.
 #[derive(Clone, Copy)]
@@ -80,10 +83,9 @@ pub const BRIEF_18: usize = 4;
 
 pub const FIRST_ENTRY: usize = 5;
 
-// What three bytes name: a type that is read, a standard type that is not read, or none.
-#[derive(Clone, Copy)]
-pub enum Named {
-    Read(MessageType),
+// Why three bytes name no type that is read: they name a standard type that is not read, or none.
+#[derive(Clone, Copy, PartialEq, Eq)]
+pub enum TypeFault {
     NotRead,
     NoType,
 }
@@ -238,10 +240,7 @@ impl MessageType {
         ensures { result ≡ form_at self count j }
     {
         let row = self.row(count);
-        if j < MessageType::MOST_FIELDS {
-            return row[j];
-        }
-        Form::Field22
+        row.get(j).copied().unwrap_or(Form::Field22)
     }
 }
 
@@ -290,22 +289,34 @@ const TYPES_READ: [MessageType; 9] = [
     MessageType::Spl,
 ];
 
+// Number 4 or 5: field 3 names no type, or one that is not read.
+impl From<TypeFault> for Refusal {
+    ghost from_gives = { λ fault given. given ≡ type_refusal fault };
+
+    fn from(fault: TypeFault) -> Refusal {
+        Refusal {
+            number: match fault {
+                TypeFault::NoType => 4,
+                TypeFault::NotRead => 5,
+            },
+            field: 3,
+            place: 0,
+        }
+    }
+}
+
 // The type of a rank among the standard types.
-fn type_ranked(k: usize) -> Named
+fn type_ranked(k: usize) -> Result<MessageType, TypeFault>
     ensures { result ≡ type_ranked k }
 {
     if k == 0 {
-        return Named::NoType;
+        return Err(TypeFault::NoType);
     }
-    let read = TYPES_READ;
-    if k <= 9 {
-        return Named::Read(read[k - 1]);
-    }
-    Named::NotRead
+    TYPES_READ.get(k - 1).copied().ok_or(TypeFault::NotRead)
 }
 
 // The type that the three bytes behind ( name.
-pub fn type_named(three: &[u8]) -> Named
+pub fn type_named(three: &[u8]) -> Result<MessageType, TypeFault>
     ensures { result ≡ type_named three.now }
 {
     let k = text::rank_in_cells(

@@ -11,7 +11,7 @@ use Rattle.space.specs.Reduced.{opens, closes, stands_for_run, reduced_from, red
 use Rattle.space.specs.Hyphens.{hyphens}
 use Rattle.kinds.specs.declared.MessageType.TheVariants.{Cnl}
 use Rattle.kinds.specs.Kinds.{brief_forms, forms_of}
-use Rattle.message.specs.declared.Answer.{Answer}
+use Rattle.message.specs.Answer.{Answer}
 use Rattle.message.specs.Reading.{spelling_of, answer_of}
 use Rattle.message.proofs.Examples.{cancelled, not_a_time, not_read}
 use Rattle.lines.specs.Lines.{decimal, opening, accepted_line, refused_line, line_as, line_of}

@@ -10,13 +10,11 @@ use borrow.Author.Tests.{le-ltb, lt-ltb, leb-true, leb-false}
 use Rattle.text.specs.Lent.{front}
 use Rattle.text.proofs.Index.{rest}
 use Rattle.text.proofs.Lent.{lent}
-use Rattle.outer.specs.declared.Outer.{Outer}
-use Rattle.outer.specs.declared.Outer.TheVariants.{Good, Bad}
+use Rattle.outer.specs.Refusal.{Checked}
 use Rattle.outer.specs.Outer.{most, outer}
 use Rattle.outer.proofs.Good.{good_passed}
 use Rattle.kinds.specs.declared.MessageType.{MessageType}
-use Rattle.message.specs.declared.Answer.{Answer}
-use Rattle.message.specs.declared.Answer.TheVariants.{Accepted, Refused}
+use Rattle.message.specs.Answer.{Answer}
 use Rattle.message.specs.Reading.{spelling_of, outer_as, answer_of, out_after}
 use Rattle.message.proofs.Reached.{accepted_taken}
 use Rattle.message.proofs.Canonical.{accepted_shorter}
@@ -27,6 +25,8 @@ use Rattle.lines.specs.Lines.{accepted_line, refused_line, line_as, line_of, no_
 use Rattle.lines.proofs.Decimal.{refused_short, refused_least}
 use Rattle.lines.proofs.Rooms.{enough}
 use Rattle.lines.proofs.Writing.{as_long, length_accepted, whole}
+use Rattle.std.specs.Prelude.{Ok, Err}
+use Rattle.outer.specs.Refusal.{refusal}
 
 -- where there is room, the answer is the piece's and the line is whole
 pub record Whole (m out : List ℕ) (r : Told) (after : List ℕ) : Type 0 where
@@ -44,11 +44,11 @@ pub one_byte : (m : List ℕ) → length m ≤ 1 → length (line_of m) ≤ 9
 unfolding line_of answer_of
 one_byte m h = go (outer m) refl (outer-number m)
   where
-    go : (o : Outer) → outer m ≡ o → OuterNumber o → length (line_as (outer_as o m most) m) ≤ 9
-    go Good g n = let p = good_passed m g in absurd (omega (arith, p.framed.long))
-    go (Bad number place) g n =
-        refused_least number 0 place (omega (arith, n.1)) (omega arith)
-        (omega (arith, refused_place m most number 0 place (ap (λ (o : Outer). outer_as o m most) g)))
+    go : (o : Checked) → outer m ≡ o → OuterNumber o → length (line_as (outer_as o m most) m) ≤ 9
+    go (Ok u) g n = let p = good_passed m g in absurd (omega (arith, p.framed.long))
+    go (Err r) g n =
+        refused_least r.number r.field r.place (omega (arith, n.1)) (omega (arith, n.2))
+        (omega (arith, refused_place m most r.number r.field r.place (ap (λ (o : Checked). outer_as o m most) g)))
 
 -- so no line takes more than nine times the bytes of its piece
 pub nine_times : (m out : List ℕ) (r : Told) (after : List ℕ) → Tells m out r after → Whole m out r after → 1 ≤ length m → r.length ≤ 9 * length m
@@ -87,7 +87,7 @@ module _ (m out last : List ℕ) (wide : length m + 12 ≤ length out) where
         short = s;
       }
 
-  module _ (t : MessageType) (n : ℕ) (e : answer_of m (length lent_part) ≡ Accepted t n) (w : last ≡ out_after m lent_part) where
+  module _ (t : MessageType) (n : ℕ) (e : answer_of m (length lent_part) ≡ Ok (t, n)) (w : last ≡ out_after m lent_part) where
     in_place_lem : mid ≡ take 7 out ++ front (spelling_of t m) (drop 7 out)
     in_place_lem = lent out (spelling_of t m) 7 last (w ∙ accepted-writes m lent_part t n e)
 
@@ -101,14 +101,15 @@ module _ (m out last : List ℕ) (wide : length m + 12 ≤ length out) where
     accepted_fits = omega (arith, as_long out (spelling_of t m) mid 7 in_place_lem (omega (arith, long, few)), few)
 
     pub accepted_told : (r : ℕ) (after : List ℕ) → r ≡ n + 8 → after ≡ front (accepted_line t (take n (drop 7 mid))) mid
-        → Tells m out (record { answer = Accepted t n; length = r }) after
+        → Tells m out (record { answer = Ok (t, n); length = r }) after
     accepted_told r after p q =
-        told (Accepted t n) e r after
+        told (Ok (t, n)) e r after
         (p ∙ sym (length_accepted t out (spelling_of t m) n long (omega arith)))
         (q ∙ ap (λ (s : List ℕ). front (accepted_line t (take n (drop 7 s))) s) in_place_lem ∙ whole t out (spelling_of t m) n long (omega arith))
         (omega (arith, few))
 
-  module _ (number field place : ℕ) (e : answer_of m (length lent_part) ≡ Refused number field place) (w : last ≡ out_after m lent_part) (b : field < 256) where
+  module _ (number field place : ℕ) (e : answer_of m (length lent_part) ≡ Err (refusal number field place)) (w : last
+      ≡ out_after m lent_part) (b : field < 256) where
     as_it_was : mid ≡ out
     unfolding front
     as_it_was = lent out [] 7 last (w ∙ refused-leaves m lent_part number field place e) ∙ take-append-drop 7 out
@@ -122,6 +123,7 @@ module _ (m out last : List ℕ) (wide : length m + 12 ≤ length out) where
     refused_fits = omega (arith, fitting, ap length as_it_was)
 
     pub refused_told : (r : ℕ) (after : List ℕ) → r ≡ length (refused_line number field place) → after ≡ front (refused_line number field place) mid
-        → Tells m out (record { answer = Refused number field place; length = r }) after
+        → Tells m out (record { answer = Err (refusal number field place); length = r }) after
     refused_told r after p q =
-        told (Refused number field place) e r after p (q ∙ ap (λ (s : List ℕ). front (refused_line number field place) s) as_it_was) (omega (arith, fitting))
+        told (Err (refusal number field place)) e r after p (q
+            ∙ ap (λ (s : List ℕ). front (refused_line number field place) s) as_it_was) (omega (arith, fitting))

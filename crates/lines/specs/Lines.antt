@@ -8,10 +8,11 @@ use Rattle.outer.specs.Outer.{parens_from, parens, most, outer}
 use Rattle.kinds.specs.declared.MessageType.{MessageType}
 use Rattle.kinds.specs.declared.MessageType.TheVariants.{Cnl}
 use Rattle.kinds.specs.Kinds.{name_of}
-use Rattle.message.specs.declared.Answer.{Answer}
-use Rattle.message.specs.declared.Answer.TheVariants.{Accepted, Refused}
+use Rattle.message.specs.Answer.{Answer}
 use Rattle.message.specs.Reading.{spelling_of, answer_of}
 use Rattle.lines.specs.declared.Told.{Told}
+use Rattle.std.specs.Prelude.{Ok, Err}
+use Rattle.outer.specs.Refusal.{refusal}
 
 -- A NUMBER IN DECIMAL, with no zero in front
 
@@ -41,8 +42,8 @@ unfoldable pub refused_line : ℕ → ℕ → ℕ → List ℕ
 refused_line number field place = bytes "NO " ++ (numbered number 32 ++ (numbered field 32 ++ numbered place 10))
 
 abbrev pub line_as : Answer → List ℕ → List ℕ
-line_as (Accepted t n) m = accepted_line t (spelling_of t m)
-line_as (Refused number field place) m = refused_line number field place
+line_as (Ok (t, n)) m = accepted_line t (spelling_of t m)
+line_as (Err r) m = refused_line r.number r.field r.place
 
 -- the line of a piece, of which reading is lent as many bytes as a message may have
 unfoldable pub line_of : List ℕ → List ℕ
@@ -59,13 +60,13 @@ abbrev pub line_more : ℕ
 line_more = 12
 
 abbrev pub answer_in : List ℕ → ℕ → Answer
-answer_in m room = cond (ltb room (length m + line_more)) (Refused 11 0 0) (answer_of m most)
+answer_in m room = cond (ltb room (length m + line_more)) (Err (refusal 11 0 0)) (answer_of m most)
 
 abbrev pub line_in : List ℕ → ℕ → List ℕ
 line_in m room = cond (ltb room (length m + line_more)) [] (line_of m)
 
 abbrev pub no_room : Told
-no_room = record { answer = Refused 11 0 0; length = 0 }
+no_room = record { answer = Err (refusal 11 0 0); length = 0 }
 
 -- what writing a line must do
 pub record Tells (m out : List ℕ) (r : Told) (after : List ℕ) : Type 0 where
@@ -87,10 +88,10 @@ as_listed : (accepted_line Cnl (bytes "(CNL-ABC12-EHAM0930-EDDF-0)") ≡ bytes "
 unfolding accepted_line opening refused_line decimal
 as_listed = (refl, refl, refl, refl)
 
-no_room_lem : (line_in (bytes ")") 12 ≡ []) × (answer_in (bytes ")") 12 ≡ Refused 11 0 0)
+no_room_lem : (line_in (bytes ")") 12 ≡ []) × (answer_in (bytes ")") 12 ≡ Err (refusal 11 0 0))
 no_room_lem = (refl, refl)
 
-some_room : (line_in (bytes ")") 13 ≡ bytes "NO 2 0 0\n") × (answer_in (bytes ")") 13 ≡ Refused 2 0 0)
+some_room : (line_in (bytes ")") 13 ≡ bytes "NO 2 0 0\n") × (answer_in (bytes ")") 13 ≡ Err (refusal 2 0 0))
 unfolding line_of answer_of outer parens refused_line decimal
 some_room = (refl, refl)
 

@@ -7,6 +7,7 @@ ghost use Rattle.lines.specs.Lines.{numbered, opening, accepted_line, refused_li
 
 use kinds::MessageType;
 use message::Answer;
+use outer::Refusal;
 
 // What was told of a piece: the answer to it, and how many bytes its line takes.
 #[derive(Clone, Copy)]
@@ -32,14 +33,15 @@ fn put_number(n: u64, end: u8, at: usize, out: &mut [u8]) -> usize
 }
 
 // Writes the line of a refusal at the front of `out`.
-fn put_refused(number: u8, field: u8, place: usize, out: &mut [u8]) -> usize
-    requires { length (refused_line number field place) ≤ length out.old }
-    ensures { (result ≡ length (refused_line number field place)) × (out.new ≡ front (refused_line number field place) out.old) }
+fn put_refused(refusal: Refusal, out: &mut [u8]) -> usize
+    requires { length (refused_line refusal.number refusal.field refusal.place) ≤ length out.old }
+    ensures { (result ≡ length (refused_line refusal.number refusal.field refusal.place))
+        × (out.new ≡ front (refused_line refusal.number refusal.field refusal.place) out.old) }
 {
     let o = text::put(b"NO ", out);
-    let p = put_number(number as u64, b' ', o, out);
-    let q = put_number(field as u64, b' ', p, out);
-    put_number(place as u64, b'\n', q, out)
+    let p = put_number(refusal.number as u64, b' ', o, out);
+    let q = put_number(refusal.field as u64, b' ', p, out);
+    put_number(refusal.place as u64, b'\n', q, out)
 }
 
 // What stands before the spelling.
@@ -66,35 +68,19 @@ fn put_line(piece: &[u8], out: &mut [u8]) -> Told
     requires { length piece.now + line_more ≤ length out.old }
     ensures { Tells piece.now out.old result out.new }
 {
-    match message::read(piece, &mut out[7..]) {
-        Answer::Accepted(t, n) => Told {
-            answer: Answer::Accepted(t, n),
-            length: put_around(t, n, out),
-        },
-        Answer::Refused {
-            number,
-            field,
-            place,
-        } => Told {
-            answer: Answer::Refused {
-                number,
-                field,
-                place,
-            },
-            length: put_refused(number, field, place, out),
-        },
-    }
+    let answer = message::read(piece, &mut out[7..]);
+    let length = match answer {
+        Ok((t, n)) => put_around(t, n, out),
+        Err(refusal) => put_refused(refusal, out),
+    };
+    Told { answer, length }
 }
 
 fn no_room() -> Told
     ensures { result ≡ no_room }
 {
     Told {
-        answer: Answer::Refused {
-            number: 11,
-            field: 0,
-            place: 0,
-        },
+        answer: Err(Refusal::of(11)),
         length: 0,
     }
 }

@@ -4,7 +4,7 @@ use mathlib.Core.List.{List, ◌++◌}
 use Prim.Native.Nat.{ℕ}
 use native.Mathlib.Omega.{arith}
 use Rattle.alphabet.specs.Text.{bytes}
-use Rattle.message.specs.declared.Answer.{Answer}
+use Rattle.message.specs.Answer.{Answer}
 use Rattle.message.proofs.Examples.{cancelled, not_a_time}
 use Rattle.lines.proofs.Rooms.{enough}
 use Rattle.lines.proofs.Examples.{cancelled_line, not_a_time_line}

@@ -19,11 +19,12 @@ use Rattle.std.proofs.lemmas.Bool.{ltb-false}
 use Rattle.text.specs.Lent.{front}
 use Rattle.outer.specs.Outer.{most}
 use Rattle.kinds.specs.declared.MessageType.{MessageType}
-use Rattle.message.specs.declared.Answer.{Answer}
-use Rattle.message.specs.declared.Answer.TheVariants.{Accepted, Refused}
+use Rattle.message.specs.Answer.{Answer}
 use Rattle.message.specs.Reading.{answer_of}
 use Rattle.lines.specs.Lines.{line_of as listing_line}
 use Rattle.mark.specs.Mark.{ends_line, line_start, ahead, line_end, shown_as, shown_all, blanks, shown_line, mark_line, drawn_at, drawn, drawn_for, marked_of}
+use Rattle.std.specs.Prelude.{Ok, Err}
+use Rattle.outer.specs.Refusal.{refusal}
 
 -- WHERE THE LINE BEGINS AND ENDS
 
@@ -110,10 +111,10 @@ drawn_short s place =
 
 -- WHAT IS PRINTED, by the answer
 
-pub accepted_marked : (m : List ℕ) (t : MessageType) (n : ℕ) → answer_of m most ≡ Accepted t n → listing_line m ≡ marked_of m
+pub accepted_marked : (m : List ℕ) (t : MessageType) (n : ℕ) → answer_of m most ≡ Ok (t, n) → listing_line m ≡ marked_of m
 unfolding marked_of
 accepted_marked m t n e = sym (ap (λ (a : Answer). listing_line m ++ drawn_for a m) e ∙ append-nil (listing_line m))
 
-pub refused_marked : (m : List ℕ) (number field place : ℕ) → answer_of m most ≡ Refused number field place → listing_line m ++ drawn m place ≡ marked_of m
+pub refused_marked : (m : List ℕ) (number field place : ℕ) → answer_of m most ≡ Err (refusal number field place) → listing_line m ++ drawn m place ≡ marked_of m
 unfolding marked_of
 refused_marked m number field place e = sym (ap (λ (a : Answer). listing_line m ++ drawn_for a m) e)

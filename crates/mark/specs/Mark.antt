@@ -1,12 +1,11 @@
 -- What is drawn below a refusal: the line of the message on which its place stands, and a mark below the byte of the place; and all that the
 -- program prints. Assumes nothing.
-use Rattle.std.specs.Prelude.{ℕ, zero, suc, ◌+◌, ◌-◌, min, ◌≡◌, refl, Bool, cond, ◌||◌, List, [], ◌∷◌, ◌++◌, eqb, ltb, length, take, drop, get_or}
+use Rattle.std.specs.Prelude.{ℕ, zero, suc, ◌+◌, ◌-◌, min, ◌≡◌, refl, Bool, cond, ◌||◌, List, [], ◌∷◌, ◌++◌, eqb, ltb, length, take, drop, get_or, Ok, Err}
 use Rattle.alphabet.specs.Text.{bytes}
 use Rattle.alphabet.specs.Alphabet.{one_of}
 use Rattle.outer.specs.Outer.{most}
 use Rattle.pieces.specs.Pieces.{pieces_of}
-use Rattle.message.specs.declared.Answer.{Answer}
-use Rattle.message.specs.declared.Answer.TheVariants.{Accepted, Refused}
+use Rattle.message.specs.Answer.{Answer}
 use Rattle.message.specs.Reading.{answer_of}
 use Rattle.lines.specs.Lines.{line_of as listing_line, each}
 
@@ -65,8 +64,8 @@ drawn s place = drawn_at s (min (length s) place)
 -- WHAT IS PRINTED of a piece: the line that the listing has, and behind a refusal the two lines of its place
 
 abbrev pub drawn_for : Answer → List ℕ → List ℕ
-drawn_for (Accepted t n) m = []
-drawn_for (Refused number field place) m = drawn m place
+drawn_for (Ok (t, n)) m = []
+drawn_for (Err r) m = drawn m r.place
 
 unfoldable pub marked_of : List ℕ → List ℕ
 marked_of m = listing_line m ++ drawn_for (answer_of m most) m

@@ -23,7 +23,6 @@ ghost use Rattle.mark.specs.Mark.{
   marked,
 };
 
-use message::Answer;
 use say::Console;
 use std::process::ExitCode;
 
@@ -140,12 +139,8 @@ fn put_marked(piece: &[u8], out: &mut [u8]) -> usize
     let answer = told.answer;
     let n = told.length;
     match answer {
-        Answer::Accepted(_, _) => n,
-        Answer::Refused {
-            number: _,
-            field: _,
-            place,
-        } => n + draw(piece, place, &mut out[n..]),
+        Ok(_) => n,
+        Err(refusal) => n + draw(piece, refusal.place, &mut out[n..]),
     }
 }
 

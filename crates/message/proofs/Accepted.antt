@@ -14,16 +14,16 @@ use Rattle.sent.proofs.Passed.{passed_message}
 use Rattle.kinds.specs.declared.MessageType.{MessageType}
 use Rattle.kinds.specs.Kinds.{forms_of}
 use Rattle.kinds.proofs.Fields.{least_some}
-use Rattle.message.specs.declared.Answer.{Answer}
-use Rattle.message.specs.declared.Answer.TheVariants.{Accepted, Refused}
+use Rattle.message.specs.Answer.{Answer}
 use Rattle.message.specs.Reading.{count_of, spelled_from, spelling_of, answer_of}
 use Rattle.message.specs.Message.{Message, sent_contents, spelling, valid_message, SentAs, message_from, accepts}
 use Rattle.message.proofs.Written.{spelled_message, written_all_lem}
 use Rattle.message.proofs.Reached.{Reached, reached_accepted, accepted_taken}
 use Rattle.message.proofs.Valid.{Fitting, filled, fitting_forms, fitting_length, filled_from, filled_contents, filled_valid}
-use Rattle.message.proofs.Valid.{fitting_contents, fitting_reached, valid_fitting, valid_from}
+use Rattle.message.proofs.Valid.{fitting_contents, fitting_reached, valid_fitting, valid_from, reached_passed, reached_fitting}
 use Rattle.kinds.proofs.Names.{name_one}
-use Rattle.message.proofs.Valid.{reached_passed, reached_fitting}
+use Rattle.std.specs.Prelude.{Ok, Err}
+use Rattle.outer.specs.Refusal.{refusal}
 
 -- WHAT IS WRITTEN of contents that fit is the spelling of their record
 
@@ -65,7 +65,7 @@ pub record RecordOf (M : Message) (m : List ℕ) (room : ℕ) (t : MessageType) 
   pub long : n ≡ length (spelling M)
   pub fits : n ≤ room
 
-pub accepted_record : (m : List ℕ) (room : ℕ) (t : MessageType) (n : ℕ) → answer_of m room ≡ Accepted t n → RecordOf (message_from t (contents m)) m room t n
+pub accepted_record : (m : List ℕ) (room : ℕ) (t : MessageType) (n : ℕ) → answer_of m room ≡ Ok (t, n) → RecordOf (message_from t (contents m)) m room t n
 accepted_record m room t n e =
     let k = accepted_taken t m room n e in
     let spelled = reached_spelling t m k.reached in
@@ -94,10 +94,10 @@ module _ (M : Message) (m : List ℕ) (v : valid_message M ≡ true) (s : SentAs
   pub record_spelling : spelling_of M.type m ≡ spelling M
   record_spelling = sym (reached_spelling M.type m record_reached) ∙ ap spelling record_from
 
-  pub record_accepted : (room : ℕ) → length (spelling M) ≤ room → answer_of m room ≡ Accepted M.type (length (spelling M))
+  pub record_accepted : (room : ℕ) → length (spelling M) ≤ room → answer_of m room ≡ Ok (M.type, length (spelling M))
   record_accepted room h =
       let l : length (spelling_of M.type m) ≡ length (spelling M) = ap length record_spelling in
-      reached_accepted M.type m room record_reached (omega arith) ∙ ap (Accepted M.type) l
+      reached_accepted M.type m room record_reached (omega arith) ∙ ap (λ (n : ℕ). Ok (M.type, n)) l
 
 -- THE RECORD IS THE ONLY ONE
 
@@ -122,17 +122,17 @@ pub accepted_fits : (m : List ℕ) (room : ℕ) → accepts (answer_of m room) �
 accepted_fits m room e = go (answer_of m room) refl e
   where
     go : (a : Answer) → answer_of m room ≡ a → accepts a ≡ true → Fits m room
-    go (Accepted t n) q e =
+    go (Ok (t, n)) q e =
         let r = accepted_record m room t n q in
         record { of = message_from t (contents m); valid = r.valid; sent = r.sent; fits = omega (arith, r.long, r.fits) }
-    go (Refused number field place) q e = absurd (false≢true e)
+    go (Err r) q e = absurd (false≢true e)
 
 pub fits_accepted : (m : List ℕ) (room : ℕ) → Fits m room → accepts (answer_of m room) ≡ true
 fits_accepted m room k = ap accepts (record_accepted k.of m k.valid k.sent room k.fits)
 
 -- so a message is refused where it is of no valid record, or the record's spelling is longer than the room
 pub refused_longer : (M : Message) (m : List ℕ) → valid_message M ≡ true → SentAs M m
-    → (room number field place : ℕ) → answer_of m room ≡ Refused number field place → room < length (spelling M)
+    → (room number field place : ℕ) → answer_of m room ≡ Err (refusal number field place) → room < length (spelling M)
 refused_longer M m v s room number field place e = go (ltb room (length (spelling M))) refl
   where
     go : (b : Bool) → ltb room (length (spelling M)) ≡ b → room < length (spelling M)

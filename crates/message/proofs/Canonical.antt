@@ -21,7 +21,6 @@ use Rattle.kinds.specs.Kinds.{plan_forms, brief_forms, request_forms, arrival_fo
 use Rattle.kinds.proofs.Fields.{each_count}
 use Rattle.records.specs.Records.{Records, contents_of, valid_all, canonical_all}
 use Rattle.records.proofs.Records.{all_taken, all_kept, all_settled, all_shorter}
-use Rattle.message.specs.declared.Answer.TheVariants.{Accepted}
 use Rattle.message.specs.Reading.{is_plan, unexplained_in, spelling_of, answer_of}
 use Rattle.message.specs.Message.{Message, fields_of, sent_contents, canonical_message, spelling, ranks_in, none_twice, explained, valid_message, SentAs}
 use Rattle.message.specs.Message.{message_from, record_in}
@@ -29,6 +28,7 @@ use Rattle.message.proofs.Plans.{plan_type}
 use Rattle.message.proofs.Written.{laws_all, written_all, written_all_lem, ranks_stay, all_stay_lem}
 use Rattle.message.proofs.Valid.{Fitting, fitting_forms, fitting_length, fitting_tidy, fitting_some, fitting_valid, valid_fields, valid_fitting}
 use Rattle.message.proofs.Accepted.{accepted_record, record_from, record_spelling, record_accepted, contents_one}
+use Rattle.std.specs.Prelude.{Ok}
 
 -- WHAT WRITING KEEPS
 
@@ -129,10 +129,10 @@ module _ (M : Message) (v : valid_message M ≡ true) where
     spelling_sent = record { short = omega (arith, spelling_shorter, s.short); same_bytes = spelling_reduced }
 
     -- with room for it, it is accepted, and written as it stands
-    pub spelling_accepted : (room : ℕ) → length (spelling M) ≤ room → answer_of (spelling M) room ≡ Accepted M.type (length (spelling M))
+    pub spelling_accepted : (room : ℕ) → length (spelling M) ≤ room → answer_of (spelling M) room ≡ Ok (M.type, length (spelling M))
     spelling_accepted room h =
         let e = ap length (spelling_settled M) in
-        record_accepted (canonical_message M) (spelling M) canonical_valid spelling_sent room (omega (arith, e)) ∙ ap (Accepted M.type) e
+        record_accepted (canonical_message M) (spelling M) canonical_valid spelling_sent room (omega (arith, e)) ∙ ap (λ (n : ℕ). Ok (M.type, n)) e
 
     pub spelling_written : spelling_of M.type (spelling M) ≡ spelling M
     spelling_written = record_spelling (canonical_message M) (spelling M) canonical_valid spelling_sent ∙ spelling_settled M
@@ -153,7 +153,7 @@ equal_spellings M N e = ap (λ (K : Message). message_of (sent_contents K)) e
 
 -- THE SAME, OF ACCEPTED MESSAGES
 
-module _ (m : List ℕ) (room : ℕ) (t : MessageType) (n : ℕ) (e : answer_of m room ≡ Accepted t n) where
+module _ (m : List ℕ) (room : ℕ) (t : MessageType) (n : ℕ) (e : answer_of m room ≡ Ok (t, n)) where
   -- what is written is the spelling of the record that is kept, and no longer than what was sent
   pub accepted_spelling : spelling_of t m ≡ message_of (sent_contents (record_in t m))
   accepted_spelling = sym (accepted_record m room t n e).spelled
@@ -164,11 +164,11 @@ module _ (m : List ℕ) (room : ℕ) (t : MessageType) (n : ℕ) (e : answer_of 
       omega (arith, r.long, spelling_shorter (message_from t (contents m)) r.valid m r.sent)
 
   -- reading it again, with room for it, accepts it, gives the same record and writes it again
-  pub accepted_again : (other : ℕ) → n ≤ other → answer_of (spelling_of t m) other ≡ Accepted t n
+  pub accepted_again : (other : ℕ) → n ≤ other → answer_of (spelling_of t m) other ≡ Ok (t, n)
   accepted_again other h =
       let r = accepted_record m room t n e in
       let a = spelling_accepted (message_from t (contents m)) r.valid m r.sent other (omega (arith, r.long, h)) in
-      ap (λ (w : List ℕ). answer_of w other) (sym r.spelled) ∙ a ∙ ap (Accepted t) (sym r.long)
+      ap (λ (w : List ℕ). answer_of w other) (sym r.spelled) ∙ a ∙ ap (λ (n : ℕ). Ok (t, n)) (sym r.long)
 
   pub same_record : record_in t (spelling_of t m) ≡ record_in t m
   same_record =
@@ -181,7 +181,7 @@ module _ (m : List ℕ) (room : ℕ) (t : MessageType) (n : ℕ) (e : answer_of 
       ap (spelling_of t) (sym r.spelled) ∙ spelling_written (message_from t (contents m)) r.valid m r.sent ∙ r.spelled
 
   -- another accepted message has an equal record exactly where it has an equal spelling
-  module _ (k : List ℕ) (other : ℕ) (u : MessageType) (l : ℕ) (d : answer_of k other ≡ Accepted u l) where
+  module _ (k : List ℕ) (other : ℕ) (u : MessageType) (l : ℕ) (d : answer_of k other ≡ Ok (u, l)) where
     pub accepted_equal : spelling_of t m ≡ spelling_of u k → record_in t m ≡ record_in u k
     accepted_equal h =
         let r = accepted_record m room t n e in

@@ -35,38 +35,39 @@ use Rattle.kinds.specs.Kinds.{plan_forms, brief_forms, request_forms, arrival_fo
 use Rattle.kinds.specs.Kinds.{types_read, type_ranked, type_named}
 use Rattle.forms.specs.Field22.{labels, fits22, fault22}
 use Rattle.plan.specs.Unexplained.{unexplained}
-use Rattle.message.specs.declared.Answer.TheVariants.{Accepted, Refused}
 use Rattle.message.specs.Reading.{place_of7, spelling_of, fault_in, count_as, answer_of, out_after, plan_itself}
+use Rattle.std.specs.Prelude.{Ok, Err}
+use Rattle.outer.specs.Refusal.{refusal}
 
 -- THE LISTING of document 01
 
-pub cancelled : answer_of (bytes "(CNL-ABC12-EHAM0930-EDDF-0)") 100 ≡ Accepted Cnl 27
+pub cancelled : answer_of (bytes "(CNL-ABC12-EHAM0930-EDDF-0)") 100 ≡ Ok (Cnl, 27)
 unfolding answer_of count_as fault_in spelling_of outer parens parens_from letters_from in_alphabet white reduced reduced_from stands_for_run opens closes
     hyphens type_named type_ranked types_read types forms_of brief_forms fits3 numbers_fit fits7 four_letters joined time_fits fits_in
 cancelled = refl
 
-pub not_a_time : answer_of (bytes "(DLA-ABC12-EHAM2460-EDDF-0)") 100 ≡ Refused 7 13 16
+pub not_a_time : answer_of (bytes "(DLA-ABC12-EHAM2460-EDDF-0)") 100 ≡ Err (refusal 7 13 16)
 unfolding answer_of place_of7 sent_place sent_from behind_hyphen time_place count_as fault_in outer parens parens_from letters_from in_alphabet white reduced
     reduced_from stands_for_run opens closes hyphens
     up_to_hyphen place_of_hyphen type_named type_ranked types_read types forms_of brief_forms form_at fits3 numbers_fit fits7 four_letters joined time_fits
 not_a_time = refl
 
-pub not_read : answer_of (bytes "(ACP-ABC12)") 100 ≡ Refused 5 3 0
+pub not_read : answer_of (bytes "(ACP-ABC12)") 100 ≡ Err (refusal 5 3 0)
 unfolding answer_of outer parens parens_from letters_from in_alphabet white type_named type_ranked types_read types
 not_read = refl
 
 -- A MESSAGE OF EACH TYPE is accepted; field 19 is rewritten, and white space reduced
 
 pub accepted_types :
-    (answer_of (bytes "(FPL-ABC12-IS-B738/M-SDFG/S-EHAM0930-N0440F310 DCT PAM DCT-EDDF0100 EDDK-0)") 100 ≡ Accepted Fpl 75)
-    × (answer_of (bytes "(CHG-ABC12-EHAM0930-EDDF-0-9/B39M/M-8/IN)") 100 ≡ Accepted Chg 41)
-    × (answer_of (bytes "(DLA-ABC12-EHAM0930-EDDF-0)") 100 ≡ Accepted Dla 27)
-    × (answer_of (bytes "(DEP-ABC12 \r\n-EHAM0930-EDDF-0)") 100 ≡ Accepted Dep 27)
-    × (answer_of (bytes "(ARR-ABC12-EHAM0930-EDDF1433)") 100 ≡ Accepted Arr 29)
-    × (answer_of (bytes "(ARR-ABC12-EHAM0930-EDDF-ZZZZ1620 SOBKIVKA)") 100 ≡ Accepted Arr 43)
-    × (answer_of (bytes "(RQP-ABC12-EHAM-EDDF-0)") 100 ≡ Accepted Rqp 23)
-    × (answer_of (bytes "(RQS-ABC12-EHAM0930-EDDF-0)") 100 ≡ Accepted Rqs 27)
-    × (answer_of (bytes "(SPL-ABC12-EHAM0930-EDDF0100-0-P/006 R/EVU)") 100 ≡ Accepted Spl 41)
+    (answer_of (bytes "(FPL-ABC12-IS-B738/M-SDFG/S-EHAM0930-N0440F310 DCT PAM DCT-EDDF0100 EDDK-0)") 100 ≡ Ok (Fpl, 75))
+    × (answer_of (bytes "(CHG-ABC12-EHAM0930-EDDF-0-9/B39M/M-8/IN)") 100 ≡ Ok (Chg, 41))
+    × (answer_of (bytes "(DLA-ABC12-EHAM0930-EDDF-0)") 100 ≡ Ok (Dla, 27))
+    × (answer_of (bytes "(DEP-ABC12 \r\n-EHAM0930-EDDF-0)") 100 ≡ Ok (Dep, 27))
+    × (answer_of (bytes "(ARR-ABC12-EHAM0930-EDDF1433)") 100 ≡ Ok (Arr, 29))
+    × (answer_of (bytes "(ARR-ABC12-EHAM0930-EDDF-ZZZZ1620 SOBKIVKA)") 100 ≡ Ok (Arr, 43))
+    × (answer_of (bytes "(RQP-ABC12-EHAM-EDDF-0)") 100 ≡ Ok (Rqp, 23))
+    × (answer_of (bytes "(RQS-ABC12-EHAM0930-EDDF-0)") 100 ≡ Ok (Rqs, 27))
+    × (answer_of (bytes "(SPL-ABC12-EHAM0930-EDDF0100-0-P/006 R/EVU)") 100 ≡ Ok (Spl, 41))
     × (spelling_of Spl (bytes "(SPL-ABC12-EHAM0930-EDDF0100-0-P/006 R/EVU)") ≡ bytes "(SPL-ABC12-EHAM0930-EDDF0100-0-P/6 R/UVE)")
 unfolding answer_of count_as fault_in spelling_of outer parens parens_from letters_from in_alphabet white text reduced reduced_from stands_for_run opens closes
     hyphens type_named type_ranked types_read types forms_of plan_forms brief_forms request_forms arrival_forms diverted_forms supplement_forms fits3
@@ -78,24 +79,24 @@ accepted_types = (refl, refl, refl, refl, refl, refl, refl, refl, refl, refl)
 -- A REFUSAL OF EACH NUMBER (5 and 7 are in the listing)
 
 pub refused_outer :
-    (answer_of (replicate 1801 40) 100 ≡ Refused 1 0 1800)
-    × (answer_of (bytes "") 100 ≡ Refused 2 0 0)
-    × (answer_of (bytes "(") 100 ≡ Refused 2 0 1)
-    × (answer_of (bytes "((") 100 ≡ Refused 2 0 1)
-    × (answer_of (bytes "(CNL*)") 100 ≡ Refused 3 0 4)
-    × (answer_of (bytes "(XYZ-ABC12)") 100 ≡ Refused 4 3 0)
-    × (answer_of (bytes "(CN)") 100 ≡ Refused 4 3 0)
+    (answer_of (replicate 1801 40) 100 ≡ Err (refusal 1 0 1800))
+    × (answer_of (bytes "") 100 ≡ Err (refusal 2 0 0))
+    × (answer_of (bytes "(") 100 ≡ Err (refusal 2 0 1))
+    × (answer_of (bytes "((") 100 ≡ Err (refusal 2 0 1))
+    × (answer_of (bytes "(CNL*)") 100 ≡ Err (refusal 3 0 4))
+    × (answer_of (bytes "(XYZ-ABC12)") 100 ≡ Err (refusal 4 3 0))
+    × (answer_of (bytes "(CN)") 100 ≡ Err (refusal 4 3 0))
 unfolding answer_of outer parens parens_from letters_from in_alphabet white type_named type_ranked types_read types
 refused_outer = (refl, refl, refl, refl, refl, refl, refl)
 
 pub refused_fields :
-    (answer_of (bytes "(CNL-ABC12)") 100 ≡ Refused 6 0 10)
-    × (answer_of (bytes "(CNL-ABC12-EHAM0930-EDDF-0-0-0)") 100 ≡ Refused 6 0 26)
-    × (answer_of (bytes "(CHG-ABC12-EHAM0930-EDDF-0-9/X)") 100 ≡ Refused 7 22 30)
-    × (answer_of (bytes "(CHG-ABC12-EHAM0930-EDDF-0-14/X)") 100 ≡ Refused 8 22 26)
-    × (answer_of (bytes "(CHG-ABC12-EHAM0930-EDDF-0-8/IN-8/IS)") 100 ≡ Refused 9 22 31)
-    × (answer_of (bytes "(FPL-ABC12-IS-ZZZZ/M-SDFG/S-EHAM0930-N0440F310 DCT PAM DCT-EDDF0100 EDDK-0)") 100 ≡ Refused 10 9 13)
-    × (answer_of (bytes "(CNL-ABC12-EHAM0930-EDDF-0)") 26 ≡ Refused 11 0 0)
+    (answer_of (bytes "(CNL-ABC12)") 100 ≡ Err (refusal 6 0 10))
+    × (answer_of (bytes "(CNL-ABC12-EHAM0930-EDDF-0-0-0)") 100 ≡ Err (refusal 6 0 26))
+    × (answer_of (bytes "(CHG-ABC12-EHAM0930-EDDF-0-9/X)") 100 ≡ Err (refusal 7 22 30))
+    × (answer_of (bytes "(CHG-ABC12-EHAM0930-EDDF-0-14/X)") 100 ≡ Err (refusal 8 22 26))
+    × (answer_of (bytes "(CHG-ABC12-EHAM0930-EDDF-0-8/IN-8/IS)") 100 ≡ Err (refusal 9 22 31))
+    × (answer_of (bytes "(FPL-ABC12-IS-ZZZZ/M-SDFG/S-EHAM0930-N0440F310 DCT PAM DCT-EDDF0100 EDDK-0)") 100 ≡ Err (refusal 10 9 13))
+    × (answer_of (bytes "(CNL-ABC12-EHAM0930-EDDF-0)") 26 ≡ Err (refusal 11 0 0))
 unfolding answer_of place_of7 sent_place sent_from behind_hyphen place9 aircraft_place place22 count_as fault_in spelling_of outer parens parens_from
     letters_from
     in_alphabet white reduced reduced_from stands_for_run opens closes
@@ -118,10 +119,10 @@ written_out = (refl, refl, refl)
 -- POINTING AT THE BYTE: a run where no space may stand has its first byte, a content that stops too soon before white space that drops out has
 -- the first byte that drops out
 pub pointed :
-    (answer_of (bytes "(CNL-ABC12-EHAM \r\n0930-EDDF-0)") 100 ≡ Refused 7 13 15)
-    × (answer_of (bytes "(CNL-ABC12-EHAM09 \r\n-EDDF-0)") 100 ≡ Refused 7 13 17)
-    × (answer_of (bytes "(CNL-ABC12/A7780 -EHAM0930-EDDF-0)") 100 ≡ Refused 7 7 14)
-    × (answer_of (bytes "(CNL-ABC12-EHAM0930- EDDF-0)") 100 ≡ Refused 7 16 20)
+    (answer_of (bytes "(CNL-ABC12-EHAM \r\n0930-EDDF-0)") 100 ≡ Err (refusal 7 13 15))
+    × (answer_of (bytes "(CNL-ABC12-EHAM09 \r\n-EDDF-0)") 100 ≡ Err (refusal 7 13 17))
+    × (answer_of (bytes "(CNL-ABC12/A7780 -EHAM0930-EDDF-0)") 100 ≡ Err (refusal 7 7 14))
+    × (answer_of (bytes "(CNL-ABC12-EHAM0930- EDDF-0)") 100 ≡ Err (refusal 7 16 20))
 unfolding answer_of place_of7 sent_place sent_from behind_hyphen time_place place7 letters count_as fault_in outer parens parens_from letters_from in_alphabet
     white
     reduced reduced_from stands_for_run opens closes hyphens up_to_hyphen place_of_hyphen type_named type_ranked types_read types forms_of brief_forms form_at

@@ -19,10 +19,10 @@ use Rattle.forms.specs.Forms.{field_of, is_entry, rank_in, fault_of}
 use Rattle.forms.proofs.Forms.{fault_fits, fits_fault, fault_once}
 use Rattle.forms.proofs.Field22.{fitting}
 use Rattle.forms.proofs.Faults.{fault_none}
-use Rattle.message.specs.declared.Fault.{Fault}
-use Rattle.message.specs.declared.Fault.TheVariants.{Clear, At}
+use Rattle.message.specs.Answer.{Fault, fault_at}
 use Rattle.message.specs.Reading.{fault_from, fault_in}
 use Rattle.message.specs.Message.{ranks_in, none_twice}
+use Rattle.std.specs.Prelude.{Ok, Err}
 
 -- none of xs is one of earlier
 abbrev pub fresh : List ℕ → List ℕ → Bool
@@ -83,7 +83,7 @@ pub record Faultless (earlier : List ℕ) (fs : List Form) (cs : List Word) : Ty
   pub new : fresh earlier (ranks_in fs cs) ≡ true
   pub once : none_twice (ranks_in fs cs) ≡ true
 
-pub clear_faultless : (earlier : List ℕ) (j : ℕ) (fs : List Form) (cs : List Word) → length fs ≡ length cs → fault_from earlier j fs cs ≡ Clear
+pub clear_faultless : (earlier : List ℕ) (j : ℕ) (fs : List Form) (cs : List Word) → length fs ≡ length cs → fault_from earlier j fs cs ≡ Ok tt
     → Faultless earlier fs cs
 clear_faultless earlier j [] [] l e = record { fit = refl; new = refl; once = refl }
 clear_faultless earlier j [] (c ∷ cs) l e = absurd (omega arith)
@@ -109,14 +109,14 @@ clear_faultless earlier j (f ∷ fs) (c ∷ cs) l e =
           once = rw p k.once;
         }
 
-    go : (fault_from (rank_in f c ∷ earlier) (suc j) fs cs ≡ Clear → Faultless (rank_in f c ∷ earlier) fs cs) → (b : Bool)
+    go : (fault_from (rank_in f c ∷ earlier) (suc j) fs cs ≡ Ok tt → Faultless (rank_in f c ∷ earlier) fs cs) → (b : Bool)
         → eqb (fault_of (one_of (rank_in f c) earlier) f c) 0 ≡ b
-        → cond b (fault_from (rank_in f c ∷ earlier) (suc j) fs cs) (At (fault_of (one_of (rank_in f c) earlier) f c) j) ≡ Clear
+        → cond b (fault_from (rank_in f c ∷ earlier) (suc j) fs cs) (Err (fault_at (fault_of (one_of (rank_in f c) earlier) f c) j)) ≡ Ok tt
         → Faultless earlier (f ∷ fs) (c ∷ cs)
     go ih true p q = step (eqb-true (fault_of (one_of (rank_in f c) earlier) f c) 0 p) (ih q) (is_entry f) refl
-    go ih false p q = let z : ◌≡◌ {A = ℕ} 0 1 = cc in absurd (omega arith)
+    go ih false p q = cc
 
-pub faultless_clear : (earlier : List ℕ) (j : ℕ) (fs : List Form) (cs : List Word) → Faultless earlier fs cs → fault_from earlier j fs cs ≡ Clear
+pub faultless_clear : (earlier : List ℕ) (j : ℕ) (fs : List Form) (cs : List Word) → Faultless earlier fs cs → fault_from earlier j fs cs ≡ Ok tt
 faultless_clear earlier j [] cs k = refl
 faultless_clear earlier j (f ∷ fs) [] k = refl
 faultless_clear earlier j (f ∷ fs) (c ∷ cs) k = go (faultless_clear (rank_in f c ∷ earlier) (suc j) fs cs) (is_entry f) refl
@@ -124,8 +124,8 @@ faultless_clear earlier j (f ∷ fs) (c ∷ cs) k = go (faultless_clear (rank_in
     h : ((field_of f).fits c ≡ true) × (fit_all (map field_of fs) cs ≡ true)
     h = both ((field_of f).fits c) (fit_all (map field_of fs) cs) k.fit
 
-    go : (Faultless (rank_in f c ∷ earlier) fs cs → fault_from (rank_in f c ∷ earlier) (suc j) fs cs ≡ Clear) → (b : Bool) → is_entry f ≡ b
-        → fault_from earlier j (f ∷ fs) (c ∷ cs) ≡ Clear
+    go : (Faultless (rank_in f c ∷ earlier) fs cs → fault_from (rank_in f c ∷ earlier) (suc j) fs cs ≡ Ok tt) → (b : Bool) → is_entry f ≡ b
+        → fault_from earlier j (f ∷ fs) (c ∷ cs) ≡ Ok tt
     go ih true p =
         let w : rank_in f c ≡ which_of c = rw p in
         let new : (not (one_of (which_of c) earlier) && fresh earlier (ranks_in fs cs)) ≡ true = rw p at k.new in
@@ -149,8 +149,8 @@ faultless_clear earlier j (f ∷ fs) (c ∷ cs) k = go (faultless_clear (rank_in
 -- THE FIELD OF A FAULT is one of the fields
 
 abbrev FaultBefore : ℕ → Fault → Type 0
-FaultBefore n Clear = Unit
-FaultBefore n (At number j) = j < n
+FaultBefore n (Ok u) = Unit
+FaultBefore n (Err r) = r.field < n
 
 fault_before : (earlier : List ℕ) (i : ℕ) (fs : List Form) (cs : List Word) → FaultBefore (i + length cs) (fault_from earlier i fs cs)
 fault_before earlier i [] cs = tt
@@ -162,11 +162,11 @@ fault_before earlier i (f ∷ fs) (c ∷ cs) =
     further = fault_from (rank_in f c ∷ earlier) (suc i) fs cs
 
     go : (b : Bool) → FaultBefore (suc i + length cs) further
-        → FaultBefore (i + suc (length cs)) (cond b further (At (fault_of (one_of (rank_in f c) earlier) f c) i))
+        → FaultBefore (i + suc (length cs)) (cond b further (Err (fault_at (fault_of (one_of (rank_in f c) earlier) f c) i)))
     go true h = let z : suc i + length cs ≡ i + suc (length cs) = omega arith in subst (λ (n : ℕ). FaultBefore n further) z h
     go false h = omega arith
 
-pub fault_inside : (t : MessageType) (n : ℕ) (cs : List Word) (number j : ℕ) → fault_in t n cs ≡ At number j → j < length cs
+pub fault_inside : (t : MessageType) (n : ℕ) (cs : List Word) (number j : ℕ) → fault_in t n cs ≡ Err (fault_at number j) → j < length cs
 unfolding fault_in
 fault_inside t n cs number j e =
     let inside : j < 0 + length cs = subst (FaultBefore (0 + length cs)) e (fault_before [] 0 (forms_of t n) cs) in

@@ -10,13 +10,13 @@ use Rattle.kinds.specs.declared.MessageType.{MessageType}
 use Rattle.kinds.specs.Kinds.{forms_of}
 use Rattle.records.specs.Records.{Records, canonical_all}
 use Rattle.forms.proofs.Meaning.{all_apart, all_together}
-use Rattle.message.specs.declared.Answer.TheVariants.{Accepted}
 use Rattle.message.specs.Reading.{spelling_of, answer_of}
 use Rattle.message.specs.Message.{Message, fields_of, canonical_message, valid_message, message_from}
 use Rattle.message.specs.Meaning.{SameMessage, same_fields}
 use Rattle.message.proofs.Valid.{valid_fields}
 use Rattle.message.proofs.Accepted.{accepted_record}
 use Rattle.message.proofs.Canonical.{accepted_again, same_spelling, accepted_equal, equal_accepted}
+use Rattle.std.specs.Prelude.{Ok}
 
 -- a message whose canonical record is K
 data Kept (K : Message) : Message → Type 0 where
@@ -40,9 +40,9 @@ same_together M N v w (same_fields qs a) =
 
 -- THE SAME, OF ACCEPTED MESSAGES
 
-module _ (m : List ℕ) (room : ℕ) (t : MessageType) (n : ℕ) (e : answer_of m room ≡ Accepted t n) where
+module _ (m : List ℕ) (room : ℕ) (t : MessageType) (n : ℕ) (e : answer_of m room ≡ Ok (t, n)) where
   -- another accepted message says the same exactly where it has an equal spelling
-  module _ (k : List ℕ) (other : ℕ) (u : MessageType) (l : ℕ) (d : answer_of k other ≡ Accepted u l) where
+  module _ (k : List ℕ) (other : ℕ) (u : MessageType) (l : ℕ) (d : answer_of k other ≡ Ok (u, l)) where
     pub spelling_apart : spelling_of t m ≡ spelling_of u k → SameMessage (message_from t (contents m)) (message_from u (contents k))
     spelling_apart h =
         let r = accepted_record m room t n e in

@@ -12,20 +12,16 @@ use Rattle.text.specs.Words.{up_to}
 use Rattle.space.specs.Hyphens.{up_to_hyphen, place_of_hyphen}
 use Rattle.space.specs.Places.{sent_from, past_lead, sent_place}
 use Rattle.sent.specs.Sent.{contents}
-use Rattle.outer.specs.declared.Outer.{Outer}
-use Rattle.outer.specs.declared.Outer.TheVariants.{Good, Bad}
+use Rattle.outer.specs.Refusal.{Checked, refusal}
 use Rattle.outer.specs.Outer.{closing, parens_from, parens, letters_from, or_else, outer}
 use Rattle.kinds.specs.declared.MessageType.{MessageType}
-use Rattle.kinds.specs.declared.Named.{Named}
-use Rattle.kinds.specs.declared.Named.TheVariants.{Read, NotRead, NoType}
-use Rattle.kinds.specs.Kinds.{least_of, greatest_of, form_at, type_named}
+use Rattle.kinds.specs.Kinds.{Named, least_of, greatest_of, form_at, type_named}
 use Rattle.form_places.specs.Places.{place_in}
-use Rattle.message.specs.declared.Fault.{Fault}
-use Rattle.message.specs.declared.Fault.TheVariants.{Clear, At}
-use Rattle.message.specs.declared.Answer.{Answer}
-use Rattle.message.specs.declared.Answer.TheVariants.{Accepted, Refused}
+use Rattle.message.specs.Answer.{Fault, Answer}
 use Rattle.message.specs.Reading.{count_of, content_of, spelling_of, fault_in, place_of7, is_plan, unexplained_in, place_in_plan}
 use Rattle.message.specs.Reading.{room_as, explained_as, fault_as, count_as, type_as, three, outer_as, answer_of}
+use Rattle.std.specs.Prelude.{Ok, Err}
+use Rattle.kinds.specs.declared.TypeFault.TheVariants.{NotRead, NoType}
 
 -- HYPHENS
 
@@ -74,9 +70,9 @@ sent_inside j n m =
 
 -- NUMBERS 1 TO 3
 
-abbrev OuterInside : ℕ → Outer → Type 0
-OuterInside most Good = Unit
-OuterInside most (Bad number place) = place ≤ most
+abbrev OuterInside : ℕ → Checked → Type 0
+OuterInside most (Ok u) = Unit
+OuterInside most (Err r) = r.place ≤ most
 
 closing_inside : (i most : ℕ) (s : List ℕ) → i ≤ most → OuterInside most (closing i s)
 closing_inside i most [] h = tt
@@ -87,7 +83,8 @@ unfolding parens_from
 parens_from_lem i most [] h = omega arith
 parens_from_lem i most (b ∷ s) h = go (parens_from_lem (suc i) most s (omega arith)) (eqb b 41) (eqb b 40)
   where
-    go : OuterInside most (parens_from (suc i) s) → (x y : Bool) → OuterInside most (cond x (closing i s) (cond y (Bad 2 i) (parens_from (suc i) s)))
+    go : OuterInside most (parens_from (suc i) s) → (x y : Bool)
+        → OuterInside most (cond x (closing i s) (cond y (Err (refusal 2 0 i)) (parens_from (suc i) s)))
     go ih true y = closing_inside i most s (omega arith)
     go ih false true = omega arith
     go ih false false = ih
@@ -97,7 +94,7 @@ unfolding parens
 parens_inside [] = omega arith
 parens_inside (b ∷ s) = go (eqb b 40)
   where
-    go : (x : Bool) → OuterInside (suc (length s)) (cond x (parens_from 1 s) (Bad 2 0))
+    go : (x : Bool) → OuterInside (suc (length s)) (cond x (parens_from 1 s) (Err (refusal 2 0 0)))
     go true = parens_from_lem 1 (suc (length s)) s (omega arith)
     go false = omega arith
 
@@ -106,50 +103,50 @@ unfolding letters_from
 letters_from_lem i most [] h = tt
 letters_from_lem i most (b ∷ s) h = go (letters_from_lem (suc i) most s (omega arith)) (in_alphabet b)
   where
-    go : OuterInside most (letters_from (suc i) s) → (x : Bool) → OuterInside most (cond x (letters_from (suc i) s) (Bad 3 i))
+    go : OuterInside most (letters_from (suc i) s) → (x : Bool) → OuterInside most (cond x (letters_from (suc i) s) (Err (refusal 3 0 i)))
     go ih true = ih
     go ih false = omega arith
 
-first_inside : (most : ℕ) (o p : Outer) → OuterInside most o → OuterInside most p → OuterInside most (or_else o p)
-first_inside most Good p h k = k
-first_inside most (Bad number place) p h k = h
+first_inside : (most : ℕ) (o p : Checked) → OuterInside most o → OuterInside most p → OuterInside most (or_else o p)
+first_inside most (Ok u) p h k = k
+first_inside most (Err r) p h k = h
 
 outer_inside : (m : List ℕ) → OuterInside (length m) (outer m)
 unfolding outer
 outer_inside m = go (ltb 1800 (length m)) refl
   where
-    go : (x : Bool) → ltb 1800 (length m) ≡ x → OuterInside (length m) (cond x (Bad 1 1800) (or_else (parens m) (letters_from 0 m)))
+    go : (x : Bool) → ltb 1800 (length m) ≡ x → OuterInside (length m) (cond x (Err (refusal 1 0 1800)) (or_else (parens m) (letters_from 0 m)))
     go true e = omega (arith, ltb-true 1800 (length m) e)
     go false e = first_inside (length m) (parens m) (letters_from 0 m) (parens_inside m) (letters_from_lem 0 (length m) m (omega arith))
 
 -- ALL NUMBERS
 
 abbrev Inside : ℕ → Answer → Type 0
-Inside most (Accepted t n) = Unit
-Inside most (Refused number field place) = place ≤ most
+Inside most (Ok (t, n)) = Unit
+Inside most (Err r) = r.place ≤ most
 
 room_inside : (t : MessageType) (m : List ℕ) (room : ℕ) → Inside (length m) (room_as t m room)
 room_inside t m room = go (ltb room (length (spelling_of t m)))
   where
-    go : (b : Bool) → Inside (length m) (cond b (Refused 11 0 0) (Accepted t (length (spelling_of t m))))
+    go : (b : Bool) → Inside (length m) (cond b (Err (refusal 11 0 0)) (Ok (t, length (spelling_of t m))))
     go true = omega arith
     go false = tt
 
 explained_inside : (field : ℕ) (t : MessageType) (m : List ℕ) (room : ℕ) → Inside (length m) (explained_as field t m room)
 explained_inside field t m room = go (eqb field 0)
   where
-    go : (b : Bool) → Inside (length m) (cond b (room_as t m room) (Refused 10 field (place_of_hyphen (place_in_plan field) m)))
+    go : (b : Bool) → Inside (length m) (cond b (room_as t m room) (Err (refusal 10 field (place_of_hyphen (place_in_plan field) m))))
     go true = room_inside t m room
     go false = hyphen_inside (place_in_plan field) m
 
 fields_inside : (f : Fault) (t : MessageType) (m : List ℕ) (room : ℕ) → Inside (length m) (fault_as f t m room)
 unfolding place_of7
-fields_inside Clear t m room = explained_inside (cond (is_plan t) (unexplained_in (contents m)) 0) t m room
-fields_inside (At number j) t m room = go (eqb number 7)
+fields_inside (Ok u) t m room = explained_inside (cond (is_plan t) (unexplained_in (contents m)) 0) t m room
+fields_inside (Err r) t m room = go (eqb r.number 7)
   where
-    go : (b : Bool) → cond b (place_of7 t j m) (place_of_hyphen j m) ≤ length m
-    go true = sent_inside j (place_in (form_at t (count_of m) j) (content_of j m)) m
-    go false = hyphen_inside j m
+    go : (b : Bool) → cond b (place_of7 t r.field m) (place_of_hyphen r.field m) ≤ length m
+    go true = sent_inside r.field (place_in (form_at t (count_of m) r.field) (content_of r.field m)) m
+    go false = hyphen_inside r.field m
 
 count_inside : (t : MessageType) (m : List ℕ) (room : ℕ) → Inside (length m) (count_as t m room)
 unfolding count_as
@@ -157,25 +154,25 @@ count_inside t m room = go (ltb (count_of m) (least_of t)) (ltb (greatest_of t) 
   where
     go : (x y : Bool)
         → Inside (length m)
-        (cond x (Refused 6 0 (length m - 1))
-        (cond y (Refused 6 0 (place_of_hyphen (greatest_of t) m))
+        (cond x (Err (refusal 6 0 (length m - 1)))
+        (cond y (Err (refusal 6 0 (place_of_hyphen (greatest_of t) m)))
         (fault_as (fault_in t (count_of m) (contents m)) t m room)))
     go true y = omega arith
     go false true = hyphen_inside (greatest_of t) m
     go false false = fields_inside (fault_in t (count_of m) (contents m)) t m room
 
 type_inside : (k : Named) (m : List ℕ) (room : ℕ) → Inside (length m) (type_as k m room)
-type_inside NoType m room = omega arith
-type_inside NotRead m room = omega arith
-type_inside (Read t) m room = count_inside t m room
+type_inside (Err NoType) m room = omega arith
+type_inside (Err NotRead) m room = omega arith
+type_inside (Ok t) m room = count_inside t m room
 
-whole_inside : (o : Outer) (m : List ℕ) → OuterInside (length m) o → (room : ℕ) → Inside (length m) (outer_as o m room)
-whole_inside Good m h room = type_inside (type_named (three m)) m room
-whole_inside (Bad number place) m h room = h
+whole_inside : (o : Checked) (m : List ℕ) → OuterInside (length m) o → (room : ℕ) → Inside (length m) (outer_as o m room)
+whole_inside (Ok u) m h room = type_inside (type_named (three m)) m room
+whole_inside (Err r) m h room = h
 
 answer_inside : (m : List ℕ) (room : ℕ) → Inside (length m) (answer_of m room)
 unfolding answer_of
 answer_inside m room = whole_inside (outer m) m (outer_inside m) room
 
-pub refused_place : (m : List ℕ) (room number field place : ℕ) → answer_of m room ≡ Refused number field place → place ≤ length m
+pub refused_place : (m : List ℕ) (room number field place : ℕ) → answer_of m room ≡ Err (refusal number field place) → place ≤ length m
 refused_place m room number field place e = subst (λ (a : Answer). Inside (length m) a) e (answer_inside m room)

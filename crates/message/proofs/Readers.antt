@@ -10,11 +10,13 @@ use Rattle.alphabet.specs.Text.{bytes}
 use Rattle.text.specs.Lent.{front}
 use Rattle.kinds.specs.declared.MessageType.{MessageType}
 use Rattle.kinds.specs.declared.MessageType.TheVariants.{Cnl, Dla}
-use Rattle.message.specs.declared.Answer.{Answer}
-use Rattle.message.specs.declared.Answer.TheVariants.{Accepted, Refused}
+use Rattle.outer.proofs.Same.{ok_same}
+use Rattle.message.specs.Answer.{Answer}
 use Rattle.message.specs.Reading.{answer_of}
 use Rattle.message.specs.Message.{accepts, Meets, Writes}
 use Rattle.message.proofs.Examples.{cancelled, not_a_time, accepted_types, written_out}
+use Rattle.std.specs.Prelude.{Ok, Err}
+use Rattle.outer.specs.Refusal.{refusal}
 
 abbrev cancelling : List ℕ
 cancelling = bytes "(CNL-ABC12-EHAM0930-EDDF-0)"
@@ -25,7 +27,7 @@ delaying = bytes "(DLA-ABC12-EHAM0930-EDDF-0)"
 abbrev misdelaying : List ℕ
 misdelaying = bytes "(DLA-ABC12-EHAM2460-EDDF-0)"
 
-delayed : answer_of delaying 100 ≡ Accepted Dla 27
+delayed : answer_of delaying 100 ≡ Ok (Dla, 27)
 delayed = accepted_types.2
 
 -- a reader that refuses all
@@ -39,35 +41,33 @@ accepts_all r each meets = false≢true (sym (ap accepts (meets misdelaying 100 
 -- a reader that gives one fixed answer
 pub one_answer : (a : Answer) → Meets (λ m room. a) → ⊥
 one_answer a meets =
-    let e : Accepted Cnl 27 ≡ Refused 7 13 16 = sym (meets cancelling 100 ∙ cancelled) ∙ meets misdelaying 100 ∙ not_a_time in
-    let z : ◌≡◌ {A = ℕ} 0 1 = cc in
-    omega arith
+    let e : ◌≡◌ {A = Answer} (Ok (Cnl, 27)) (Err (refusal 7 13 16)) = sym (meets cancelling 100 ∙ cancelled) ∙ meets misdelaying 100 ∙ not_a_time in
+    cc
 
 -- a reader that points elsewhere than at the byte
 abbrev place_given : Answer → ℕ
-place_given (Accepted t n) = 0
-place_given (Refused number field place) = place
+place_given (Ok (t, n)) = 0
+place_given (Err r) = r.place
 
-pub points_elsewhere : (r : List ℕ → ℕ → Answer) (p : ℕ) → r misdelaying 100 ≡ Refused 7 13 p → (p ≡ 16 → ⊥) → Meets r → ⊥
+pub points_elsewhere : (r : List ℕ → ℕ → Answer) (p : ℕ) → r misdelaying 100 ≡ Err (refusal 7 13 p) → (p ≡ 16 → ⊥) → Meets r → ⊥
 points_elsewhere r p e n meets = n (ap place_given (sym e ∙ meets misdelaying 100 ∙ not_a_time))
 
 -- one byte early, one byte late, and at the field's `-`
 pub wrong_places : (r : List ℕ → ℕ → Answer)
-    → (r misdelaying 100 ≡ Refused 7 13 15 → Meets r → ⊥) × (r misdelaying 100 ≡ Refused 7 13 17 → Meets r → ⊥)
-    × (r misdelaying 100 ≡ Refused 7 13 10 → Meets r → ⊥)
+    → (r misdelaying 100 ≡ Err (refusal 7 13 15) → Meets r → ⊥) × (r misdelaying 100 ≡ Err (refusal 7 13 17) → Meets r → ⊥)
+    × (r misdelaying 100 ≡ Err (refusal 7 13 10) → Meets r → ⊥)
 wrong_places r =
     (λ e. points_elsewhere r 15 e (λ z. omega arith), λ e. points_elsewhere r 17 e (λ z. omega arith), λ e. points_elsewhere r 10 e (λ z. omega arith))
 
 -- a reader that accepts some, but all that it accepts as one type and of one length
-pub one_acceptance : (t : MessageType) (n : ℕ) (r : List ℕ → ℕ → Answer) → ((m : List ℕ) (room : ℕ) → accepts (r m room) ≡ true → r m room ≡ Accepted t n)
+pub one_acceptance : (t : MessageType) (n : ℕ) (r : List ℕ → ℕ → Answer) → ((m : List ℕ) (room : ℕ) → accepts (r m room) ≡ true → r m room ≡ Ok (t, n))
     → Meets r → ⊥
 one_acceptance t n r one meets =
     let a = meets cancelling 100 ∙ cancelled in
     let b = meets delaying 100 ∙ delayed in
-    let e : Accepted Cnl 27 ≡ Accepted Dla 27 = sym a ∙ one cancelling 100 (ap accepts a) ∙ sym (one delaying 100 (ap accepts b)) ∙ b in
-    let d : Cnl ≡ Dla = cc in
-    let z : ◌≡◌ {A = ℕ} 0 1 = cc in
-    omega arith
+    let e : ◌≡◌ {A = Answer} (Ok (Cnl, 27)) (Ok (Dla, 27)) = sym a ∙ one cancelling 100 (ap accepts a) ∙ sym (one delaying 100 (ap accepts b)) ∙ b in
+    let same = (ok_same Cnl Dla 27 27 e).0 in
+    cc
 
 -- a reader that writes one fixed spelling, whatever it accepts
 pub one_spelling : (w : List ℕ) (o : List ℕ → List ℕ → List ℕ) → ((m out : List ℕ) → accepts (answer_of m (length out)) ≡ true → o m out ≡ front w out)

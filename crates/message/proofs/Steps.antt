@@ -18,7 +18,6 @@ use Rattle.space.proofs.Reduced.{never_longer}
 use Rattle.space.proofs.Frame.{frame_stays}
 use Rattle.sent.specs.Sent.{contents}
 use Rattle.sent.proofs.Passed.{passed_count}
-use Rattle.outer.specs.declared.Outer.TheVariants.{Good}
 use Rattle.outer.specs.Outer.{outer, Passed}
 use Rattle.outer.proofs.Good.{good_passed}
 use Rattle.kinds.specs.declared.MessageType.{MessageType}
@@ -27,13 +26,12 @@ use Rattle.kinds.specs.Kinds.{least_of, greatest_of, types_read, forms_of, form_
 use Rattle.kinds.proofs.Fields.{forms_length}
 use Rattle.kinds.proofs.Names.{each}
 use Rattle.form_places.specs.Places.{place_in}
-use Rattle.message.specs.declared.Fault.{Fault}
-use Rattle.message.specs.declared.Fault.TheVariants.{Clear, At}
-use Rattle.message.specs.declared.Answer.TheVariants.{Accepted, Refused}
+use Rattle.message.specs.Answer.{Fault, fault_at}
 use Rattle.message.specs.Reading.{text_of, count_of, spelled_from, spelling_of, fault_in, is_plan, unexplained_in, place_in_plan, place_of7, place_of_fault}
-use Rattle.message.specs.Reading.{Counted}
-use Rattle.message.specs.Reading.{room_as, fault_as, fields_as, count_as}
+use Rattle.message.specs.Reading.{Counted, room_as, fault_as, fields_as, count_as}
 use Rattle.message.proofs.Nth.{field_at_lem}
+use Rattle.std.specs.Prelude.{Ok, Err}
+use Rattle.outer.specs.Refusal.{refusal}
 
 -- NUMBERS 10 AND 11
 
@@ -42,29 +40,29 @@ module _ (t : MessageType) (m : List ℕ) (count : ℕ) (s : List ℕ) (k : Coun
   unfolding spelling_of
   spelling_is = rw (k.count_is, k.text_is)
 
-  pub room_short : (room due : ℕ) → due ≡ length (spelled_from 40 (forms_of t count) (split 45 s)) → room < due → room_as t m room ≡ Refused 11 0 0
+  pub room_short : (room due : ℕ) → due ≡ length (spelled_from 40 (forms_of t count) (split 45 s)) → room < due → room_as t m room ≡ Err (refusal 11 0 0)
   room_short room due e h = rw (lt-ltb room (length (spelling_of t m)) (omega (arith, e ∙ ap length spelling_is)))
 
-  pub room_enough : (room n : ℕ) → n ≡ length (spelled_from 40 (forms_of t count) (split 45 s)) → n ≤ room → room_as t m room ≡ Accepted t n
+  pub room_enough : (room n : ℕ) → n ≡ length (spelled_from 40 (forms_of t count) (split 45 s)) → n ≤ room → room_as t m room ≡ Ok (t, n)
   room_enough room n e h =
       let z : n ≡ length (spelling_of t m) = e ∙ ap length spelling_is in
-      rw (le-ltb room (length (spelling_of t m)) (omega arith)) (ap (Accepted t) (sym z))
+      rw (le-ltb room (length (spelling_of t m)) (omega arith)) (ap (λ (n : ℕ). Ok (t, n)) (sym z))
 
   pub contents_are : split 45 s ≡ contents m
   contents_are = ap (split 45) k.text_is
 
   pub left_unexplained : (room field : ℕ) → is_plan t ≡ true → field ≡ unexplained_in (split 45 s) → (field ≡ 0 → ⊥)
-      → fault_as Clear t m room ≡ Refused 10 field (place_of_hyphen (place_in_plan field) m)
+      → fault_as (Ok tt) t m room ≡ Err (refusal 10 field (place_of_hyphen (place_in_plan field) m))
   left_unexplained room field p e ne =
       let z : unexplained_in (contents m) ≡ field = ap unexplained_in (sym contents_are) ∙ sym e in
       rw (p, z, ne_eqb field 0 ne)
 
-  pub none_unexplained : (room field : ℕ) → is_plan t ≡ true → field ≡ unexplained_in (split 45 s) → field ≡ 0 → fault_as Clear t m room ≡ room_as t m room
+  pub none_unexplained : (room field : ℕ) → is_plan t ≡ true → field ≡ unexplained_in (split 45 s) → field ≡ 0 → fault_as (Ok tt) t m room ≡ room_as t m room
   none_unexplained room field p e z =
       let y : unexplained_in (contents m) ≡ 0 = ap unexplained_in (sym contents_are) ∙ sym e ∙ z in
       rw (p, y)
 
-  pub no_plan : (room : ℕ) → is_plan t ≡ false → fault_as Clear t m room ≡ room_as t m room
+  pub no_plan : (room : ℕ) → is_plan t ≡ false → fault_as (Ok tt) t m room ≡ room_as t m room
   no_plan room p = rw p
 
   -- NUMBERS 7, 8 AND 9
@@ -72,11 +70,11 @@ module _ (t : MessageType) (m : List ℕ) (count : ℕ) (s : List ℕ) (k : Coun
   fault_is : fault_in t count (split 45 s) ≡ fault_in t (count_of m) (contents m)
   fault_is = ap₂ (fault_in t) k.count_is contents_are
 
-  pub field_fault : (room number j : ℕ) → fault_in t count (split 45 s) ≡ At number j
-      → fields_as t m room ≡ Refused number (number_of (form_at t count j)) (place_of_fault number t j m)
+  pub field_fault : (room number j : ℕ) → fault_in t count (split 45 s) ≡ Err (fault_at number j)
+      → fields_as t m room ≡ Err (refusal number (number_of (form_at t count j)) (place_of_fault number t j m))
   field_fault room number j e =
       ap (λ (f : Fault). fault_as f t m room) (sym fault_is ∙ e)
-      ∙ ap (λ (n : ℕ). Refused number (number_of (form_at t n j)) (place_of_fault number t j m)) (sym k.count_is)
+      ∙ ap (λ (n : ℕ). Err (refusal number (number_of (form_at t n j)) (place_of_fault number t j m))) (sym k.count_is)
 
   -- the place, by the form and the content of field j
   pub fault_placed : (number j : ℕ) (f : Form) (w : List ℕ) → f ≡ form_at t count j → w ≡ get_or (split 45 s) j []
@@ -87,12 +85,12 @@ module _ (t : MessageType) (m : List ℕ) (count : ℕ) (s : List ℕ) (k : Coun
       let content = d ∙ field_at_lem j s ∙ ap (λ (u : List ℕ). before 45 (behind_hyphen j u)) k.text_is in
       ap (λ (n : ℕ). cond (eqb number 7) (sent_place j n m) (place_of_hyphen j m)) (ap₂ place_in form content)
 
-  pub fields_clear : (room : ℕ) → fault_in t count (split 45 s) ≡ Clear → fields_as t m room ≡ fault_as Clear t m room
+  pub fields_clear : (room : ℕ) → fault_in t count (split 45 s) ≡ Ok tt → fields_as t m room ≡ fault_as (Ok tt) t m room
   fields_clear room e = ap (λ (f : Fault). fault_as f t m room) (sym fault_is ∙ e)
 
 -- THE SCRATCH: what stands between the parentheses of a message that has been reduced into it
 
-module _ (m buf : List ℕ) (n : ℕ) (g : outer m ≡ Good) (long : n ≡ length (reduced m)) where
+module _ (m buf : List ℕ) (n : ℕ) (g : outer m ≡ Ok tt) (long : n ≡ length (reduced m)) where
   passed : Passed m
   passed = good_passed m g
 
@@ -123,7 +121,7 @@ module _ (m buf : List ℕ) (n : ℕ) (g : outer m ≡ Good) (long : n ≡ lengt
         even = forms_length t count l u ∙ c ∙ sym (passed_count m passed) ∙ ap (λ (x : List ℕ). length (split 45 x)) (sym e);
       }
 
-pub two_bytes : (m : List ℕ) → outer m ≡ Good → 2 ≤ length m
+pub two_bytes : (m : List ℕ) → outer m ≡ Ok tt → 2 ≤ length m
 two_bytes m g = (good_passed m g).framed.long
 
 -- a message that is its own reduction has the text where it stands
@@ -151,17 +149,17 @@ hyphens_short (b ∷ m) = go (hyphens_short m) (eqb b 45)
     go ih false = omega arith
 
 -- a message that numbers 1 to 3 let pass has some bytes, and few hyphens
-pub some_bytes : (m : List ℕ) → outer m ≡ Good → (1 ≤ length m) × (hyphens m ≤ 1800)
+pub some_bytes : (m : List ℕ) → outer m ≡ Ok tt → (1 ≤ length m) × (hyphens m ≤ 1800)
 some_bytes m g =
     let p = good_passed m g in
     (omega (arith, p.framed.long), omega (arith, p.short, hyphens_short m))
 
 module _ (t : MessageType) (m : List ℕ) (room count : ℕ) (c : count ≡ count_of m) where
-  pub too_few : count < least_of t → count_as t m room ≡ Refused 6 0 (length m - 1)
+  pub too_few : count < least_of t → count_as t m room ≡ Err (refusal 6 0 (length m - 1))
   unfolding count_as
   too_few h = rw (lt-ltb (count_of m) (least_of t) (omega arith))
 
-  pub too_many : least_of t ≤ count → greatest_of t < count → count_as t m room ≡ Refused 6 0 (place_of_hyphen (greatest_of t) m)
+  pub too_many : least_of t ≤ count → greatest_of t < count → count_as t m room ≡ Err (refusal 6 0 (place_of_hyphen (greatest_of t) m))
   unfolding count_as
   too_many l h = rw (le-ltb (count_of m) (least_of t) (omega arith), lt-ltb (greatest_of t) (count_of m) (omega arith))
 

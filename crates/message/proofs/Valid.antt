@@ -25,12 +25,12 @@ use Rattle.kinds.proofs.Names.{name_read, read_name, each}
 use Rattle.records.specs.Records.{Records, valid_all, fit_all, records_of}
 use Rattle.records.proofs.Records.{all_spelled, all_taken, all-tidy}
 use Rattle.forms.specs.Forms.{field_of}
-use Rattle.message.specs.declared.Fault.TheVariants.{Clear}
 use Rattle.message.specs.Reading.{count_of, fault_in, is_plan, unexplained_in, three}
 use Rattle.message.specs.Message.{Message, fields_of, sent_contents, ranks_in, none_twice, names_type, explained, valid_message, message_from}
 use Rattle.message.proofs.Faults.{Faultless, fresh, clear_faultless, faultless_clear}
 use Rattle.message.proofs.Written.{laws_all}
 use Rattle.message.proofs.Reached.{Reached}
+use Rattle.std.specs.Prelude.{Ok}
 
 -- NAMES: three letters
 
@@ -132,7 +132,7 @@ module _ (t : MessageType) (n : ℕ) (cs : List Word) (f : Fitting t n cs) where
         let long : 3 ≤ length w = omega (arith, length-take 3 w, ap length f.named, name_long t) in
         sent_three m cs fitting_tidy fitting_some e long (ap (all letter) f.named ∙ name_letters t) ∙ f.named
 
-    fitting_clear : fault_in t n cs ≡ Clear
+    fitting_clear : fault_in t n cs ≡ Ok tt
     unfolding fault_in
     fitting_clear = faultless_clear [] 0 (forms_of t n) cs (record { fit = f.fit; new = none_earlier (ranks_in (forms_of t n) cs); once = f.once })
 

@@ -25,8 +25,9 @@ use Rattle.kinds.specs.Kinds.{forms_of, form_at}
 use Rattle.records.specs.Records.{fit_all}
 use Rattle.forms.specs.Forms.{field_of, rank_in, fault_of, written_of}
 use Rattle.forms.proofs.Forms.{written_short}
-use Rattle.message.specs.declared.Fault.TheVariants.{Clear, At}
 use Rattle.message.specs.Reading.{fault_from, fault_in, spelled_from, lead_of}
+use Rattle.std.specs.Prelude.{Ok, Err}
+use Rattle.message.specs.Answer.{fault_at}
 
 -- as many forms are left as contents
 abbrev pub Even : MessageType → ℕ → List ℕ → ℕ → ℕ → Type 0
@@ -62,7 +63,7 @@ module _ (t : MessageType) (n : ℕ) (s : List ℕ) (at j e : ℕ) (end : e ≡ 
     fault_turn : fault_from earlier j (drop j (forms_of t n)) (split 45 (drop at s))
         ≡ cond (eqb (fault_of (one_of (rank_in (form_at t n j) (take (e - at) (drop at s))) earlier) (form_at t n j) (take (e - at) (drop at s))) 0)
         (fault_from (rank_in (form_at t n j) (take (e - at) (drop at s)) ∷ earlier) (suc j) (drop (j + 1) (forms_of t n)) (after 45 (drop e s)))
-        (At (fault_of (one_of (rank_in (form_at t n j) (take (e - at) (drop at s))) earlier) (form_at t n j) (take (e - at) (drop at s))) j)
+        (Err (fault_at (fault_of (one_of (rank_in (form_at t n j) (take (e - at) (drop at s))) earlier) (form_at t n j) (take (e - at) (drop at s))) j))
     fault_turn = rw (forms_here, parts_here)
 
   module _ (earlier : List ℕ) (f : Form) (k number : ℕ) (is_form : f ≡ form_at t n j) (is-rank : k ≡ rank_in f (take (e - at) (drop at s)))
@@ -73,10 +74,10 @@ module _ (t : MessageType) (n : ℕ) (s : List ℕ) (at j e : ℕ) (end : e ≡ 
     rank_is : rank_in (form_at t n j) (take (e - at) (drop at s)) ≡ k
     rank_is = rw (← is_form) (sym is-rank)
 
-    pub fault_found : (number ≡ 0 → ⊥) → fault_from earlier j (drop j (forms_of t n)) (split 45 (drop at s)) ≡ At number j
+    pub fault_found : (number ≡ 0 → ⊥) → fault_from earlier j (drop j (forms_of t n)) (split 45 (drop at s)) ≡ Err (fault_at number j)
     fault_found h = fault_turn earlier ∙ rw (number_is, ne_eqb number 0 h)
 
-    pub fault_last : number ≡ 0 → length s ≤ e → fault_from earlier j (drop j (forms_of t n)) (split 45 (drop at s)) ≡ Clear
+    pub fault_last : number ≡ 0 → length s ≤ e → fault_from earlier j (drop j (forms_of t n)) (split 45 (drop at s)) ≡ Ok tt
     fault_last z h = fault_turn earlier ∙ rw (number_is, eq-eqb number 0 z, last_form h)
 
     pub fault_next : number ≡ 0 → e < length s
@@ -173,11 +174,11 @@ module _ (t : MessageType) (n : ℕ) (s : List ℕ) (seen : List Bool) (at j e :
   told : number ≡ fault_of (one_of k w.earlier) f (take (e - at) (drop at s))
   told = is_number ∙ ap (λ (b : Bool). fault_of b f (take (e - at) (drop at s))) (w.marks k small)
 
-  pub walk_found : (number ≡ 0 → ⊥) → At number j ≡ fault_in t n (split 45 s)
+  pub walk_found : (number ≡ 0 → ⊥) → Err (fault_at number j) ≡ fault_in t n (split 45 s)
   unfolding fault_in
   walk_found h = sym (w.same ∙ fault_found t n s at j e end w.even w.earlier f k number is_form is-rank told h)
 
-  pub walk_clear : number ≡ 0 → length s ≤ e → Clear ≡ fault_in t n (split 45 s)
+  pub walk_clear : number ≡ 0 → length s ≤ e → Ok tt ≡ fault_in t n (split 45 s)
   unfolding fault_in
   walk_clear z h = sym (w.same ∙ fault_last t n s at j e end w.even w.earlier f k number is_form is-rank told z h)
 

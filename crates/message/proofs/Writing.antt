@@ -14,10 +14,10 @@ use Rattle.kinds.specs.declared.Form.{Form}
 use Rattle.kinds.specs.Kinds.{forms_of, form_at, RowFor}
 use Rattle.records.specs.Records.{fit_all}
 use Rattle.forms.specs.Forms.{field_of, written_of}
-use Rattle.message.specs.declared.Fault.TheVariants.{Clear}
 use Rattle.message.specs.Reading.{fault_in, spelled_from}
 use Rattle.message.proofs.Faults.{clear_faultless}
 use Rattle.message.proofs.Walk.{Even, even_next, fits_here, fits_next, spelled_turn, spelled_last}
+use Rattle.std.specs.Prelude.{Ok}
 
 -- the whole that is to be written
 abbrev pub whole : MessageType → ℕ → List ℕ → List ℕ
@@ -28,7 +28,7 @@ pub record Given (t : MessageType) (n : ℕ) (row : List Form) (s out : List ℕ
   pub is_row : RowFor t n row
   pub room : length (whole t n s) ≤ length out
   pub even : length (forms_of t n) ≡ length (split 45 s)
-  pub clear : fault_in t n (split 45 s) ≡ Clear
+  pub clear : fault_in t n (split 45 s) ≡ Ok tt
 
 -- the spelling from field j on, which begins at `at`, without the byte before it
 abbrev pub spelled_at : MessageType → ℕ → List ℕ → ℕ → ℕ → List ℕ

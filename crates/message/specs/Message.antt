@@ -1,6 +1,6 @@
 -- The record of a message: its type, how many fields it has, and each field's record; which records are valid, and their one spelling.
 -- Assumes nothing.
-use Rattle.std.specs.Prelude.{ℕ, ◌≤◌, ◌≡◌, Bool, true, false, ◌&&◌, ◌||◌, not, cond, List, [], ◌∷◌, map, leb, eqb, length, take, get_or}
+use Rattle.std.specs.Prelude.{ℕ, ◌≤◌, ◌≡◌, Bool, true, false, ◌&&◌, ◌||◌, not, cond, List, [], ◌∷◌, map, leb, eqb, length, take, get_or, Ok, Err}
 use Rattle.alphabet.specs.Alphabet.{one_of}
 use Rattle.text.specs.Words.{Word, same}
 use Rattle.shape.specs.Field.{Field}
@@ -13,8 +13,7 @@ use Rattle.kinds.specs.Kinds.{least_of, greatest_of, forms_of, name_of}
 use Rattle.records.specs.Records.{Records, contents_of, valid_all, canonical_all, records_of}
 use Rattle.forms.specs.Field22.{which_of}
 use Rattle.forms.specs.Forms.{field_of, is_entry}
-use Rattle.message.specs.declared.Answer.{Answer}
-use Rattle.message.specs.declared.Answer.TheVariants.{Accepted, Refused}
+use Rattle.message.specs.Answer.{Answer}
 use Rattle.message.specs.Reading.{is_plan, unexplained_in, answer_of, out_after}
 
 -- THE RECORD
@@ -85,8 +84,8 @@ record_in t m = canonical_message (message_from t (contents m))
 -- A READER, by its answer for each message and room, and by the output that it leaves: it must give these answers and leave these outputs
 
 abbrev pub accepts : Answer → Bool
-accepts (Accepted t n) = true
-accepts (Refused number field place) = false
+accepts (Ok (t, n)) = true
+accepts (Err r) = false
 
 abbrev pub Meets : (List ℕ → ℕ → Answer) → Type 0
 Meets r = (m : List ℕ) (room : ℕ) → r m room ≡ answer_of m room

@@ -1,6 +1,6 @@
 -- Reading a message (document 01, "Numbers given back"): the answer, and every byte of the output, from the bytes sent and the room lent.
 -- Assumes nothing.
-use Rattle.std.specs.Prelude.{ℕ, suc, ◌+◌, ◌-◌, ◌≤◌, ◌≡◌, Bool, true, false, cond, ◌&&◌, List, [], ◌∷◌, ◌++◌, eqb, ltb, length, take, drop, get_or}
+use Rattle.std.specs.Prelude.{ℕ, suc, ◌+◌, ◌-◌, ◌≤◌, ◌≡◌, Bool, true, false, cond, ◌&&◌, List, [], ◌∷◌, ◌++◌, Ok, Err, eqb, ltb, length, take, drop, get_or}
 use Rattle.alphabet.specs.Alphabet.{one_of}
 use Rattle.text.specs.Words.{Word, split, before, same}
 use Rattle.text.specs.Lent.{front}
@@ -9,23 +9,17 @@ use Rattle.space.specs.Fields.{inner}
 use Rattle.space.specs.Hyphens.{hyphens, place_of_hyphen, behind_hyphen}
 use Rattle.space.specs.Places.{sent_place}
 use Rattle.sent.specs.Sent.{contents}
-use Rattle.outer.specs.declared.Outer.{Outer}
-use Rattle.outer.specs.declared.Outer.TheVariants.{Good, Bad}
+use Rattle.outer.specs.Refusal.{refusal, Checked}
 use Rattle.outer.specs.Outer.{most, outer}
 use Rattle.kinds.specs.declared.MessageType.{MessageType}
 use Rattle.kinds.specs.declared.Role.{Role}
 use Rattle.kinds.specs.declared.Role.TheVariants.{Files, Changes, Delays, Cancels, Departs, Arrives, Neither}
 use Rattle.kinds.specs.declared.Form.{Form}
-use Rattle.kinds.specs.declared.Named.{Named}
-use Rattle.kinds.specs.declared.Named.TheVariants.{Read, NotRead, NoType}
-use Rattle.kinds.specs.Kinds.{least_of, greatest_of, role_of, forms_of, form_at, number_of, plan9, plan13, plan16, plan18, type_named}
+use Rattle.kinds.specs.Kinds.{Named, least_of, greatest_of, role_of, forms_of, form_at, number_of, plan9, plan13, plan16, plan18, type_named, type_refusal}
 use Rattle.forms.specs.Forms.{rank_in, fault_of, written_of}
 use Rattle.form_places.specs.Places.{place_in}
 use Rattle.plan.specs.Unexplained.{unexplained}
-use Rattle.message.specs.declared.Fault.{Fault}
-use Rattle.message.specs.declared.Fault.TheVariants.{Clear, At}
-use Rattle.message.specs.declared.Answer.{Answer}
-use Rattle.message.specs.declared.Answer.TheVariants.{Accepted, Refused}
+use Rattle.message.specs.Answer.{fault_at, Fault, Answer}
 
 -- THE FIELDS of a message, and its spelling
 
@@ -54,16 +48,12 @@ spelling_of t m = spelled_from 40 (forms_of t (count_of m)) (contents m)
 
 -- the fields from place j on; the earlier ones named fields of these ranks
 abbrev pub fault_from : List ℕ → ℕ → List Form → List Word → Fault
-fault_from earlier j [] cs = Clear
-fault_from earlier j (f ∷ fs) [] = Clear
+fault_from earlier j [] cs = Ok tt
+fault_from earlier j (f ∷ fs) [] = Ok tt
 fault_from earlier j (f ∷ fs) (c ∷ cs) =
     cond (eqb (fault_of (one_of (rank_in f c) earlier) f c) 0)
     (fault_from (rank_in f c ∷ earlier) (suc j) fs cs)
-    (At (fault_of (one_of (rank_in f c) earlier) f c) j)
-
-abbrev pub is_clear : Fault → Bool
-is_clear Clear = true
-is_clear (At number j) = false
+    (Err (fault_at (fault_of (one_of (rank_in f c) earlier) f c) j))
 
 unfoldable pub fault_in : MessageType → ℕ → List Word → Fault
 fault_in t n cs = fault_from [] 0 (forms_of t n) cs
@@ -104,16 +94,16 @@ place_in_plan field = cond (eqb field 9) plan9 (cond (eqb field 13) plan13 plan1
 
 -- 11
 abbrev pub room_as : MessageType → List ℕ → ℕ → Answer
-room_as t m room = cond (ltb room (length (spelling_of t m))) (Refused 11 0 0) (Accepted t (length (spelling_of t m)))
+room_as t m room = cond (ltb room (length (spelling_of t m))) (Err (refusal 11 0 0)) (Ok (t, length (spelling_of t m)))
 
 -- 10
 abbrev pub explained_as : ℕ → MessageType → List ℕ → ℕ → Answer
-explained_as field t m room = cond (eqb field 0) (room_as t m room) (Refused 10 field (place_of_hyphen (place_in_plan field) m))
+explained_as field t m room = cond (eqb field 0) (room_as t m room) (Err (refusal 10 field (place_of_hyphen (place_in_plan field) m)))
 
 -- 7, 8, 9
 abbrev pub fault_as : Fault → MessageType → List ℕ → ℕ → Answer
-fault_as (At number j) t m room = Refused number (number_of (form_at t (count_of m) j)) (place_of_fault number t j m)
-fault_as Clear t m room = explained_as (cond (is_plan t) (unexplained_in (contents m)) 0) t m room
+fault_as (Err r) t m room = Err (refusal r.number (number_of (form_at t (count_of m) r.field)) (place_of_fault r.number t r.field m))
+fault_as (Ok u) t m room = explained_as (cond (is_plan t) (unexplained_in (contents m)) 0) t m room
 
 abbrev pub fields_as : MessageType → List ℕ → ℕ → Answer
 fields_as t m room = fault_as (fault_in t (count_of m) (contents m)) t m room
@@ -121,8 +111,8 @@ fields_as t m room = fault_as (fault_in t (count_of m) (contents m)) t m room
 -- 6
 unfoldable pub count_as : MessageType → List ℕ → ℕ → Answer
 count_as t m room =
-    cond (ltb (count_of m) (least_of t)) (Refused 6 0 (length m - 1))
-    (cond (ltb (greatest_of t) (count_of m)) (Refused 6 0 (place_of_hyphen (greatest_of t) m))
+    cond (ltb (count_of m) (least_of t)) (Err (refusal 6 0 (length m - 1)))
+    (cond (ltb (greatest_of t) (count_of m)) (Err (refusal 6 0 (place_of_hyphen (greatest_of t) m)))
     (fields_as t m room))
 
 -- what has been checked of a message of a type before its fields are read; s is its text, in a scratch
@@ -134,17 +124,16 @@ pub record Counted (t : MessageType) (m : List ℕ) (count : ℕ) (s : List ℕ)
 
 -- 4 and 5: the three bytes after `(`, as sent
 abbrev pub type_as : Named → List ℕ → ℕ → Answer
-type_as NoType m room = Refused 4 3 0
-type_as NotRead m room = Refused 5 3 0
-type_as (Read t) m room = count_as t m room
+type_as (Err fault) m room = Err (type_refusal fault)
+type_as (Ok t) m room = count_as t m room
 
 abbrev pub three : List ℕ → Word
 three m = take 3 (drop 1 m)
 
 -- 1 to 3
-abbrev pub outer_as : Outer → List ℕ → ℕ → Answer
-outer_as (Bad number place) m room = Refused number 0 place
-outer_as Good m room = type_as (type_named (three m)) m room
+abbrev pub outer_as : Checked → List ℕ → ℕ → Answer
+outer_as (Err r) m room = Err r
+outer_as (Ok u) m room = type_as (type_named (three m)) m room
 
 unfoldable pub answer_of : List ℕ → ℕ → Answer
 answer_of m room = outer_as (outer m) m room
@@ -152,8 +141,8 @@ answer_of m room = outer_as (outer m) m room
 -- THE OUTPUT: a refusal leaves it as it stood; acceptance writes the spelling at its front, and the bytes behind it stay
 
 abbrev pub written_as : Answer → List ℕ → List ℕ → List ℕ
-written_as (Accepted t n) m out = front (spelling_of t m) out
-written_as (Refused number field place) m out = out
+written_as (Ok (t, n)) m out = front (spelling_of t m) out
+written_as (Err r) m out = out
 
 unfoldable pub out_after : List ℕ → List ℕ → List ℕ
 out_after m out = written_as (answer_of m (length out)) m out
@@ -161,8 +150,8 @@ out_after m out = written_as (answer_of m (length out)) m out
 -- A PLAN AS IT IS WRITTEN
 
 abbrev pub plans : Answer → Bool
-plans (Accepted t n) = is_plan t
-plans (Refused number field place) = false
+plans (Ok (t, n)) = is_plan t
+plans (Err r) = false
 
 -- accepted as a plan, with the most room that a message needs, and its own reduction
 unfoldable pub plan_itself : List ℕ → Bool

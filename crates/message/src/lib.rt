@@ -1,20 +1,18 @@
 // Reading a message: its answer, and its spelling written to the room that is lent.
 #![tactic(auto)]
 
-ghost use Rattle.std.specs.Prelude.{◌≡◌, true, ◌&&◌, cond, [], ◌∷◌, ◌≤◌, ◌<◌, leb, eqb, length, drop, get_or};
+ghost use Rattle.std.specs.Prelude.{◌≡◌, true, ◌&&◌, cond, [], ◌∷◌, ◌≤◌, ◌<◌, Ok, is_ok, leb, eqb, length, drop, get_or};
 ghost use Rattle.text.specs.Words.{split, same};
 ghost use Rattle.space.specs.Reduced.{reduced};
 ghost use Rattle.text.specs.Lent.{front};
 ghost use Rattle.space.specs.Hyphens.{behind_hyphen, place_of_hyphen};
 ghost use Rattle.space.specs.Places.{sent_place};
-ghost use Rattle.outer.specs.declared.Outer as Outer;
 ghost use Rattle.outer.specs.Outer.{most, outer};
 ghost use Rattle.kinds.specs.Kinds.{forms_of, most_fields, least_of, greatest_of};
 ghost use Rattle.forms.specs.Forms.{field_of, written_of};
 ghost use Rattle.form_places.specs.Places.{place_in};
 ghost use Rattle.message.specs.Ends.{Ends, Noted};
 ghost use Rattle.message.specs.Reading.{
-  is_clear,
   fault_in,
   unexplained_in,
   lead_of,
@@ -36,22 +34,19 @@ ghost use Rattle.message.specs.Reading.{
   plan_itself,
 };
 
-use kinds::{Form, MessageType, Named, Role};
-use outer::Outer;
+use kinds::{Form, MessageType, Role};
+use outer::Refusal;
 use text::Cursor;
 
 // What is wrong with a message's fields: a number and the place of the field, counted from 0.
-#[derive(Clone, Copy)]
-pub enum Fault {
-    Clear,
-    At { number: u8, field: usize },
+#[derive(Clone, Copy, PartialEq, Eq)]
+pub struct FieldFault {
+    pub number: u8,
+    pub field: usize,
 }
 
-#[derive(Clone, Copy)]
-pub enum Answer {
-    Accepted(MessageType, usize),
-    Refused { number: u8, field: u8, place: usize },
-}
+// The type of a message that is accepted and the length of its spelling, or the refusal.
+pub type Answer = Result<(MessageType, usize), Refusal>;
 
 // The byte before a field: `(` before the first, `-` before the others.
 pub fn lead_of(j: usize) -> u8
@@ -128,7 +123,7 @@ fn content_at<'a>(s: &'a [u8], ends: &FieldEnds, j: usize) -> &'a [u8]
 }
 
 // The leftmost field of a text that has a number 7, 8 or 9. An entry names a field by its rank; `seen` marks the ranks named before.
-fn fields_fault(t: MessageType, count: usize, s: &[u8], ends: &FieldEnds) -> Fault
+fn fields_fault(t: MessageType, count: usize, s: &[u8], ends: &FieldEnds) -> Result<(), FieldFault>
     requires { Ends s.now ends.now × (length (forms_of t count) ≡ length (split 45 s.now)) }
     ensures { result ≡ fault_in t count (split 45 s.now) }
 {
@@ -142,10 +137,10 @@ fn fields_fault(t: MessageType, count: usize, s: &[u8], ends: &FieldEnds) -> Fau
         let rank = forms::rank_in(form, &s[at..e]);
         let number = forms::fault_of(seen[rank], form, &s[at..e]);
         if number != 0 {
-            return Fault::At { number, field: j };
+            return Err(FieldFault { number, field: j });
         }
         if e == s.len() {
-            return Fault::Clear;
+            return Ok(());
         }
         seen[rank] = true;
         at = e + 1;
@@ -175,7 +170,7 @@ fn spelled_length(t: MessageType, count: usize, s: &[u8]) -> usize
 // Writes the spelling of a text's fields at the front of `out`: each field goes behind the last one, in the rest that is lent to it.
 fn write_fields(t: MessageType, count: usize, s: &[u8], ends: &FieldEnds, out: &mut [u8]) -> usize
     requires { Ends s.now ends.now × (length (spelled_from 40 (forms_of t count) (split 45 s.now)) ≤ length out.old)
-        × (length (forms_of t count) ≡ length (split 45 s.now)) × (fault_in t count (split 45 s.now) ≡ Fault.Clear) }
+        × (length (forms_of t count) ≡ length (split 45 s.now)) × (fault_in t count (split 45 s.now) ≡ Ok tt) }
     ensures { (result ≡ length (spelled_from 40 (forms_of t count) (split 45 s.now)))
         × (out.new ≡ front (spelled_from 40 (forms_of t count) (split 45 s.now)) out.old) }
 {
@@ -285,19 +280,15 @@ fn read_room(
     ends: &FieldEnds,
     out: &mut [u8],
 ) -> Answer
-    requires { Counted t msg.now count s.now × Ends s.now ends.now × (fault_in t count (split 45 s.now) ≡ Fault.Clear) }
+    requires { Counted t msg.now count s.now × Ends s.now ends.now × (fault_in t count (split 45 s.now) ≡ Ok tt) }
     ensures { (result ≡ room_as t msg.now (length out.old))
         × (out.new ≡ written_as (room_as t msg.now (length out.old)) msg.now out.old) }
 {
     if !has_room(t, count, s, out.len()) {
-        return Answer::Refused {
-            number: 11,
-            field: 0,
-            place: 0,
-        };
+        return Err(Refusal::of(11));
     }
     let n = write_fields(t, count, s, ends, out);
-    Answer::Accepted(t, n)
+    Ok((t, n))
 }
 
 // Numbers 10 and 11.
@@ -309,20 +300,19 @@ fn read_explained(
     ends: &FieldEnds,
     out: &mut [u8],
 ) -> Answer
-    requires { Counted t msg.now count s.now × Ends s.now ends.now × (fault_in t count (split 45 s.now) ≡ Fault.Clear) }
-    ensures { (result ≡ fault_as Fault.Clear t msg.now (length out.old))
-        × (out.new ≡ written_as (fault_as Fault.Clear t msg.now (length out.old)) msg.now out.old) }
+    requires { Counted t msg.now count s.now × Ends s.now ends.now × (fault_in t count (split 45 s.now) ≡ Ok tt) }
+    ensures { (result ≡ fault_as (Ok tt) t msg.now (length out.old))
+        × (out.new ≡ written_as (fault_as (Ok tt) t msg.now (length out.old)) msg.now out.old) }
 {
     if is_plan(t) {
         let field = unexplained_by(s, ends);
         if field != 0 {
-            return Answer::Refused {
+            return Err(Refusal {
                 number: 10,
                 field,
                 place: space::place_of_hyphen(msg, place_in_plan(field)),
-            };
+            });
         }
-        return read_room(t, count, msg, s, ends, out);
     }
     read_room(t, count, msg, s, ends, out)
 }
@@ -345,23 +335,21 @@ fn read_text(t: MessageType, count: usize, msg: &[u8], s: &[u8], out: &mut [u8])
         × (out.new ≡ written_as (fields_as t msg.now (length out.old)) msg.now out.old) }
 {
     let ends = field_ends(s);
-    match fields_fault(t, count, s, &ends) {
-        Fault::At { number, field } => {
-            let form = t.form_at(count, field);
-            let w = content_at(s, &ends, field);
-            Answer::Refused {
-                number,
-                field: form.number(),
-                place: fault_place(number, form, field, w, msg),
-            }
-        }
-        Fault::Clear => read_explained(t, count, msg, s, &ends, out),
+    if let Err(fault) = fields_fault(t, count, s, &ends) {
+        let form = t.form_at(count, fault.field);
+        let w = content_at(s, &ends, fault.field);
+        return Err(Refusal {
+            number: fault.number,
+            field: form.number(),
+            place: fault_place(fault.number, form, fault.field, w, msg),
+        });
     }
+    read_explained(t, count, msg, s, &ends, out)
 }
 
 // Numbers 7 to 11: white space is reduced into a scratch, and the text between the parentheses is read there.
 fn read_scratch(t: MessageType, count: usize, msg: &[u8], out: &mut [u8]) -> Answer
-    requires { (outer msg.now ≡ Outer.Good) × (count ≡ count_of msg.now) × (least_of t ≤ count) × (count ≤ greatest_of t) }
+    requires { (outer msg.now ≡ Ok tt) × (count ≡ count_of msg.now) × (least_of t ≤ count) × (count ≤ greatest_of t) }
     ensures { (result ≡ fields_as t msg.now (length out.old))
         × (out.new ≡ written_as (fields_as t msg.now (length out.old)) msg.now out.old) }
 {
@@ -373,7 +361,7 @@ fn read_scratch(t: MessageType, count: usize, msg: &[u8], out: &mut [u8]) -> Ans
 
 // Numbers 7 to 11. A message that is its own reduction is read where it stands.
 fn read_reduced(t: MessageType, count: usize, msg: &[u8], out: &mut [u8]) -> Answer
-    requires { (outer msg.now ≡ Outer.Good) × (count ≡ count_of msg.now) × (least_of t ≤ count) × (count ≤ greatest_of t) }
+    requires { (outer msg.now ≡ Ok tt) × (count ≡ count_of msg.now) × (least_of t ≤ count) × (count ≤ greatest_of t) }
     ensures { (result ≡ fields_as t msg.now (length out.old))
         × (out.new ≡ written_as (fields_as t msg.now (length out.old)) msg.now out.old) }
 {
@@ -386,25 +374,17 @@ fn read_reduced(t: MessageType, count: usize, msg: &[u8], out: &mut [u8]) -> Ans
 
 // Numbers 6 to 11, for a message of a type.
 fn read_count(t: MessageType, msg: &[u8], out: &mut [u8]) -> Answer
-    requires { outer msg.now ≡ Outer.Good }
+    requires { outer msg.now ≡ Ok tt }
     ensures { (result ≡ count_as t msg.now (length out.old))
         × (out.new ≡ written_as (count_as t msg.now (length out.old)) msg.now out.old) }
 {
     let count = space::count_hyphens(msg) + 1;
     if count < t.least() {
-        return Answer::Refused {
-            number: 6,
-            field: 0,
-            place: msg.len() - 1,
-        };
+        return Err(Refusal::at(6, msg.len() - 1));
     }
     let greatest = t.greatest();
     if greatest < count {
-        return Answer::Refused {
-            number: 6,
-            field: 0,
-            place: space::place_of_hyphen(msg, greatest),
-        };
+        return Err(Refusal::at(6, space::place_of_hyphen(msg, greatest)));
     }
     read_reduced(t, count, msg, out)
 }
@@ -422,58 +402,35 @@ fn three_of<'a>(msg: &'a [u8]) -> &'a [u8]
 
 // Numbers 4 to 11, for a message that numbers 1 to 3 let pass.
 fn read_type(msg: &[u8], out: &mut [u8]) -> Answer
-    requires { outer msg.now ≡ Outer.Good }
-    ensures { (result ≡ outer_as Outer.Good msg.now (length out.old))
-        × (out.new ≡ written_as (outer_as Outer.Good msg.now (length out.old)) msg.now out.old) }
+    requires { outer msg.now ≡ Ok tt }
+    ensures { (result ≡ outer_as (Ok tt) msg.now (length out.old))
+        × (out.new ≡ written_as (outer_as (Ok tt) msg.now (length out.old)) msg.now out.old) }
 {
-    match kinds::type_named(three_of(msg)) {
-        Named::Read(t) => read_count(t, msg, out),
-        Named::NotRead => Answer::Refused {
-            number: 5,
-            field: 3,
-            place: 0,
-        },
-        Named::NoType => Answer::Refused {
-            number: 4,
-            field: 3,
-            place: 0,
-        },
-    }
+    let t = kinds::type_named(three_of(msg))?;
+    read_count(t, msg, out)
 }
 
-// Reads a message. Accepted: its type and the length of its spelling, which is then at the front of `out`, and the bytes behind it stay.
-// Refused: the number, the field and the place in the message as sent, and every byte of `out` stays.
+// Reads a message. Ok: its type and the length of its spelling, which is then at the front of `out`, and the bytes behind it stay.
+// Err: the number, the field and the place in the message as sent, and every byte of `out` stays.
 pub fn read(msg: &[u8], out: &mut [u8]) -> Answer
     ensures { (result ≡ answer_of msg.now (length out.old)) × (out.new ≡ out_after msg.now out.old) }
 {
-    match outer::check_outer(msg) {
-        Outer::Bad { number, place } => Answer::Refused {
-            number,
-            field: 0,
-            place,
-        },
-        Outer::Good => read_type(msg, out),
-    }
+    outer::check_outer(msg)?;
+    read_type(msg, out)
 }
 
 // Whether the fields of a plan's text have none of the numbers 7 to 10.
 fn is_plan_text(t: MessageType, count: usize, s: &[u8]) -> bool
     requires { (is_plan t ≡ true) × (length (forms_of t count) ≡ length (split 45 s.now)) }
-    ensures { result ≡ (is_clear (fault_in t count (split 45 s.now)) && eqb (unexplained_in (split 45 s.now)) 0) }
+    ensures { result ≡ (is_ok (fault_in t count (split 45 s.now)) && eqb (unexplained_in (split 45 s.now)) 0) }
 {
     let ends = field_ends(s);
-    match fields_fault(t, count, s, &ends) {
-        Fault::At {
-            number: _,
-            field: _,
-        } => false,
-        Fault::Clear => unexplained_by(s, &ends) == 0,
-    }
+    fields_fault(t, count, s, &ends).is_ok() && unexplained_by(s, &ends) == 0
 }
 
 // Whether a message of a type is a plan and its own reduction, and numbers 6 to 11 let it pass.
 fn is_plan_counted(t: MessageType, msg: &[u8]) -> bool
-    requires { outer msg.now ≡ Outer.Good }
+    requires { outer msg.now ≡ Ok tt }
     ensures { result ≡ (plans (count_as t msg.now most) && same (reduced msg.now) msg.now) }
 {
     if !is_plan(t) {
@@ -495,13 +452,12 @@ fn is_plan_counted(t: MessageType, msg: &[u8]) -> bool
 
 // The same, for a message that numbers 1 to 3 let pass.
 fn is_plan_typed(msg: &[u8]) -> bool
-    requires { outer msg.now ≡ Outer.Good }
-    ensures { result ≡ (plans (outer_as Outer.Good msg.now most) && same (reduced msg.now) msg.now) }
+    requires { outer msg.now ≡ Ok tt }
+    ensures { result ≡ (plans (outer_as (Ok tt) msg.now most) && same (reduced msg.now) msg.now) }
 {
     match kinds::type_named(three_of(msg)) {
-        Named::Read(t) => is_plan_counted(t, msg),
-        Named::NotRead => false,
-        Named::NoType => false,
+        Ok(t) => is_plan_counted(t, msg),
+        Err(_) => false,
     }
 }
 
@@ -510,11 +466,5 @@ fn is_plan_typed(msg: &[u8]) -> bool
 pub fn is_plan_itself(msg: &[u8]) -> bool
     ensures { result ≡ plan_itself msg.now }
 {
-    match outer::check_outer(msg) {
-        Outer::Bad {
-            number: _,
-            place: _,
-        } => false,
-        Outer::Good => is_plan_typed(msg),
-    }
+    outer::check_outer(msg).is_ok() && is_plan_typed(msg)
 }

@@ -17,8 +17,7 @@ use Rattle.outer.specs.Outer.{most}
 use Rattle.sent.specs.Sent.{contents}
 use Rattle.kinds.specs.declared.MessageType.{MessageType}
 use Rattle.kinds.specs.declared.MessageType.TheVariants.{Fpl}
-use Rattle.message.specs.declared.Answer.{Answer}
-use Rattle.message.specs.declared.Answer.TheVariants.{Accepted as ReadAs, Refused as NotRead}
+use Rattle.message.specs.Answer.{Answer}
 use Rattle.message.specs.Reading.{count_of, spelling_of, answer_of}
 use Rattle.message.specs.Message.{message_from, spelling}
 use Rattle.message.proofs.Plans.{plan_type, nine_forms}
@@ -28,10 +27,10 @@ use Rattle.message.proofs.Accepted.{accepted_record}
 use Rattle.message.proofs.Canonical.{spelling_reduced}
 use Rattle.state.specs.declared.Strip.{Strip}
 use Rattle.state.specs.State.{sound}
-use Rattle.opening.specs.declared.Opening.{Opening}
-use Rattle.opening.specs.declared.Opening.TheVariants.{Read, Refused}
 use Rattle.opening.specs.Opening.{canonical_plan, read_as_plan, text_said, read_as, opening_of, scratch_after}
 use Rattle.opening.proofs.Steps.{front_whole, front_text, spelling_two, read_bounds, read_long}
+use Rattle.std.specs.Prelude.{Ok, Err}
+use Rattle.outer.specs.Refusal.{refusal}
 
 -- WHAT A CANONICAL PLAN IS
 
@@ -41,7 +40,7 @@ pub record Plan (strip : List ℕ) : Type 0 where
   pub short : length strip ≤ 1800
 
 module _ (strip : List ℕ) where
-  facts : (n : ℕ) → answer_of strip 1800 ≡ ReadAs Fpl n → spelling_of Fpl strip ≡ strip → Plan strip
+  facts : (n : ℕ) → answer_of strip 1800 ≡ Ok (Fpl, n) → spelling_of Fpl strip ≡ strip → Plan strip
   facts n q s =
       let r = accepted_record strip 1800 Fpl n q in
       let whole : spelling (message_from Fpl (contents strip)) ≡ strip = r.spelled ∙ s in
@@ -62,34 +61,30 @@ module _ (strip : List ℕ) where
       go (answer_of strip 1800) refl b.0 (same-eq (spelling_of Fpl strip) strip b.1)
     where
       go : (a : Answer) → answer_of strip 1800 ≡ a → read_as_plan a ≡ true → spelling_of Fpl strip ≡ strip → Plan strip
-      go (NotRead number field place) q p s = absurd (false≢true p)
-      go (ReadAs t n) q p s = facts n (q ∙ ap (λ (u : MessageType). ReadAs u n) (plan_type t p)) s
+      go (Err r) q p s = absurd (false≢true p)
+      go (Ok (t, n)) q p s = facts n (q ∙ ap (λ (u : MessageType). Ok (u, n)) (plan_type t p)) s
 
 -- A STRIP OPENED for a message: the strip is a plan, the record sound, and the message was read as this type
 
 pub record Opened (strip : List ℕ) (held : Strip) (m : List ℕ) (t : MessageType) (n : ℕ) : Type 0 where
   pub is_sound : sound held ≡ true
   pub is_plan_lem : canonical_plan strip ≡ true
-  pub read : answer_of m most ≡ ReadAs t n
+  pub read : answer_of m most ≡ Ok (t, n)
   pub plan : Plan strip
   pub two : 2 ≤ n
   pub short : n ≤ most
   pub long : n ≡ length (spelling_of t m)
 
 module _ (strip : List ℕ) (held : Strip) (m : List ℕ) where
-  read_type : (a : Answer) (t : MessageType) (n : ℕ) → read_as a ≡ Read t n → a ≡ ReadAs t n
-  read_type (ReadAs u k) t n e = cc
-  read_type (NotRead number field place) t n e = go (leb number 9) e
-    where
-      go : (b : Bool) → cond b (Refused number field place) (Refused 14 0 0) ≡ Read t n → NotRead number field place ≡ ReadAs t n
-      go true q = let z : ◌≡◌ {A = ℕ} 0 1 = cc in absurd (omega arith)
-      go false q = let z : ◌≡◌ {A = ℕ} 0 1 = cc in absurd (omega arith)
+  read_type : (a : Answer) (t : MessageType) (n : ℕ) → read_as a ≡ Ok (t, n) → a ≡ Ok (t, n)
+  read_type (Ok (u, k)) t n e = cc
+  read_type (Err r) t n e = cc
 
-  pub opened : (t : MessageType) (n : ℕ) → opening_of strip held m ≡ Read t n → Opened strip held m t n
+  pub opened : (t : MessageType) (n : ℕ) → opening_of strip held m ≡ Ok (t, n) → Opened strip held m t n
   unfolding opening_of
   opened t n e = go (sound held) (canonical_plan strip) refl refl e
     where
-      go : (a b : Bool) → sound held ≡ a → canonical_plan strip ≡ b → cond (a && b) (read_as (answer_of m most)) (Refused 15 0 0) ≡ Read t n
+      go : (a b : Bool) → sound held ≡ a → canonical_plan strip ≡ b → cond (a && b) (read_as (answer_of m most)) (Err (refusal 15 0 0)) ≡ Ok (t, n)
           → Opened strip held m t n
       go true true s p q =
           let r = read_type (answer_of m most) t n q in
@@ -103,15 +98,15 @@ module _ (strip : List ℕ) (held : Strip) (m : List ℕ) where
             short = b.1;
             long = read_long m most t n r;
           }
-      go true false s p q = let z : ◌≡◌ {A = ℕ} 0 1 = cc in absurd (omega arith)
-      go false true s p q = let z : ◌≡◌ {A = ℕ} 0 1 = cc in absurd (omega arith)
-      go false false s p q = let z : ◌≡◌ {A = ℕ} 0 1 = cc in absurd (omega arith)
+      go true false s p q = cc
+      go false true s p q = cc
+      go false false s p q = cc
 
   -- the scratch, as the code has it: `last` is what it holds afterwards
-  module _ (t : MessageType) (n : ℕ) (e : opening_of strip held m ≡ Read t n) (scratch last : List ℕ)
+  module _ (t : MessageType) (n : ℕ) (e : opening_of strip held m ≡ Ok (t, n)) (scratch last : List ℕ)
       (d : last ≡ scratch_after (opening_of strip held m) m scratch) where
     at_front : last ≡ front (spelling_of t m) scratch
-    at_front = d ∙ ap (λ (o : Opening). scratch_after o m scratch) e
+    at_front = d ∙ ap (λ (o : Answer). scratch_after o m scratch) e
 
     pub last_long : length scratch ≡ most → length last ≡ most
     last_long long =

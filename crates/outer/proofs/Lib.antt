@@ -1,3 +1,4 @@
 pub mod Laws
+pub mod Same
 pub mod Good
 pub mod Walk

@@ -10,23 +10,23 @@ use Rattle.text.specs.Words.{Word, all}
 use Rattle.text.proofs.Tests.{both, and_both, all_imp, all_append}
 use Rattle.space.specs.Fields.{inner, Framed}
 use Rattle.space.proofs.Frame.{frame}
-use Rattle.outer.specs.Outer.{outer, is_good, no_paren, Passed}
-use Rattle.outer.specs.declared.Outer.{Outer}
-use Rattle.outer.specs.declared.Outer.TheVariants.{Good, Bad}
+use Rattle.outer.specs.Outer.{outer, no_paren, Passed}
+use Rattle.outer.specs.Refusal.{Checked}
 use Rattle.outer.proofs.Good.{good_passed, passed_good}
+use Rattle.std.specs.Prelude.{Ok, Err, is_ok}
 
 -- GOOD OR NOT
 
-pub is_good_lem : (o : Outer) → is_good o ≡ true → o ≡ Good
-is_good_lem Good e = refl
-is_good_lem (Bad n p) e = absurd (false≢true e)
+pub is_ok_lem : (o : Checked) → is_ok o ≡ true → o ≡ Ok tt
+is_ok_lem (Ok u) e = refl
+is_ok_lem (Err r) e = absurd (false≢true e)
 
-pub not_passed : (m : List ℕ) → (Passed m → ⊥) → false ≡ is_good (outer m)
+pub not_passed : (m : List ℕ) → (Passed m → ⊥) → false ≡ is_ok (outer m)
 not_passed m n = go (outer m) refl
   where
-    go : (o : Outer) → outer m ≡ o → false ≡ is_good o
-    go Good e = absurd (n (good_passed m e))
-    go (Bad k p) e = refl
+    go : (o : Checked) → outer m ≡ o → false ≡ is_ok o
+    go (Ok u) e = absurd (n (good_passed m e))
+    go (Err r) e = refl
 
 -- BYTES THAT MAY STAND BETWEEN
 
@@ -76,13 +76,13 @@ module _ (m : List ℕ) (short : length m ≤ 1800) (framed : Framed m) where
       let l = both (in_alphabet 40) (all in_alphabet (inner m ++ (41 ∷ []))) (sym (ap (all in_alphabet) (frame m framed)) ∙ p.letters) in
       all_parts (inner m) (front (inner m) (41 ∷ []) l.1) p.between
 
-  inner_good : all inner_byte (inner m) ≡ is_good (outer m)
+  inner_good : all inner_byte (inner m) ≡ is_ok (outer m)
   inner_good = go (all inner_byte (inner m)) refl
     where
-      go : (t : Bool) → all inner_byte (inner m) ≡ t → t ≡ is_good (outer m)
-      go true e = sym (ap is_good (passed_good m (inner_passed e)))
+      go : (t : Bool) → all inner_byte (inner m) ≡ t → t ≡ is_ok (outer m)
+      go true e = sym (ap is_ok (passed_good m (inner_passed e)))
       go false e = not_passed m (λ p. false≢true (sym e ∙ passed_inner p))
 
   -- s is what the code takes for what stands between
-  pub walked : (s : Word) (n : ℕ) → s ≡ inner m → n ≡ inner_bytes s → eqb n (length s) ≡ is_good (outer m)
+  pub walked : (s : Word) (n : ℕ) → s ≡ inner m → n ≡ inner_bytes s → eqb n (length s) ≡ is_ok (outer m)
   walked s n e k = ap (λ (i : ℕ). eqb i (length s)) k ∙ to_the_end s ∙ ap (all inner_byte) e ∙ inner_good

@@ -1,78 +1,78 @@
 // Numbers 1 to 3 of a message as sent: its length, its parentheses, its alphabet.
 #![tactic(auto)]
 
-ghost use Rattle.std.specs.Prelude.{◌≡◌};
-ghost use Rattle.outer.specs.Outer.{parens, letters_from, outer, is_good};
+ghost use Rattle.std.specs.Prelude.{◌≡◌, is_ok};
+ghost use Rattle.outer.specs.Refusal.{refusal};
+ghost use Rattle.outer.specs.Outer.{parens, letters_from, outer};
 
-// Good, or the number and the place in the message.
-#[derive(Clone, Copy)]
-pub enum Outer {
-    Good,
-    Bad { number: u8, place: usize },
+// A refusal of document 01's table: its number, the number of the field that it names, 0 for none, and its place in the message.
+// The number stays a number: document 01 numbers the refusals, and the client, the C interface and every theorem speak of the number.
+#[derive(Clone, Copy, PartialEq, Eq)]
+pub struct Refusal {
+    pub number: u8,
+    pub field: u8,
+    pub place: usize,
+}
+
+impl Refusal {
+    // A refusal that names no field, at the start.
+    pub fn of(number: u8) -> Refusal
+        ensures { result ≡ refusal number 0 0 }
+    {
+        Refusal {
+            number,
+            field: 0,
+            place: 0,
+        }
+    }
+
+    // A refusal that names no field.
+    pub fn at(number: u8, place: usize) -> Refusal
+        ensures { result ≡ refusal number 0 place }
+    {
+        Refusal {
+            number,
+            field: 0,
+            place,
+        }
+    }
 }
 
 // The most bytes that a message may have.
 pub const MOST_BYTES: usize = 1800;
 
-// Number 2.
-fn check_parens(msg: &[u8]) -> Outer
+// Number 2: the first byte is `(`, and the first parenthesis behind it is a `)` that stands last.
+fn check_parens(msg: &[u8]) -> Result<(), Refusal>
     ensures { result ≡ parens msg.now }
 {
-    if msg.len() == 0 {
-        return Outer::Bad {
-            number: 2,
-            place: 0,
-        };
+    if msg.len() == 0 || msg[0] != b'(' {
+        return Err(Refusal::of(2));
     }
-    if msg[0] != b'(' {
-        return Outer::Bad {
-            number: 2,
-            place: 0,
-        };
+    let rest = &msg[1..];
+    let n = rest
+        .iter()
+        .position(|&b| b == b'(' || b == b')')
+        .unwrap_or(rest.len());
+    if n + 1 == rest.len() && rest[n] == b')' {
+        return Ok(());
     }
-    let mut i = 1;
-    while i < msg.len() {
-        let at = i;
-        i += 1;
-        if msg[at] == b')' {
-            if i < msg.len() {
-                return Outer::Bad {
-                    number: 2,
-                    place: at,
-                };
-            }
-            return Outer::Good;
-        }
-        if msg[at] == b'(' {
-            return Outer::Bad {
-                number: 2,
-                place: at,
-            };
-        }
-    }
-    Outer::Bad {
-        number: 2,
-        place: i,
-    }
+    Err(Refusal::at(2, n + 1))
 }
 
 // Number 3.
-fn check_letters(msg: &[u8]) -> Outer
+fn check_letters(msg: &[u8]) -> Result<(), Refusal>
     ensures { result ≡ letters_from 0 msg.now }
 {
     let n = alphabet::known_bytes(msg);
     if n < msg.len() {
-        return Outer::Bad {
-            number: 3,
-            place: n,
-        };
+        return Err(Refusal::at(3, n));
     }
-    Outer::Good
+    Ok(())
 }
 
 // Whether a message passes, by one walk over what stands between its first byte and its last.
 fn passes(msg: &[u8]) -> bool
-    ensures { result ≡ is_good (outer msg.now) }
+    ensures { result ≡ is_ok (outer msg.now) }
 {
     if msg.len() > MOST_BYTES {
         return false;
@@ -93,21 +93,15 @@ fn passes(msg: &[u8]) -> bool
 }
 
 // Numbers 1 to 3, in that order. A message that passes is walked once; for any other the number and the place are looked for.
-pub fn check_outer(msg: &[u8]) -> Outer
+pub fn check_outer(msg: &[u8]) -> Result<(), Refusal>
     ensures { result ≡ outer msg.now }
 {
     if passes(msg) {
-        return Outer::Good;
+        return Ok(());
     }
     if msg.len() > MOST_BYTES {
-        return Outer::Bad {
-            number: 1,
-            place: MOST_BYTES,
-        };
+        return Err(Refusal::at(1, MOST_BYTES));
     }
-    let p = check_parens(msg);
-    match p {
-        Outer::Bad { number, place } => Outer::Bad { number, place },
-        Outer::Good => check_letters(msg),
-    }
+    check_parens(msg)?;
+    check_letters(msg)
 }

@@ -17,8 +17,7 @@ use Rattle.space.specs.Hyphens.{behind_hyphen}
 use Rattle.outer.specs.Outer.{most}
 use Rattle.sent.specs.Sent.{contents}
 use Rattle.kinds.specs.declared.MessageType.{MessageType}
-use Rattle.message.specs.declared.Answer.{Answer}
-use Rattle.message.specs.declared.Answer.TheVariants.{Accepted, Refused as NotRead}
+use Rattle.message.specs.Answer.{Answer}
 use Rattle.message.specs.Reading.{spelling_of, answer_of}
 use Rattle.message.specs.Message.{message_from, spelling}
 use Rattle.message.proofs.Nth.{field_at_lem}
@@ -29,13 +28,14 @@ use Rattle.message.proofs.Canonical.{spelling_reduced}
 use Rattle.opening.proofs.Steps.{spelling_two}
 use Rattle.force.specs.InForce.{place_of}
 use Rattle.force.proofs.Walk.{drop-take, place_at}
-use Rattle.parts.specs.declared.Taken.TheVariants.{As}
+use Rattle.outer.proofs.Same.{ok_same}
 use Rattle.parts.specs.Parts.{taken_as, taken_of, Own, content_in, span_at}
 use Rattle.parts.specs.Shown.{Holds}
+use Rattle.std.specs.Prelude.{Ok, Err}
 
 -- A MESSAGE THAT WAS READ and is its own spelling
 
-own_read : (m : List ℕ) (t : MessageType) (n : ℕ) → answer_of m most ≡ Accepted t n → spelling_of t m ≡ m → Own t m
+own_read : (m : List ℕ) (t : MessageType) (n : ℕ) → answer_of m most ≡ Ok (t, n) → spelling_of t m ≡ m → Own t m
 own_read m t n e s =
     let r = accepted_record m most t n e in
     let whole : spelling (message_from t (contents m)) ≡ m = r.spelled ∙ s in
@@ -49,17 +49,16 @@ own_read m t n e s =
       fit = f.fit;
     }
 
-pub taken_own : (m : List ℕ) (t : MessageType) → taken_of m ≡ As t true → Own t m
+pub taken_own : (m : List ℕ) (t : MessageType) → taken_of m ≡ Ok (t, true) → Own t m
 unfolding taken_of
 taken_own m t e = go (answer_of m most) refl e
   where
-    go : (a : Answer) → answer_of m most ≡ a → taken_as a m ≡ As t true → Own t m
-    go (Accepted u n) q p =
-        let is : u ≡ t = cc in
-        let own : same (spelling_of u m) m ≡ true = cc in
-        let o : Own u m = own_read m u n q (same-eq (spelling_of u m) m own) in
-        rw is at o
-    go (NotRead n field place) q p = let z : ◌≡◌ {A = ℕ} 0 1 = cc in absurd (omega arith)
+    go : (a : Answer) → answer_of m most ≡ a → taken_as a m ≡ Ok (t, true) → Own t m
+    go (Ok (u, n)) q p =
+        let both = ok_same u t (same (spelling_of u m) m) true p in
+        let o : Own u m = own_read m u n q (same-eq (spelling_of u m) m both.1) in
+        rw both.0 at o
+    go (Err r) q p = cc
 
 -- WHERE A FIELD STANDS
 

@@ -23,13 +23,12 @@ use Rattle.message.proofs.Written.{laws_all}
 use Rattle.message.proofs.Valid.{valid_fields}
 use Rattle.message.proofs.Accepted.{record_spelling, record_accepted}
 use Rattle.message.proofs.Canonical.{spelling_reduced, spelling_contents}
-use Rattle.parts.specs.declared.Taken.TheVariants.{As}
-use Rattle.parts.specs.declared.Planned.TheVariants.{Parts}
 use Rattle.parts.specs.Parts.{taken_of, content_in, plan_of, planned_of}
 use Rattle.parts.specs.Shown.{plan_fields, plan_message, seven_of, nine_of, thirteen_of, sixteen_of, eighteen_of, PlanShown, PlanTold}
 use Rattle.parts.proofs.Own.{taken_own}
 use Rattle.parts.proofs.Answers.{was-taken, plan-whole}
 use Rattle.parts.proofs.Shown.{parts_shown}
+use Rattle.std.specs.Prelude.{Ok}
 
 -- the contents of the record, which are those of its canonical record too
 plan_contents : (rs : Records plan_fields) → sent_contents (plan_message rs) ≡ contents_of plan_fields rs
@@ -51,14 +50,14 @@ module _ (rs : Records plan_fields) (v : valid_message (plan_message rs) ≡ tru
         same_bytes = spelling_reduced (plan_message rs) v ∙ plan_spelling rs ∙ sym (ap message_of (plan_contents rs));
       }
 
-  taken : taken_of m ≡ As Fpl true
+  taken : taken_of m ≡ Ok (Fpl, true)
   unfolding plan_message
   taken =
       sym (was-taken m Fpl _ (record_accepted (plan_message rs) m v as_sent_lem most short) m
       (sym (record_spelling (plan_message rs) m v as_sent_lem)) true (sym (same_self m)))
 
-  pub plan_given : planned_of m ≡ Parts (plan_of m)
-  plan_given = sym (plan-whole m (As Fpl true) taken (Parts (plan_of m)) refl).0
+  pub plan_given : planned_of m ≡ Ok (plan_of m)
+  plan_given = sym (plan-whole m (Ok (Fpl, true)) taken (Ok (plan_of m)) refl).0
 
   -- its contents are read as the record
   contents_are : contents m ≡ contents_of plan_fields rs

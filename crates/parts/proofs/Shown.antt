@@ -25,17 +25,14 @@ use Rattle.message.specs.Reading.{count_of, is_plan}
 use Rattle.message.proofs.Plans.{plan_type}
 use Rattle.force.proofs.Walk.{drop-take}
 use Rattle.force.specs.declared.Span.{Span}
-use Rattle.parts.specs.declared.Part.TheVariants.{At, Refused as NoField}
-use Rattle.parts.specs.declared.Planned.TheVariants.{Parts, Refused as NoPlan}
-use Rattle.parts.specs.declared.Taken.{Taken}
-use Rattle.parts.specs.declared.Taken.TheVariants.{As, Refused as NotTaken}
-use Rattle.parts.specs.Parts.{taken_of, Own, content_in, field_from, span_of, span_at, numbers_in, rank_in, field_in, field_as, field_of, asked_by}
-use Rattle.parts.specs.Parts.{content_asked}
-use Rattle.parts.specs.Parts.{plan_of, planned_as, planned_of}
+use Rattle.parts.specs.Parts.{Taken, taken_of, Own, content_in, field_from, span_of, span_at, numbers_in, rank_in, field_in, field_as, field_of, asked_by}
+use Rattle.parts.specs.Parts.{content_asked, plan_of, planned_as, planned_of}
 use Rattle.parts.specs.Shown.{Holds, Shows, four, ShowsPlan, FieldTold}
 use Rattle.parts.proofs.Own.{taken_own, field_holds}
 use Rattle.parts.proofs.Fields.{alternates_long, alternate_at}
 use Rattle.parts.proofs.Steps.{number_at, numbers_long, form_fits, thirteen_fits, sixteen_fits}
+use Rattle.std.specs.Prelude.{Ok, Err}
+use Rattle.outer.specs.Refusal.{refusal}
 
 -- A FIELD
 
@@ -43,14 +40,14 @@ pub field_shown : (m : List ℕ) (n : ℕ) → Shows (field_of m n) m (content_a
 unfolding field_of field_in
 field_shown m n = go (taken_of m) refl
   where
-    pick : (t : MessageType) → Own t m → (b : Bool) → Shows (cond b (At (span_at m (rank_in t m n))) (NoField 8 n 0)) m (content_in m (rank_in t m n))
+    pick : (t : MessageType) → Own t m → (b : Bool) → Shows (cond b (Ok (span_at m (rank_in t m n))) (Err (refusal 8 n 0))) m (content_in m (rank_in t m n))
     pick t o true = field_holds m o.two o.stays (rank_in t m n)
     pick t o false = tt
 
     go : (k : Taken) → taken_of m ≡ k → Shows (field_as k m n) m (asked_by k m n)
-    go (As t true) q = pick t (taken_own m t q) (holds n (numbers_in t m))
-    go (As t false) q = tt
-    go (NotTaken number field place) q = tt
+    go (Ok (t, true)) q = pick t (taken_own m t q) (holds n (numbers_in t m))
+    go (Ok (t, false)) q = tt
+    go (Err r) q = tt
 
 -- it is the first of its number
 
@@ -70,7 +67,7 @@ first_of c (x ∷ xs) h = go (first_of c xs) (eqb x c) refl h
     go ih true e l = (eqb-true x c e, λ i k. absurd (omega arith))
     go ih false e l = let f = ih (omega arith) in (f.0, earlier e f.1)
 
-module _ (m : List ℕ) (n : ℕ) (s : Span) (t : MessageType) (q : taken_of m ≡ As t true) where
+module _ (m : List ℕ) (n : ℕ) (s : Span) (t : MessageType) (q : taken_of m ≡ Ok (t, true)) where
   own : Own t m
   own = taken_own m t q
 
@@ -92,19 +89,19 @@ module _ (m : List ℕ) (n : ℕ) (s : Span) (t : MessageType) (q : taken_of m �
         there = subst (λ (x : Span). Holds m x (content_in m (rank_in t m n))) (sym is) (field_holds m o.two o.stays (rank_in t m n));
       }
 
-pub field_told_lem : (m : List ℕ) (n : ℕ) (s : Span) → field_of m n ≡ At s → FieldTold m n s
+pub field_told_lem : (m : List ℕ) (n : ℕ) (s : Span) → field_of m n ≡ Ok s → FieldTold m n s
 unfolding field_of field_in
 field_told_lem m n s e = go (taken_of m) refl e
   where
-    pick : (t : MessageType) → taken_of m ≡ As t true → (b : Bool) → ltb (rank_in t m n) (length (numbers_in t m)) ≡ b
-        → cond b (At (span_at m (rank_in t m n))) (NoField 8 n 0) ≡ At s → FieldTold m n s
+    pick : (t : MessageType) → taken_of m ≡ Ok (t, true) → (b : Bool) → ltb (rank_in t m n) (length (numbers_in t m)) ≡ b
+        → cond b (Ok (span_at m (rank_in t m n))) (Err (refusal 8 n 0)) ≡ Ok s → FieldTold m n s
     pick t q true l p = let is : s ≡ span_at m (rank_in t m n) = cc in field_at_lem m n s t q (ltb-true (rank_in t m n) (length (numbers_in t m)) l) is
-    pick t q false l p = let z : ◌≡◌ {A = ℕ} 0 1 = cc in absurd (omega arith)
+    pick t q false l p = cc
 
-    go : (k : Taken) → taken_of m ≡ k → field_as k m n ≡ At s → FieldTold m n s
-    go (As t true) q p = pick t q (ltb (rank_in t m n) (length (numbers_in t m))) refl p
-    go (As t false) q p = let z : ◌≡◌ {A = ℕ} 0 1 = cc in absurd (omega arith)
-    go (NotTaken number field place) q p = let z : ◌≡◌ {A = ℕ} 0 1 = cc in absurd (omega arith)
+    go : (k : Taken) → taken_of m ≡ k → field_as k m n ≡ Ok s → FieldTold m n s
+    go (Ok (t, true)) q p = pick t q (ltb (rank_in t m n) (length (numbers_in t m))) refl p
+    go (Ok (t, false)) q p = cc
+    go (Err r) q p = cc
 
 -- A PART OF A CONTENT, which begins at a place of the message
 
@@ -183,7 +180,7 @@ module _ (m : List ℕ) (o : Own Fpl m) where
       part_holds m (field_from m plan16) s (at plan16) (8 + (5 * i + 1)) 4 (get_or (record16plan s).alternates i [])
       (omega (arith, alternates_long s e)) (alternate_at s e i l)
 
-  pub parts_shown : ShowsPlan (Parts (plan_of m)) m
+  pub parts_shown : ShowsPlan (Ok (plan_of m)) m
   unfolding plan_of
   parts_shown =
       let n = length (record16plan (content_in m plan16)).alternates in
@@ -204,15 +201,15 @@ pub plan_shown : (m : List ℕ) → ShowsPlan (planned_of m) m
 unfolding planned_of
 plan_shown m = go (taken_of m) refl
   where
-    pick : (t : MessageType) → Own t m → (b : Bool) → is_plan t ≡ b → ShowsPlan (cond b (Parts (plan_of m)) (NoPlan 14 0 0)) m
+    pick : (t : MessageType) → Own t m → (b : Bool) → is_plan t ≡ b → ShowsPlan (cond b (Ok (plan_of m)) (Err (refusal 14 0 0))) m
     pick t o true p = parts_shown m (rw (plan_type t p) at o)
     pick t o false p = tt
 
-    other : (b : Bool) → ShowsPlan (cond b (NoPlan 17 0 0) (NoPlan 14 0 0)) m
+    other : (b : Bool) → ShowsPlan (cond b (Err (refusal 17 0 0)) (Err (refusal 14 0 0))) m
     other true = tt
     other false = tt
 
     go : (k : Taken) → taken_of m ≡ k → ShowsPlan (planned_as k m) m
-    go (As t true) q = pick t (taken_own m t q) (is_plan t) refl
-    go (As t false) q = other (is_plan t)
-    go (NotTaken number field place) q = tt
+    go (Ok (t, true)) q = pick t (taken_own m t q) (is_plan t) refl
+    go (Ok (t, false)) q = other (is_plan t)
+    go (Err r) q = tt

@@ -33,14 +33,14 @@ use Rattle.records.specs.Records.{fit_all}
 use Rattle.forms.specs.Forms.{field_of as form_of}
 use Rattle.message.specs.Reading.{count_of}
 use Rattle.force.specs.declared.Span.{Span}
-use Rattle.parts.specs.declared.Part.TheVariants.{At, Refused as NoField}
 use Rattle.parts.specs.declared.Aircraft.{Aircraft}
 use Rattle.parts.specs.declared.OffBlock.{OffBlock}
 use Rattle.parts.specs.declared.Destination.{Destination}
-use Rattle.parts.specs.Parts.{Own, content_in, span_at, numbers_in, rank_in, field_in}
-use Rattle.parts.specs.Parts.{span_of, aircraft_as, off_block_as, destination_as, plan_of}
+use Rattle.parts.specs.Parts.{Own, content_in, span_at, numbers_in, rank_in, field_in, span_of, aircraft_as, off_block_as, destination_as, plan_of}
 use Rattle.parts.proofs.Own.{field_holds}
 use Rattle.parts.proofs.Fields.{alternates_long, alternates_few}
+use Rattle.std.specs.Prelude.{Ok, Err}
+use Rattle.outer.specs.Refusal.{refusal}
 
 -- THE PLACE OF A NUMBER among the numbers of some fields
 
@@ -82,17 +82,17 @@ module _ (t : MessageType) (m : List ℕ) (n : ℕ) (o : Own t m) (j : ℕ) (at 
   long : length (numbers_in t m) ≡ count_of m
   long = numbers_long t (count_of m) o.least o.greatest
 
-  by_place : (b : Bool) → ltb (rank_in t m n) (length (numbers_in t m)) ≡ b → field_in t m n ≡ cond b (At (span_at m (rank_in t m n))) (NoField 8 n 0)
+  by_place : (b : Bool) → ltb (rank_in t m n) (length (numbers_in t m)) ≡ b → field_in t m n ≡ cond b (Ok (span_at m (rank_in t m n))) (Err (refusal 8 n 0))
   unfolding field_in
-  by_place b e = ap (λ (x : Bool). cond x (At (span_at m (rank_in t m n))) (NoField 8 n 0)) e
+  by_place b e = ap (λ (x : Bool). cond x (Ok (span_at m (rank_in t m n))) (Err (refusal 8 n 0))) e
 
-  pub none_there : j ≡ count_of m → NoField 8 n 0 ≡ field_in t m n
+  pub none_there : j ≡ count_of m → Err (refusal 8 n 0) ≡ field_in t m n
   none_there e = sym (by_place false (le-ltb (rank_in t m n) (length (numbers_in t m)) (omega (arith, long))))
 
-  pub one_there : (j ≡ count_of m → ⊥) → (s : Span) → s ≡ span_at m j → At s ≡ field_in t m n
+  pub one_there : (j ≡ count_of m → ⊥) → (s : Span) → s ≡ span_at m j → Ok s ≡ field_in t m n
   one_there e s is =
       let l : rank_in t m n < length (numbers_in t m) = omega (arith, long, up_to-le n (numbers_in t m), e) in
-      ap At (is ∙ ap (span_at m) at) ∙ sym (by_place true (lt-ltb (rank_in t m n) (length (numbers_in t m)) l))
+      ap Ok (is ∙ ap (span_at m) at) ∙ sym (by_place true (lt-ltb (rank_in t m n) (length (numbers_in t m)) l))
 
 -- A CONTENT OF A PLAN: field j's, which stands where the code finds it
 

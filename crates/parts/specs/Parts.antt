@@ -1,6 +1,7 @@
 -- The parts of a message that is its own spelling: where a field stands, by its number, and of a plan the parts that the desk works with, by the
 -- records of its fields. Assumes nothing.
-use Rattle.std.specs.Prelude.{ℕ, suc, ◌+◌, ◌≤◌, ◌≡◌, refl, Bool, true, false, cond, List, [], map, ltb, length, take, drop, get_or, Some, None}
+use Rattle.std.specs.Prelude.{ℕ, suc, ◌+◌, ◌≤◌, ◌≡◌, refl, Bool, true, false, cond, List, [], map, ltb, length, take, drop, get_or}
+use Rattle.std.specs.Prelude.{Some, None, Result, Ok, Err}
 use Rattle.alphabet.specs.Text.{bytes}
 use Rattle.alphabet.specs.Alphabet.{white}
 use Rattle.text.specs.Words.{Word, same, up_to, holds}
@@ -21,28 +22,26 @@ use Rattle.kinds.specs.declared.MessageType.{MessageType}
 use Rattle.kinds.specs.declared.MessageType.TheVariants.{Fpl, Chg, Cnl}
 use Rattle.kinds.specs.Kinds.{least_of, greatest_of, forms_of, number_of, plan_forms, brief_forms, plan7, plan9, plan13, plan16, plan18}
 use Rattle.records.specs.Records.{fit_all}
-use Rattle.message.specs.declared.Answer.{Answer}
-use Rattle.message.specs.declared.Answer.TheVariants.{Accepted, Refused as NotRead}
+use Rattle.message.specs.Answer.{Answer}
 use Rattle.message.specs.Reading.{count_of, is_plan, spelling_of, answer_of}
 use Rattle.message.specs.Message.{fields_of}
 use Rattle.force.specs.InForce.{place_of}
 use Rattle.force.specs.declared.Span.{Span}
-use Rattle.parts.specs.declared.Part.{Part}
-use Rattle.parts.specs.declared.Part.TheVariants.{At, Refused as NoField}
+use Rattle.outer.specs.declared.Refusal.{Refusal}
 use Rattle.parts.specs.declared.Aircraft.{Aircraft}
 use Rattle.parts.specs.declared.OffBlock.{OffBlock}
 use Rattle.parts.specs.declared.Destination.{Destination}
 use Rattle.parts.specs.declared.PlanParts.{PlanParts}
-use Rattle.parts.specs.declared.Planned.{Planned}
-use Rattle.parts.specs.declared.Planned.TheVariants.{Parts, Refused as NoPlan}
-use Rattle.parts.specs.declared.Taken.{Taken}
-use Rattle.parts.specs.declared.Taken.TheVariants.{As, Refused as NotTaken}
+use Rattle.outer.specs.Refusal.{refusal}
 
 -- HOW A MESSAGE IS TAKEN: as its type, and whether it is its own spelling; or reading's refusal
 
+abbrev pub Taken : Type 0
+Taken = Result (MessageType × Bool) Refusal
+
 abbrev pub taken_as : Answer → List ℕ → Taken
-taken_as (Accepted t n) m = As t (same (spelling_of t m) m)
-taken_as (NotRead n field place) m = NotTaken n field place
+taken_as (Ok (t, n)) m = Ok (t, same (spelling_of t m) m)
+taken_as (Err r) m = Err r
 
 unfoldable pub taken_of : List ℕ → Taken
 taken_of m = taken_as (answer_of m most) m
@@ -56,7 +55,10 @@ pub record Own (t : MessageType) (m : List ℕ) : Type 0 where
   pub greatest : count_of m ≤ greatest_of t
   pub fit : fit_all (fields_of t (count_of m)) (contents m) ≡ true
 
--- A FIELD BY ITS NUMBER
+-- A FIELD BY ITS NUMBER: where its content stands, or the refusal
+
+abbrev pub Part : Type 0
+Part = Result Span Refusal
 
 -- the content of field j, counted from 0, as it is read
 abbrev pub content_in : List ℕ → ℕ → Word
@@ -82,25 +84,30 @@ rank_in t m n = up_to n (numbers_in t m)
 
 -- 8, with the number asked as its field
 unfoldable pub field_in : MessageType → List ℕ → ℕ → Part
-field_in t m n = cond (holds n (numbers_in t m)) (At (span_at m (rank_in t m n))) (NoField 8 n 0)
+field_in t m n = cond (holds n (numbers_in t m)) (Ok (span_at m (rank_in t m n))) (Err (refusal 8 n 0))
 
 -- 17: it is not its own spelling
 abbrev pub field_as : Taken → List ℕ → ℕ → Part
-field_as (As t own) m n = cond own (field_in t m n) (NoField 17 0 0)
-field_as (NotTaken number field place) m n = NoField number field place
+field_as (Ok (t, own)) m n = cond own (field_in t m n) (Err (refusal 17 0 0))
+field_as (Err r) m n = Err r
 
 unfoldable pub field_of : List ℕ → ℕ → Part
 field_of m n = field_as (taken_of m) m n
 
 -- the content that is asked for
 abbrev pub asked_by : Taken → List ℕ → ℕ → Word
-asked_by (As t own) m n = content_in m (rank_in t m n)
-asked_by (NotTaken number field place) m n = []
+asked_by (Ok (t, own)) m n = content_in m (rank_in t m n)
+asked_by (Err r) m n = []
 
 abbrev pub content_asked : List ℕ → ℕ → Word
 content_asked m n = asked_by (taken_of m) m n
 
--- THE PARTS OF A PLAN, each from its field's content, which begins at a place of the message
+-- THE PARTS OF A PLAN, or the refusal
+
+abbrev pub Planned : Type 0
+Planned = Result PlanParts Refusal
+
+-- each from its field's content, which begins at a place of the message
 
 -- 9: the type stands behind the number
 abbrev pub aircraft_as : ℕ → List ℕ → Aircraft
@@ -136,8 +143,8 @@ plan_of m =
 
 -- 14: it is no FPL; 17: it is not its own spelling
 abbrev pub planned_as : Taken → List ℕ → Planned
-planned_as (As t own) m = cond (is_plan t) (cond own (Parts (plan_of m)) (NoPlan 17 0 0)) (NoPlan 14 0 0)
-planned_as (NotTaken number field place) m = NoPlan number field place
+planned_as (Ok (t, own)) m = cond (is_plan t) (cond own (Ok (plan_of m)) (Err (refusal 17 0 0))) (Err (refusal 14 0 0))
+planned_as (Err r) m = Err r
 
 unfoldable pub planned_of : List ℕ → Planned
 planned_of m = planned_as (taken_of m) m
@@ -151,10 +158,10 @@ abbrev chg : List ℕ
 chg = bytes "(CHG-ABC12-EHAM0930-EDDF-0-9/B39M/M-8/IN)"
 
 -- fields 3, 9 and 18 of the plan; it has no field 22, and no message has one of 0; the first entry of the CHG, and its own field 18
-fields : (field_in Fpl plan 3 ≡ At (record { from = 1; to = 4 })) × (field_in Fpl plan 9 ≡ At (record { from = 14; to = 20 }))
-    × (field_in Fpl plan 18 ≡ At (record { from = 73; to = 74 })) × (field_in Fpl plan 22 ≡ NoField 8 22 0) × (field_in Fpl plan 0 ≡ NoField 8 0 0)
-    × (field_in Chg chg 22 ≡ At (record { from = 27; to = 35 })) × (field_in Chg chg 18 ≡ At (record { from = 25; to = 26 }))
-    × (field_in Chg chg 9 ≡ NoField 8 9 0)
+fields : (field_in Fpl plan 3 ≡ Ok (record { from = 1; to = 4 })) × (field_in Fpl plan 9 ≡ Ok (record { from = 14; to = 20 }))
+    × (field_in Fpl plan 18 ≡ Ok (record { from = 73; to = 74 })) × (field_in Fpl plan 22 ≡ Err (refusal 8 22 0)) × (field_in Fpl plan 0 ≡ Err (refusal 8 0 0))
+    × (field_in Chg chg 22 ≡ Ok (record { from = 27; to = 35 })) × (field_in Chg chg 18 ≡ Ok (record { from = 25; to = 26 }))
+    × (field_in Chg chg 9 ≡ Err (refusal 8 9 0))
 unfolding field_in forms_of plan_forms brief_forms hyphens behind_hyphen reduced reduced_from stands_for_run opens closes white
 fields = (refl, refl, refl, refl, refl, refl, refl, refl)
 
@@ -163,9 +170,10 @@ shown : (take 6 (drop 14 plan) ≡ bytes "B738/M") × (take 8 (drop 27 chg) ≡ 
 shown = (refl, refl)
 
 -- not its own spelling; another type than FPL, whether it is its own spelling or not; not read
-refused : (field_as (As Cnl false) (bytes "(CNL)") 7 ≡ NoField 17 0 0) × (planned_as (As Fpl false) (bytes "(FPL)") ≡ NoPlan 17 0 0)
-    × (planned_as (As Cnl true) (bytes "(CNL)") ≡ NoPlan 14 0 0) × (planned_as (As Cnl false) (bytes "(CNL)") ≡ NoPlan 14 0 0)
-    × (field_as (NotTaken 7 13 16) (bytes "(CNL)") 7 ≡ NoField 7 13 16) × (planned_as (NotTaken 7 13 16) (bytes "(CNL)") ≡ NoPlan 7 13 16)
+refused : (field_as (Ok (Cnl, false)) (bytes "(CNL)") 7 ≡ Err (refusal 17 0 0)) × (planned_as (Ok (Fpl, false)) (bytes "(FPL)") ≡ Err (refusal 17 0 0))
+    × (planned_as (Ok (Cnl, true)) (bytes "(CNL)") ≡ Err (refusal 14 0 0)) × (planned_as (Ok (Cnl, false)) (bytes "(CNL)") ≡ Err (refusal 14 0 0))
+    × (field_as (Err (refusal 7 13 16)) (bytes "(CNL)") 7 ≡ Err (refusal 7 13 16))
+    × (planned_as (Err (refusal 7 13 16)) (bytes "(CNL)") ≡ Err (refusal 7 13 16))
 refused = (refl, refl, refl, refl, refl, refl)
 
 -- the parts of the plan, and of one with more of them

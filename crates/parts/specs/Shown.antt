@@ -1,6 +1,6 @@
 -- What the places that were given back say of the bytes that stand there: they are the content that was asked for, and the words of the records of
 -- the plan's fields. Assumes nothing.
-use Rattle.std.specs.Prelude.{ℕ, ◌+◌, ◌-◌, ◌≤◌, ◌<◌, ◌≡◌, true, List, [], ◌∷◌, length, take, drop, get_or}
+use Rattle.std.specs.Prelude.{ℕ, ◌+◌, ◌-◌, ◌≤◌, ◌<◌, ◌≡◌, true, List, [], ◌∷◌, length, take, drop, get_or, Ok, Err}
 use Rattle.text.specs.Words.{Word}
 use Rattle.shape.specs.Field.{Field}
 use Rattle.head.specs.Field3.{field3}
@@ -21,13 +21,8 @@ use Rattle.forms.specs.Forms.{field_of as form_of}
 use Rattle.message.specs.Reading.{count_of}
 use Rattle.message.specs.Message.{Message, spelling}
 use Rattle.force.specs.declared.Span.{Span}
-use Rattle.parts.specs.declared.Part.{Part}
-use Rattle.parts.specs.declared.Part.TheVariants.{At, Refused as NoField}
+use Rattle.parts.specs.Parts.{Part, Planned, taken_of, content_in, planned_of}
 use Rattle.parts.specs.declared.PlanParts.{PlanParts}
-use Rattle.parts.specs.declared.Planned.{Planned}
-use Rattle.parts.specs.declared.Planned.TheVariants.{Parts, Refused as NoPlan}
-use Rattle.parts.specs.declared.Taken.TheVariants.{As}
-use Rattle.parts.specs.Parts.{taken_of, content_in, planned_of}
 
 -- this word stands at these places of a message
 pub record Holds (m : List ℕ) (s : Span) (w : Word) : Type 0 where
@@ -37,8 +32,8 @@ pub record Holds (m : List ℕ) (s : Span) (w : Word) : Type 0 where
 
 -- a field's content
 abbrev pub Shows : Part → List ℕ → Word → Type 0
-Shows (At s) m w = Holds m s w
-Shows (NoField number field place) m w = Unit
+Shows (Ok s) m w = Holds m s w
+Shows (Err r) m w = Unit
 
 -- four letters that begin at a place
 abbrev pub four : ℕ → Span
@@ -59,9 +54,9 @@ pub record PlanShown (m : List ℕ) (r7 : Field7) (r9 : Field9) (r13 : Field13) 
 
 -- of the contents that were read
 abbrev pub ShowsPlan : Planned → List ℕ → Type 0
-ShowsPlan (Parts p) m =
+ShowsPlan (Ok p) m =
     PlanShown m (record7 (content_in m plan7)) (record9 (content_in m plan9)) (record13 (content_in m plan13)) (record16plan (content_in m plan16)) p
-ShowsPlan (NoPlan number field place) m = Unit
+ShowsPlan (Err r) m = Unit
 
 -- THE RECORD OF A PLAN: those of its nine fields
 
@@ -91,7 +86,7 @@ eighteen_of rs = rs.1.1.1.1.1.1.1.1.0
 -- of the message that a record is written as, the record's parts are told
 pub record PlanTold (rs : Records plan_fields) : Type 0 where
   pub told : PlanParts
-  pub given : planned_of (spelling (plan_message rs)) ≡ Parts told
+  pub given : planned_of (spelling (plan_message rs)) ≡ Ok told
   pub shown : PlanShown (spelling (plan_message rs)) (seven_of rs) (nine_of rs) (thirteen_of rs) (sixteen_of rs) told
   pub date : told.date ≡ flight_date (date_in (spell18 (eighteen_of rs)))
 
@@ -99,7 +94,7 @@ pub record PlanTold (rs : Records plan_fields) : Type 0 where
 
 pub record FieldTold (m : List ℕ) (n : ℕ) (s : Span) : Type 0 where
   pub type : MessageType
-  pub taken : taken_of m ≡ As type true
+  pub taken : taken_of m ≡ Ok (type, true)
   pub place : ℕ
   pub inside : place < count_of m
   pub numbered : number_of (form_at type (count_of m) place) ≡ n

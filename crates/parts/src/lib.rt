@@ -1,7 +1,7 @@
 // The parts of a message that is its own spelling: where a field stands, by its number, and of a plan the parts that the desk works with.
 #![tactic(auto)]
 
-ghost use Rattle.std.specs.Prelude.{◌≡◌, true, map, ℕ, ◌-◌, ◌≤◌, length, take, drop};
+ghost use Rattle.std.specs.Prelude.{◌≡◌, true, map, ℕ, Ok, ◌-◌, ◌≤◌, length, take, drop};
 ghost use Rattle.text.specs.Words.{up_to};
 ghost use Rattle.space.specs.Reduced.{reduced};
 ghost use Rattle.outer.specs.Outer.{most};
@@ -17,18 +17,14 @@ ghost use Rattle.parts.specs.Shown.{Shows, ShowsPlan};
 
 use dates::Date;
 use kinds::MessageType;
-use message::Answer;
+use outer::Refusal;
 use shape::{Clock, Elapsed};
 
 // A span of a message.
 pub use force::Span;
 
 // Where a field's content stands, or the refusal.
-#[derive(Clone, Copy)]
-pub enum Part {
-    At(Span),
-    Refused { number: u8, field: u8, place: usize },
-}
+pub type Part = Result<Span, Refusal>;
 
 // Field 9: how many aircraft, and where their type stands.
 #[derive(Clone, Copy)]
@@ -64,35 +60,17 @@ pub struct PlanParts {
     pub date: Option<Date>,
 }
 
-#[derive(Clone, Copy)]
-pub enum Planned {
-    Parts(PlanParts),
-    Refused { number: u8, field: u8, place: usize },
-}
+pub type Planned = Result<PlanParts, Refusal>;
 
 // How a message is taken: its type, and whether it is its own spelling; or reading's refusal.
-#[derive(Clone, Copy)]
-pub enum Taken {
-    As(MessageType, bool),
-    Refused { number: u8, field: u8, place: usize },
-}
+pub type Taken = Result<(MessageType, bool), Refusal>;
 
 fn read_own(m: &[u8]) -> Taken
     ensures { result ≡ taken_of m.now }
 {
     let mut scratch = [0u8; outer::MOST_BYTES];
-    match message::read(m, &mut scratch) {
-        Answer::Refused {
-            number,
-            field,
-            place,
-        } => Taken::Refused {
-            number,
-            field,
-            place,
-        },
-        Answer::Accepted(t, n) => Taken::As(t, text::same_bytes(&scratch[..n], m)),
-    }
+    let (t, n) = message::read(m, &mut scratch)?;
+    Ok((t, text::same_bytes(&scratch[..n], m)))
 }
 
 // The place, counted from 0, of the first field of a number; the count where there is none.
@@ -134,13 +112,13 @@ fn field_in(t: MessageType, m: &[u8], number: u8) -> Part
     let count = space::count_hyphens(m) + 1;
     let j = rank_of(t, count, number);
     if j == count {
-        return Part::Refused {
+        return Err(Refusal {
             number: 8,
             field: number,
             place: 0,
-        };
+        });
     }
-    Part::At(field_at(m, j))
+    Ok(field_at(m, j))
 }
 
 // Where the content of a message's field stands, by the field's number; of several, as a CHG's entries, the first.
@@ -148,27 +126,11 @@ pub fn field_of(spelling: &[u8], number: u8) -> Part
     ensures value { result ≡ field_of spelling.now number }
     ensures shows { Shows result spelling.now (content_asked spelling.now number) }
 {
-    match read_own(spelling) {
-        Taken::Refused {
-            number: n,
-            field,
-            place,
-        } => Part::Refused {
-            number: n,
-            field,
-            place,
-        },
-        Taken::As(t, own) => {
-            if !own {
-                return Part::Refused {
-                    number: 17,
-                    field: 0,
-                    place: 0,
-                };
-            }
-            field_in(t, spelling, number)
-        }
+    let (t, own) = read_own(spelling)?;
+    if !own {
+        return Err(Refusal::of(17));
     }
+    field_in(t, spelling, number)
 }
 
 // The bytes of a span.
@@ -292,24 +254,16 @@ fn plan_in(m: &[u8]) -> PlanParts
 
 // Numbers 14 and 17 of a message that was read, and the parts.
 fn plan_read(t: MessageType, own: bool, m: &[u8]) -> Planned
-    requires { taken_of m.now ≡ Taken.As t own }
-    ensures { result ≡ planned_as (Taken.As t own) m.now }
+    requires { taken_of m.now ≡ Ok (t, own) }
+    ensures { result ≡ planned_as (Ok (t, own)) m.now }
 {
     if !message::is_plan(t) {
-        return Planned::Refused {
-            number: 14,
-            field: 0,
-            place: 0,
-        };
+        return Err(Refusal::of(14));
     }
     if !own {
-        return Planned::Refused {
-            number: 17,
-            field: 0,
-            place: 0,
-        };
+        return Err(Refusal::of(17));
     }
-    Planned::Parts(plan_in(m))
+    Ok(plan_in(m))
 }
 
 // The parts of a plan: an accepted FPL that is its own spelling, as a strip is.
@@ -317,16 +271,6 @@ pub fn plan_parts(strip: &[u8]) -> Planned
     ensures value { result ≡ planned_of strip.now }
     ensures shows_plan { ShowsPlan result strip.now }
 {
-    match read_own(strip) {
-        Taken::Refused {
-            number,
-            field,
-            place,
-        } => Planned::Refused {
-            number,
-            field,
-            place,
-        },
-        Taken::As(t, own) => plan_read(t, own, strip),
-    }
+    let (t, own) = read_own(strip)?;
+    plan_read(t, own, strip)
 }

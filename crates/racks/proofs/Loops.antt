@@ -1,71 +1,68 @@
--- The walks over a firm's ten places. Assumes nothing.
-use Prim.Native.Nat.{ℕ, suc, ◌+◌, ◌-◌, ◌*◌, ◌≤◌, ◌<◌}
-use mathlib.Core.Path.{◌≡◌, sym, ap, ◌∙◌}
-use mathlib.Core.List.{List, [], ◌∷◌}
-use mathlib.Core.Option.{Option}
+-- A firm's ten places, as a part of all places: how many strips stand in them, and which is the first in which none does. Assumes nothing.
+use Prim.Native.Nat.{ℕ, zero, suc, ◌+◌, ◌-◌, ◌*◌, ◌≤◌}
+use mathlib.Core.Path.{◌≡◌, refl, sym, ap, ap₂, ◌∙◌}
+use mathlib.Core.Bool.{Bool, true, false, cond}
+use mathlib.Core.List.{List, [], ◌∷◌, map}
 use native.Mathlib.Omega.{arith}
-use lib.ListN.{drop}
-use Rattle.state.specs.declared.Strip.{Strip}
+use lib.Dec.{ltb}
+use lib.ListN.{length, take, drop}
+use Rattle.std.proofs.Math.Seq.{drop-cons}
+use Rattle.std.specs.Prelude.{Option, None, Some, is_some, is_none, unwrap_or, filter}
+use Rattle.std.specs.List.{position_or_len}
+use Rattle.std.proofs.lemmas.Bool.{ltb-false}
+use Rattle.std.proofs.lemmas.List.Recursion.{is_count_by, is_position_or_len}
+use Rattle.std.proofs.lemmas.List.Sums.{length-filter, prefix_len-le-length}
 use Rattle.history.specs.Demand3.{Standing}
 use Rattle.rooms.specs.Rooms.{held_in, lowest}
-use Rattle.racks.specs.declared.Held.{Held}
-use Rattle.racks.specs.declared.Held.TheVariants.{Nothing, Flight}
-use Rattle.racks.specs.declared.Place.{Place}
-use Rattle.racks.specs.Places.{strip_in, held_at, rack_from, rack_at}
+use Rattle.racks.specs.Places.{Place, strip_in, vacant, held_at, rack_from, rack_at}
 
--- the slots ahead of slot k
-unfoldable pub ahead : List Place → ℕ → ℕ → List (Option Standing)
-ahead ps from k = rack_from ps [] (from + k) (10 - k)
+-- what stands in places without bytes
+abbrev bare : List Place → List (Option Standing)
+bare ps = map (λ p. strip_in p []) ps
 
-module _ (ps : List Place) (from : ℕ) where
-  pub ahead_first : ahead ps from 0 ≡ rack_at ps [] from
-  unfolding ahead rack_at
-  ahead_first = ap (λ (i : ℕ). rack_from ps [] i 10) (omega arith)
+no_bytes : (n : ℕ) → drop {A = ℕ} n [] ≡ []
+no_bytes zero = refl
+no_bytes (suc n) = refl
 
-  pub ahead_none : (k : ℕ) → 10 ≤ k → ahead ps from k ≡ []
-  unfolding ahead
-  ahead_none k h = ap (λ (n : ℕ). rack_from ps [] (from + k) n) none_left
-    where
-      none_left : 10 - k ≡ 0
-      none_left = omega arith
+laid : (ps : List Place) (i n : ℕ) → i + n ≤ length ps → rack_from ps [] i n ≡ bare (take n (drop i ps))
+laid ps i zero h = refl
+laid ps i (suc n) h =
+    ap₂ (λ (b : List ℕ) (r : List (Option Standing)). strip_in (held_at ps i) b ∷ r) (no_bytes (1800 * i)) (laid ps (suc i) n (omega arith))
+    ∙ sym (ap (λ (l : List Place). bare (take (suc n) l)) (drop-cons ps i vacant (omega arith)))
 
-  pub ahead_next : (k : ℕ) → k < 10 → (h : Held) → held_at ps (from + k) ≡ h → ahead ps from k ≡ strip_in h (drop (1800 * (from + k)) [])
-      ∷ ahead ps from (k + 1)
-  unfolding ahead
-  ahead_next k less h e =
-      ap (λ (n : ℕ). rack_from ps [] (from + k) n) one_more_lem
-      ∙ ap (λ (x : Held). strip_in x (drop (1800 * (from + k)) []) ∷ rack_from ps [] (suc (from + k)) (10 - (k + 1))) e
-      ∙ ap (λ (i : ℕ). strip_in h (drop (1800 * (from + k)) []) ∷ rack_from ps [] i (10 - (k + 1))) (omega arith)
-    where
-      one_more_lem : 10 - k ≡ suc (10 - (k + 1))
-      one_more_lem = omega arith
+one_held : (p : Place) (ps : List Place) → held_in (bare (p ∷ ps)) ≡ cond (is_some p) (1 + held_in (bare ps)) (held_in (bare ps))
+one_held None ps = refl
+one_held (Some p) ps = omega arith
 
-  -- HOW MANY STRIPS
+one_lowest : (p : Place) (ps : List Place) → lowest (bare (p ∷ ps)) ≡ cond (is_none p) 0 (1 + lowest (bare ps))
+one_lowest None ps = refl
+one_lowest (Some p) ps = omega arith
 
-  pub held_first : 0 + held_in (ahead ps from 0) ≡ held_in (rack_at ps [] from)
-  held_first = let z = ap held_in ahead_first in omega (arith, z)
+unwrapped : (t : Bool) (p n : ℕ) → (t ≡ false → p ≡ n) → unwrap_or (cond t (Some p) None) n ≡ p
+unwrapped true p n z = refl
+unwrapped false p n z = sym (z refl)
 
-  module _ (n k : ℕ) (less : k < 10) (inv : n + held_in (ahead ps from k) ≡ held_in (rack_at ps [] from)) where
-    pub held_none : held_at ps (from + k) ≡ Nothing → n + held_in (ahead ps from (k + 1)) ≡ held_in (rack_at ps [] from)
-    held_none e = sym (ap (λ (r : List (Option Standing)). n + held_in r) (ahead_next k less Nothing e)) ∙ inv
+module _ (ps : List Place) (from : ℕ) (inside : from + 10 ≤ length ps) where
+  abbrev ten : List Place
+  ten = take (from + 10 - from) (drop from ps)
 
-    pub held_one : (held : Strip) (m : ℕ) → held_at ps (from + k) ≡ Flight held m → n + 1 + held_in (ahead ps from (k + 1)) ≡ held_in (rack_at ps [] from)
-    held_one held m e = let z = ap held_in (ahead_next k less (Flight held m) e) in omega (arith, z)
+  ten_laid : rack_at ps [] from ≡ bare ten
+  unfolding rack_at
+  ten_laid =
+      let e : 10 ≡ from + 10 - from = omega arith in laid ps from 10 inside ∙ ap (λ (n : ℕ). bare (take n (drop from ps))) e
 
-  pub held_done : (n k : ℕ) → 10 ≤ k → n + held_in (ahead ps from k) ≡ held_in (rack_at ps [] from) → n ≡ held_in (rack_at ps [] from)
-  held_done n k h inv = let z = ap held_in (ahead_none k h) in omega (arith, z)
+  pub held_counted : length (filter is_some ten) ≡ held_in (rack_at ps [] from)
+  held_counted =
+      length-filter is_some ten
+      ∙ sym (is_count_by (λ (qs : List Place). held_in (bare qs)) is_some refl one_held ten)
+      ∙ sym (ap held_in ten_laid)
 
-  -- THE LOWEST EMPTY SLOT
-
-  pub lowest_first : 0 + lowest (ahead ps from 0) ≡ lowest (rack_at ps [] from)
-  lowest_first = let z = ap lowest ahead_first in omega (arith, z)
-
-  module _ (k : ℕ) (less : k < 10) (inv : k + lowest (ahead ps from k) ≡ lowest (rack_at ps [] from)) where
-    pub lowest_here : held_at ps (from + k) ≡ Nothing → k ≡ lowest (rack_at ps [] from)
-    lowest_here e = let z = ap lowest (ahead_next k less Nothing e) in omega (arith, z)
-
-    pub lowest_on : (held : Strip) (m : ℕ) → held_at ps (from + k) ≡ Flight held m → k + 1 + lowest (ahead ps from (k + 1)) ≡ lowest (rack_at ps [] from)
-    lowest_on held m e = let z = ap lowest (ahead_next k less (Flight held m) e) in omega (arith, z)
-
-  pub lowest_done : (k : ℕ) → 10 ≤ k → k + lowest (ahead ps from k) ≡ lowest (rack_at ps [] from) → k ≡ lowest (rack_at ps [] from)
-  lowest_done k h inv = let z = ap lowest (ahead_none k h) in omega (arith, z)
+  pub lowest_found : (r : Option ℕ) → r ≡ cond (ltb (position_or_len is_none ten) (length ten)) (Some (position_or_len is_none ten)) None
+      → length ten ≡ 10 → unwrap_or r 10 ≡ lowest (rack_at ps [] from)
+  lowest_found r e long =
+      let p = position_or_len is_none ten in
+      let most : p ≤ length ten = prefix_len-le-length _ ten in
+      ap (λ (o : Option ℕ). unwrap_or o 10) e
+      ∙ unwrapped (ltb p (length ten)) p 10 (λ z. omega (arith, most, long, ltb-false p (length ten) z))
+      ∙ sym (is_position_or_len (λ (qs : List Place). lowest (bare qs)) is_none refl one_lowest ten)
+      ∙ sym (ap lowest ten_laid)

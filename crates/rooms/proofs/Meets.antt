@@ -1,6 +1,6 @@
 -- THE BOARD MEETS WHAT IS ASKED: `meets` is the theorem to read. Assumes nothing.
 use mathlib.Core.Path.{ap}
-use mathlib.Core.Option.{Option}
+use Rattle.std.specs.Prelude.{Option}
 use Rattle.rooms.specs.declared.Firm.{Firm}
 use Rattle.rooms.specs.Rooms.{House, empty, said_to}
 use Rattle.rooms.specs.Rooms.Act.{update, clear}

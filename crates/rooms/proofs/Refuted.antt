@@ -1,6 +1,7 @@
 -- THE KEEPERS OF specs/Slips.antt DO NOT MEET WHAT IS ASKED, each shown by a run of toy strips. Assumes nothing.
 use Prim.Native.Nat.{ℕ, zero, ◌≤◌}
 use mathlib.Core.Path.{◌≡◌, refl, ap}
+use mathlib.Core.Bool.{false≢true}
 use mathlib.Core.List.{List, [], ◌∷◌, ◌++◌}
 use native.Mathlib.Omega.{arith}
 use lib.ListN.{replicate}
@@ -48,7 +49,7 @@ pub takes_highest_fails : Meets toy (takes_highest toy) → ⊥
 takes_highest_fails m =
     let w = (m.filing_right [] 1 First refl 5).otherwise_filed (λ full. omega (arith, full.six)) 5 refl in
     let nine : ◌≡◌ {A = ℕ} 9 w.0 = ap slot_of w.1 in
-    w.4 0 (omega (arith, nine))
+    false≢true (w.4 0 (omega (arith, nine)))
 
 -- THE FIRST FIRM'S ROOM, WHOEVER FILES: once the first firm holds ten, the second, which holds none, is refused
 

@@ -1,7 +1,6 @@
 -- What is asked of whoever keeps a board of 16 strips for two firms (document 02, request 6), over any rules of a strip: `Meets` is the statement to
 -- read. Assumes nothing.
-use Rattle.std.specs.Prelude.{ℕ, ◌≤◌, ◌<◌, ◌≡◌, Bool, true, false, List, [], ◌∷◌, length}
-use Rattle.std.proofs.Math.Option.{Option, none, some, IsSome}
+use Rattle.std.specs.Prelude.{ℕ, ◌≤◌, ◌<◌, ◌≡◌, Bool, true, false, List, [], ◌∷◌, length, Option, None, Some, IsSome}
 use Rattle.rooms.specs.Rooms.{Outcome, House, firm_of, Act, Reply, Board, Said, Asked, stands, offered_at, cleared_at}
 use Rattle.rooms.specs.Rooms.Outcome.{takes, refuses}
 use Rattle.rooms.specs.declared.Firm.{Firm}
@@ -35,7 +34,7 @@ module _ (H : House) where
     pub refused_full : answer ≡ no_room → Full f log
     pub otherwise_refused : (Full f log → ⊥) → (w : H.Why) → H.filing m ≡ refuses w → answer ≡ refused w
     pub otherwise_filed : (Full f log → ⊥) → (s : H.Strip) → H.filing m ≡ takes s
-        → (k : ℕ) × (answer ≡ filed k s) × (k < 10) × (stands H b f k ≡ none) × ((j : ℕ) → j < k → IsSome (stands H b f j))
+        → (k : ℕ) × (answer ≡ filed k s) × (k < 10) × (stands H b f k ≡ None) × ((j : ℕ) → j < k → IsSome (stands H b f j))
 
   -- LIVES. What stands in a slot is what was filed there, after the messages offered to it since; nothing stands where no life is on
 
@@ -49,8 +48,8 @@ module _ (H : House) where
   offer_all s (m ∷ ms) = offer_all (offered_as (H.updating s m) s) ms
 
   pub data Lived : Option (Life H.Message) → Option H.Strip → Type 0 where
-    vacant : Lived none none
-    lives : (l : Life H.Message) (s : H.Strip) → H.filing l.filing ≡ takes s → Lived (some l) (some (offer_all s l.offers))
+    vacant : Lived None None
+    lives : (l : Life H.Message) (s : H.Strip) → H.filing l.filing ≡ takes s → Lived (Some l) (Some (offer_all s l.offers))
 
 -- ACCEPTED, of an answer
 abbrev pub accepted : {S W : Type 0} → Reply S W → Bool
@@ -77,21 +76,21 @@ module _ (H : House) (K : Keeper H) where
   Counts = (cs : List (Asked H)) → Counted H (shown cs) (log cs)
 
   abbrev pub Filings : Type 0
-  Filings = (cs : List (Asked H)) (n : ℕ) (f : Firm) → firm_of n ≡ some f → (m : H.Message)
+  Filings = (cs : List (Asked H)) (n : ℕ) (f : Firm) → firm_of n ≡ Some f → (m : H.Message)
       → Files H f (shown cs) (log cs) m (K.answer (now cs) (call H n (file m)))
 
   -- UPDATING AND CLEARING. A firm reaches only its own slots: 19 where nothing stands, otherwise the strip's own rules decide of an update, and a
   -- clearing needs a strip that is over, 13 for others. 18 for a firm that is not 1 or 2
   abbrev pub Updatings : Type 0
-  Updatings = (cs : List (Asked H)) (n : ℕ) (f : Firm) → firm_of n ≡ some f → (k : ℕ) (m : H.Message)
+  Updatings = (cs : List (Asked H)) (n : ℕ) (f : Firm) → firm_of n ≡ Some f → (k : ℕ) (m : H.Message)
       → K.answer (now cs) (call H n (update k m)) ≡ offered_at H (stands H (shown cs) f k) k m
 
   abbrev pub Clearings : Type 0
-  Clearings = (cs : List (Asked H)) (n : ℕ) (f : Firm) → firm_of n ≡ some f → (k : ℕ)
+  Clearings = (cs : List (Asked H)) (n : ℕ) (f : Firm) → firm_of n ≡ Some f → (k : ℕ)
       → K.answer (now cs) (call H n (clear k)) ≡ cleared_at H (stands H (shown cs) f k) k
 
   abbrev pub Strangers : Type 0
-  Strangers = (cs : List (Asked H)) (n : ℕ) → firm_of n ≡ none → (a : Act H.Message) → K.answer (now cs) (call H n a) ≡ no_firm
+  Strangers = (cs : List (Asked H)) (n : ℕ) → firm_of n ≡ None → (a : Act H.Message) → K.answer (now cs) (call H n a) ≡ no_firm
 
   -- ONE FIRM AND THE OTHER. What a firm is answered depends on its own calls and, for a filing alone, on how many of the 4 the other holds then: in two
   -- runs from the empty board in which these agree, all its answers and all its strips agree

@@ -1,7 +1,6 @@
 -- A keeper of a board that two firms share, good or bad: what it answers to runs of calls and what it shows then; what a firm goes by in a run, and
 -- what it hears. The board of Rooms.antt is one keeper. Assumes nothing.
-use Rattle.std.specs.Prelude.{ℕ, Bool, true, false, List, [], ◌∷◌}
-use Rattle.std.proofs.Math.Option.{Option, none, some}
+use Rattle.std.specs.Prelude.{ℕ, Bool, true, false, List, [], ◌∷◌, Option, None, Some}
 use Rattle.rooms.specs.declared.Firm.{Firm}
 use Rattle.rooms.specs.Rooms.{House, other, same, firm_of, Act, held_in, beyond, Rack, Board, Said, Asked, empty, said, after}
 use Rattle.rooms.specs.Rooms.Act.{file, update, clear}
@@ -21,13 +20,13 @@ pub record Seen (M : Type 0) : Type 0 where
   pub theirs : Option ℕ
 
 abbrev pub seen_as : {M : Type 0} → Act M → ℕ → Seen M
-seen_as (file m) n = record { does = file m; theirs = some n }
-seen_as (update k m) n = record { does = update k m; theirs = none }
-seen_as (clear k) n = record { does = clear k; theirs = none }
+seen_as (file m) n = record { does = file m; theirs = Some n }
+seen_as (update k m) n = record { does = update k m; theirs = None }
+seen_as (clear k) n = record { does = clear k; theirs = None }
 
 abbrev pub is_of : Firm → Option Firm → Bool
-is_of f none = false
-is_of f (some g) = same f g
+is_of f None = false
+is_of f (Some g) = same f g
 
 abbrev pub kept : {A : Type 0} → Bool → A → List A → List A
 kept true x xs = x ∷ xs

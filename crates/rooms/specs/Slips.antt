@@ -1,6 +1,5 @@
 -- Keepers of a board that must not pass. But for its slip each does as the board does. Assumes nothing.
-use Rattle.std.specs.Prelude.{ℕ, zero, suc, ◌+◌, ◌-◌, Bool, true, false, ◌||◌, not, cond, List, [], ◌∷◌, eqb, ltb, set, replicate}
-use Rattle.std.proofs.Math.Option.{Option, none, some}
+use Rattle.std.specs.Prelude.{ℕ, zero, suc, ◌+◌, ◌-◌, Bool, true, false, ◌||◌, not, cond, List, [], ◌∷◌, eqb, ltb, set, replicate, Option, None, Some}
 use Rattle.rooms.specs.declared.Firm.{Firm}
 use Rattle.rooms.specs.declared.Firm.TheVariants.{First}
 use Rattle.rooms.specs.Rooms.{House, other, same, firm_of, Act, held_in, lowest, beyond, has_room, Board, Said, empty}
@@ -16,8 +15,8 @@ module _ (H : House) where
   freed f x = cond (is_clearing x) (other f) f
 
   abbrev put_freed : Option Firm → Board H → Said H → Board H
-  put_freed none b x = b
-  put_freed (some f) b x = λ g. cond (same (freed f x) g) (left H x (b g)) (b g)
+  put_freed None b x = b
+  put_freed (Some f) b x = λ g. cond (same (freed f x) g) (left H x (b g)) (b g)
 
   abbrev pub frees_other : Keeper H
   frees_other =
@@ -36,10 +35,10 @@ module _ (H : House) where
 
   -- one whose answer to an update depends on the other firm: 19 while the other holds a strip
   abbrev by_other : Option Firm → Board H → Act H.Message → Said H
-  by_other none b a = no_firm
-  by_other (some f) b (file m) = said_to H (some f) b (file m)
-  by_other (some f) b (update k m) = cond (eqb (held_in (b (other f))) 0) (said_to H (some f) b (update k m)) no_slot
-  by_other (some f) b (clear k) = said_to H (some f) b (clear k)
+  by_other None b a = no_firm
+  by_other (Some f) b (file m) = said_to H (Some f) b (file m)
+  by_other (Some f) b (update k m) = cond (eqb (held_in (b (other f))) 0) (said_to H (Some f) b (update k m)) no_slot
+  by_other (Some f) b (clear k) = said_to H (Some f) b (clear k)
 
   abbrev pub asks_other : Keeper H
   asks_other = answering by_other
@@ -47,26 +46,26 @@ module _ (H : House) where
   -- one that gives the highest empty slot
   abbrev highest_from : ℕ → ℕ → List (Option H.Strip) → ℕ
   highest_from k found [] = found
-  highest_from k found (none ∷ r) = highest_from (suc k) k r
-  highest_from k found (some s ∷ r) = highest_from (suc k) found r
+  highest_from k found (None ∷ r) = highest_from (suc k) k r
+  highest_from k found (Some s ∷ r) = highest_from (suc k) found r
 
   abbrev by_highest : Option Firm → Board H → Act H.Message → Said H
-  by_highest none b a = no_firm
-  by_highest (some f) b (file m) =
+  by_highest None b a = no_firm
+  by_highest (Some f) b (file m) =
       cond (has_room (held_in (b f)) (beyond (held_in (b (other f))))) (filed_as H (H.filing m) (highest_from 0 0 (b f))) no_room
-  by_highest (some f) b (update k m) = said_to H (some f) b (update k m)
-  by_highest (some f) b (clear k) = said_to H (some f) b (clear k)
+  by_highest (Some f) b (update k m) = said_to H (Some f) b (update k m)
+  by_highest (Some f) b (clear k) = said_to H (Some f) b (clear k)
 
   abbrev pub takes_highest : Keeper H
   takes_highest = answering by_highest
 
   -- one that asks whether there is room for the first firm, whoever files
   abbrev by_first : Option Firm → Board H → Act H.Message → Said H
-  by_first none b a = no_firm
-  by_first (some f) b (file m) =
+  by_first None b a = no_firm
+  by_first (Some f) b (file m) =
       cond (has_room (held_in (b First)) (beyond (held_in (b (other f))))) (filed_as H (H.filing m) (lowest (b f))) no_room
-  by_first (some f) b (update k m) = said_to H (some f) b (update k m)
-  by_first (some f) b (clear k) = said_to H (some f) b (clear k)
+  by_first (Some f) b (update k m) = said_to H (Some f) b (update k m)
+  by_first (Some f) b (clear k) = said_to H (Some f) b (clear k)
 
   abbrev pub asks_first : Keeper H
   asks_first = answering by_first
@@ -87,11 +86,11 @@ module _ (H : House) where
   own_free k f = ltb (held_in (k.board f) - marks (k.shared f)) 6
 
   abbrev by_marks : Option Firm → Marked → Act H.Message → Said H
-  by_marks none k a = no_firm
-  by_marks (some f) k (file m) =
+  by_marks None k a = no_firm
+  by_marks (Some f) k (file m) =
       cond (own_free k f || ltb (marks (k.shared f) + marks (k.shared (other f))) 4) (reply H (k.board f) 0 (file m)) no_room
-  by_marks (some f) k (update j m) = said_to H (some f) k.board (update j m)
-  by_marks (some f) k (clear j) = said_to H (some f) k.board (clear j)
+  by_marks (Some f) k (update j m) = said_to H (Some f) k.board (update j m)
+  by_marks (Some f) k (clear j) = said_to H (Some f) k.board (clear j)
 
   abbrev marked_by : Bool → Said H → List Bool → List Bool
   marked_by own (filed j s) bs = set bs j (not own)
@@ -104,8 +103,8 @@ module _ (H : House) where
   marked_by own not_over bs = bs
 
   abbrev put_marks : Option Firm → Marked → Said H → Firm → List Bool
-  put_marks none k x g = k.shared g
-  put_marks (some f) k x g = cond (same f g) (marked_by (own_free k f) x (k.shared f)) (k.shared g)
+  put_marks None k x g = k.shared g
+  put_marks (Some f) k x g = cond (same f g) (marked_by (own_free k f) x (k.shared f)) (k.shared g)
 
   abbrev pub first_comers : Keeper H
   first_comers =

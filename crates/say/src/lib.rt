@@ -9,7 +9,7 @@ ghost use Rattle.shape.specs.Time.{spell_clock};
 use aerodromes::Aerodrome;
 use kinds::MessageType;
 use shape::Clock;
-use state::{Departure, State, Strip};
+use state::{State, Strip};
 use std::cell::Cell;
 use std::io::{Read, Stderr, Write};
 use std::process::ExitCode;
@@ -153,14 +153,14 @@ fn time<R: Print>(console: &Console<'_, R>, t: Clock) {
     print(console, &four_digits(t));
 }
 
-fn departure<R: Print>(console: &Console<'_, R>, d: Departure) {
+fn departure<R: Print>(console: &Console<'_, R>, d: Option<Clock>) {
     match d {
-        Departure::Known(t) => time(console, t),
-        Departure::Unknown => print(console, b"----"),
+        Some(t) => time(console, t),
+        None => print(console, b"----"),
     }
 }
 
-fn arrival<R: Print>(console: &Console<'_, R>, d: Departure, a: Aerodrome, t: Clock) {
+fn arrival<R: Print>(console: &Console<'_, R>, d: Option<Clock>, a: Aerodrome, t: Clock) {
     print(console, b"ARRIVED ");
     departure(console, d);
     print(console, b" ");
@@ -203,9 +203,8 @@ pub fn accepted<R: Print>(console: &Console<'_, R>, t: MessageType, spelling: &[
 
 // A strip: `OK`, its state, its spelling.
 pub fn strip<R: Print>(console: &Console<'_, R>, held: Strip, spelling: &[u8]) {
-    let s = held.state;
     print(console, b"OK ");
-    state(console, s);
+    state(console, held.state);
     spelled(console, spelling);
 }
 

@@ -4,7 +4,7 @@
 use board::{Looked, Verdict};
 use calls::Call;
 use racks::Board;
-use rooms::Named;
+use rooms::Firm;
 use say::Console;
 use state::Strip;
 
@@ -41,8 +41,7 @@ fn tell_updated<R: Print>(
 fn show_found<R: Print>(console: &Console<'_, R>, board: Board, firm: u8, slot: usize) {
     if let Looked::Stands(held) = board::look(board, firm, slot) {
         say::print(console, b" ");
-        let s = held.state;
-        say::state(console, s);
+        say::state(console, held.state);
     }
 }
 
@@ -147,24 +146,21 @@ fn show_entry<R: Print>(
         let seven = amending::field(board::strip_of(board, firm, slot, bytes), kinds::PLAN_7);
         say::print(console, head::identification(seven));
         say::print(console, b" ");
-        let s = held.state;
-        say::state(console, s);
+        say::state(console, held.state);
     }
 }
 
 fn show_entries<R: Print>(console: &Console<'_, R>, board: Board, firm: u8, bytes: &[u8; 36000]) {
-    let mut slot = 0;
-    while slot < 10 {
+    for slot in 0..10 {
         show_entry(console, board, firm, slot, bytes);
-        slot += 1;
     }
 }
 
 // The strips of a firm, by rising slot.
 pub fn show_list<R: Print>(console: &Console<'_, R>, board: Board, firm: u8, bytes: &[u8; 36000]) {
-    match rooms::firm_named(firm) {
-        Named::Nobody => say::refusal(console, 18, 0, 0),
-        Named::By(_) => {
+    match Firm::from_number(firm) {
+        None => say::refusal(console, 18, 0, 0),
+        Some(_) => {
             say::print(console, b"OK");
             show_entries(console, board, firm, bytes);
             say::print(console, b"\n");

@@ -19,13 +19,13 @@ use Rattle.space.proofs.Reduced.{never_longer}
 use Rattle.space.proofs.Frame.{frame, frame_inner, inner_reduced}
 use Rattle.space.proofs.Tidy.{tidy_stays}
 use Rattle.outer.specs.Outer.{outer, no_paren, Passed}
-use Rattle.outer.specs.declared.Outer.TheVariants.{Good}
 use Rattle.outer.proofs.Good.{passed_good}
 use Rattle.sent.specs.Sent.{message_of, contents}
 use Rattle.sent.proofs.Bytes.{every_sent, contents_every, content_free, white_no_paren, tidy_no_paren, white_alphabet, tidy_alphabet, marks_alphabet}
 use Rattle.sent.proofs.Ends.{Begins, opening_inside, first_sent, last_sent}
 use Rattle.sent.proofs.Letters.{Front, letters_sent, joined_front}
 use Rattle.sent.proofs.Passed.{framed_count}
+use Rattle.std.specs.Prelude.{Ok}
 
 -- tidy contents joined are cut into themselves
 cut_again : (cs : List Word) → all tidy cs ≡ true → 0 < length cs → split 45 (join 45 cs) ≡ cs
@@ -85,7 +85,7 @@ module _ (m : List ℕ) (cs : List Word) (t : all tidy cs ≡ true) (n : 0 < len
         letters = ap (all in_alphabet) (frame m (sent_framed m cs e)) ∙ whole_alphabet;
       }
 
-  pub sent_good : length m ≤ 1800 → outer m ≡ Good
+  pub sent_good : length m ≤ 1800 → outer m ≡ Ok tt
   sent_good short = passed_good m (sent_passes short)
 
   first_front : (k : ℕ) → Front (take k (get_or cs 0 [])) (join 45 cs ++ (41 ∷ []))

@@ -1,12 +1,13 @@
 -- The laws of the state: what is over allows nothing, and from a sound state a sound message leads to a sound state. Assumes nothing.
 use Prim.Native.Nat.{ℕ, ◌+◌, ◌*◌, ◌/◌, ◌%◌, ◌<◌}
-use mathlib.Core.Path.{◌≡◌, refl, sym, ap, ◌∙◌}
-use mathlib.Core.Bool.{Bool, true, false, ◌&&◌, not, false≢true}
+use mathlib.Core.Path.{◌≡◌, refl, sym, ◌∙◌}
+use mathlib.Core.Bool.{Bool, true, false}
 use mathlib.Core.List.{List}
 use native.Mathlib.Omega.{arith}
 use lib.Dec.{leb}
 use native.Mathlib.Nat.{div-add-mod', mod-lt}
 use borrow.Author.Tests.{leb-true, leb-false, le-leb, lt-leb}
+use Rattle.std.specs.Prelude.{Option}
 use Rattle.text.specs.Words.{Word, split}
 use Rattle.text.proofs.Tests.{both, and_both}
 use Rattle.shape.specs.declared.Clock.{Clock}
@@ -20,7 +21,6 @@ use Rattle.aerodromes.specs.Asked.{aerodrome_in, is_letters}
 use Rattle.aerodromes.proofs.Aerodromes.{joined_time}
 use Rattle.aerodromes.proofs.Field17.{landed_parts}
 use Rattle.aerodromes.proofs.Asked.{named17}
-use Rattle.state.specs.declared.Departure.{Departure}
 use Rattle.state.specs.declared.State.{State}
 use Rattle.state.specs.declared.State.TheVariants.{Filed, Departed, Arrived, Cancelled}
 use Rattle.state.specs.declared.Strip.{Strip}
@@ -28,19 +28,9 @@ use Rattle.state.specs.declared.Event.{Event}
 use Rattle.state.specs.declared.Event.TheVariants.{Change, Delay, Cancel, Depart, Arrive}
 use Rattle.state.specs.State.{permits, departure_of, next_state, next_of, sound_clock, sound_departure, sound_landing, sound_state, sound, sound_event}
 
--- A TEST BEFORE ANOTHER, as the code makes them
-
-pub first_fails : (a b r : Bool) → r ≡ a → not r ≡ true → false ≡ (a && b)
-first_fails a b true e n = absurd (false≢true n)
-first_fails a b false e n = ap (λ (x : Bool). x && b) e
-
-pub second_left : (a b r q : Bool) → r ≡ a → not r ≡ false → q ≡ b → q ≡ (a && b)
-second_left a b true q e n h = h ∙ ap (λ (x : Bool). x && b) e
-second_left a b false q e n h = absurd (false≢true (sym n))
-
 -- ARRIVED AND CANCELLED allow nothing
 
-pub arrived_last : (d : Departure) (a : Aerodrome) (t : Clock) (e : Event) → permits (Arrived d a t) e ≡ false
+pub arrived_last : (d : Option Clock) (a : Aerodrome) (t : Clock) (e : Event) → permits (Arrived d a t) e ≡ false
 arrived_last d a t e = refl
 
 pub cancelled_last : (e : Event) → permits Cancelled e ≡ false

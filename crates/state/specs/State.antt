@@ -1,12 +1,10 @@
 -- The state of a flight (document 01, "The strip"): which messages it allows, where an accepted one leaves it, and which states a strip may be
 -- handed with. What is said of a strip is said of its record whole. Assumes nothing.
-use Rattle.std.specs.Prelude.{◌≡◌, refl, Bool, true, false, ◌&&◌, leb}
+use Rattle.std.specs.Prelude.{◌≡◌, refl, Bool, true, false, ◌&&◌, leb, Option, None, Some}
 use Rattle.alphabet.specs.Text.{bytes}
 use Rattle.shape.specs.declared.Clock.{Clock}
 use Rattle.aerodromes.specs.declared.Aerodrome.{Aerodrome}
 use Rattle.aerodromes.specs.Asked.{aerodrome_in, is_letters}
-use Rattle.state.specs.declared.Departure.{Departure}
-use Rattle.state.specs.declared.Departure.TheVariants.{Known, Unknown}
 use Rattle.state.specs.declared.State.{State}
 use Rattle.state.specs.declared.State.TheVariants.{Filed, Departed, Arrived, Cancelled}
 use Rattle.state.specs.declared.Strip.{Strip}
@@ -34,11 +32,11 @@ allowed_in held e = permits held.state e
 -- EFFECT, on the state
 
 -- the departure time, if known
-abbrev pub departure_of : State → Departure
-departure_of Filed = Unknown
-departure_of (Departed t) = Known t
+abbrev pub departure_of : State → Option Clock
+departure_of Filed = None
+departure_of (Departed t) = Some t
 departure_of (Arrived d a t) = d
-departure_of Cancelled = Unknown
+departure_of Cancelled = None
 
 -- where an accepted message leaves the state: CHG and DLA keep it, an ARR arrives with the departure time if known
 abbrev pub next_state : State → Event → State
@@ -60,14 +58,14 @@ next_of held e = record { state = next_state held.state e }
 abbrev pub sound_clock : Clock → Bool
 sound_clock t = leb t.0 1439
 
-abbrev pub sound_departure : Departure → Bool
-sound_departure (Known t) = sound_clock t
-sound_departure Unknown = true
+abbrev pub sound_departure : Option Clock → Bool
+sound_departure (Some t) = sound_clock t
+sound_departure None = true
 
 abbrev pub sound_landing : Aerodrome → Clock → Bool
 sound_landing a t = is_letters a && sound_clock t
 
-abbrev pub sound_arrival : Departure → Aerodrome → Clock → Bool
+abbrev pub sound_arrival : Option Clock → Aerodrome → Clock → Bool
 sound_arrival d a t = sound_departure d && sound_landing a t
 
 abbrev pub sound_state : State → Bool
@@ -104,12 +102,12 @@ departed_allows : (permits (Departed off) Change ≡ true) × (permits (Departed
 departed_allows = (refl, refl, refl, refl, refl)
 
 -- an arrival keeps the departure time, and has none where none is known
-departure_kept : (next_state (next_state Filed (Depart off)) (Arrive frankfurt on) ≡ Arrived (Known off) frankfurt on)
-    × (next_state (next_state Filed Delay) (Arrive frankfurt on) ≡ Arrived Unknown frankfurt on)
+departure_kept : (next_state (next_state Filed (Depart off)) (Arrive frankfurt on) ≡ Arrived (Some off) frankfurt on)
+    × (next_state (next_state Filed Delay) (Arrive frankfurt on) ≡ Arrived None frankfurt on)
 departure_kept = (refl, refl)
 
 -- 1,439 is the last minute, and an aerodrome has no digit
 bounds : (sound_state (Departed (record { 0 = 1439 })) ≡ true) × (sound_state (Departed (record { 0 = 1440 })) ≡ false)
-    × (sound_state (Arrived (Known off) frankfurt on) ≡ true) × (sound_state (Arrived (Known (record { 0 = 1440 })) frankfurt on) ≡ false)
-    × (sound_state (Arrived Unknown frankfurt (record { 0 = 1440 })) ≡ false) × (sound_state (Arrived Unknown (aerodrome_in (bytes "AB1D")) on) ≡ false)
+    × (sound_state (Arrived (Some off) frankfurt on) ≡ true) × (sound_state (Arrived (Some (record { 0 = 1440 })) frankfurt on) ≡ false)
+    × (sound_state (Arrived None frankfurt (record { 0 = 1440 })) ≡ false) × (sound_state (Arrived None (aerodrome_in (bytes "AB1D")) on) ≡ false)
 bounds = (refl, refl, refl, refl, refl, refl)

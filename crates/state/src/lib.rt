@@ -8,17 +8,12 @@ ghost use Rattle.state.specs.State.{sound_clock, sound_departure, sound_landing,
 use aerodromes::Aerodrome;
 use shape::Clock;
 
-#[derive(Clone, Copy)]
-pub enum Departure {
-    Known(Clock),
-    Unknown,
-}
-
+// An arrived flight has the time at which it departed, if that is known.
 #[derive(Clone, Copy)]
 pub enum State {
     Filed,
     Departed(Clock),
-    Arrived(Departure, Aerodrome, Clock),
+    Arrived(Option<Clock>, Aerodrome, Clock),
     Cancelled,
 }
 
@@ -43,24 +38,17 @@ const LAST_MINUTE: u16 = 1439;
 fn allows_departed(e: Event) -> bool
     ensures { result ≡ allowed_departed e }
 {
-    match e {
-        Event::Change => true,
-        Event::Delay => false,
-        Event::Cancel => false,
-        Event::Depart(_) => false,
-        Event::Arrive(_, _) => true,
-    }
+    matches!(e, Event::Change | Event::Arrive(_, _))
 }
 
 // The departure time, if known.
-fn departed_at(s: State) -> Departure
+fn departed_at(s: State) -> Option<Clock>
     ensures { result ≡ departure_of s }
 {
     match s {
-        State::Filed => Departure::Unknown,
-        State::Departed(t) => Departure::Known(t),
+        State::Filed | State::Cancelled => None,
+        State::Departed(t) => Some(t),
         State::Arrived(d, _, _) => d,
-        State::Cancelled => Departure::Unknown,
     }
 }
 
@@ -68,14 +56,10 @@ fn next_state(s: State, e: Event) -> State
     ensures { result ≡ next_state s e }
 {
     match e {
-        Event::Change => s,
-        Event::Delay => s,
+        Event::Change | Event::Delay => s,
         Event::Cancel => State::Cancelled,
         Event::Depart(t) => State::Departed(t),
-        Event::Arrive(a, t) => {
-            let d = departed_at(s);
-            State::Arrived(d, a, t)
-        }
+        Event::Arrive(a, t) => State::Arrived(departed_at(s), a, t),
     }
 }
 
@@ -85,31 +69,25 @@ fn is_sound_clock(t: Clock) -> bool
     t.0 <= LAST_MINUTE
 }
 
-fn is_sound_departure(d: Departure) -> bool
+fn is_sound_departure(d: Option<Clock>) -> bool
     ensures { result ≡ sound_departure d }
 {
     match d {
-        Departure::Known(t) => is_sound_clock(t),
-        Departure::Unknown => true,
+        Some(t) => is_sound_clock(t),
+        None => true,
     }
 }
 
 fn is_sound_landing(a: Aerodrome, t: Clock) -> bool
     ensures { result ≡ sound_landing a t }
 {
-    if !a.is_letters() {
-        return false;
-    }
-    is_sound_clock(t)
+    a.is_letters() && is_sound_clock(t)
 }
 
-fn is_sound_arrival(d: Departure, a: Aerodrome, t: Clock) -> bool
+fn is_sound_arrival(d: Option<Clock>, a: Aerodrome, t: Clock) -> bool
     ensures { result ≡ sound_arrival d a t }
 {
-    if !is_sound_departure(d) {
-        return false;
-    }
-    is_sound_landing(a, t)
+    is_sound_departure(d) && is_sound_landing(a, t)
 }
 
 impl Strip {
@@ -117,12 +95,10 @@ impl Strip {
     pub fn allows(self, e: Event) -> bool
         ensures { result ≡ allowed_in self e }
     {
-        let s = self.state;
-        match s {
+        match self.state {
             State::Filed => true,
             State::Departed(_) => allows_departed(e),
-            State::Arrived(_, _, _) => false,
-            State::Cancelled => false,
+            State::Arrived(_, _, _) | State::Cancelled => false,
         }
     }
 
@@ -130,21 +106,19 @@ impl Strip {
     pub fn next(self, e: Event) -> Strip
         ensures { result ≡ next_of self e }
     {
-        let s = self.state;
-        let state = next_state(s, e);
-        Strip { state }
+        Strip {
+            state: next_state(self.state, e),
+        }
     }
 
     // Whether the state holds no time over 1,439 minutes and no aerodrome but of four letters.
     pub fn is_sound(self) -> bool
         ensures { result ≡ sound self }
     {
-        let s = self.state;
-        match s {
-            State::Filed => true,
+        match self.state {
+            State::Filed | State::Cancelled => true,
             State::Departed(t) => is_sound_clock(t),
             State::Arrived(d, a, t) => is_sound_arrival(d, a, t),
-            State::Cancelled => true,
         }
     }
 }

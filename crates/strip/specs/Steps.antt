@@ -1,23 +1,21 @@
 -- What the steps of an update give, from the two texts: an answer with the output that goes with it.
 -- Assumes nothing.
-use Rattle.std.specs.Prelude.{ℕ, ◌+◌, ◌≤◌, ◌≡◌, List, length}
+use Rattle.std.specs.Prelude.{ℕ, ◌+◌, ◌≤◌, ◌≡◌, List, length, Ok, Err}
 use Rattle.text.specs.Words.{split}
 use Rattle.text.specs.Lent.{front}
 use Rattle.outer.specs.Outer.{most}
 use Rattle.kinds.specs.declared.Role.{Role}
 use Rattle.state.specs.declared.Strip.{Strip}
 use Rattle.amending.specs.Amended.{amended, new_strip}
-use Rattle.strip.specs.declared.Updated.{Updated}
-use Rattle.strip.specs.declared.Updated.TheVariants.{Accepted, Refused}
-use Rattle.strip.specs.Updating.{amended_as, offered_as}
+use Rattle.strip.specs.Updating.{Updated, amended_as, offered_as}
 
 -- a plan of nine fields and a message, each as long as a message may be without its parentheses
 abbrev pub Texts : List ℕ → List ℕ → Type 0
 Texts plan said = (length (split 45 plan) ≡ 9) × (length plan + 2 ≤ most) × (length said + 2 ≤ most)
 
 abbrev pub written_text : Updated → Role → List ℕ → List ℕ → List ℕ → List ℕ
-written_text (Accepted held n) role plan said out = front (new_strip role plan said) out
-written_text (Refused number field place) role plan said out = out
+written_text (Ok (held, n)) role plan said out = front (new_strip role plan said) out
+written_text (Err r) role plan said out = out
 
 -- an answer that is due, and the output that goes with it
 abbrev pub Due : Updated → Role → List ℕ → List ℕ → List ℕ → Updated → List ℕ → Type 0

@@ -1,6 +1,7 @@
 -- An update of the strip (document 01, "The strip"): the answer, the strip's record and every byte of the output, from the strip, its record, the
 -- message and the room lent. A plan and what a message says are given by their texts, which stand between the parentheses. Assumes nothing.
-use Rattle.std.specs.Prelude.{ℕ, ◌-◌, Bool, true, false, ◌&&◌, ◌||◌, not, cond, List, [], eqb, ltb, length, take, drop, get_or, Option, Some, None}
+use Rattle.std.specs.Prelude.{ℕ, ◌-◌, Bool, true, false, ◌&&◌, ◌||◌, not, cond, List, [], eqb, ltb, length, take, drop, get_or}
+use Rattle.std.specs.Prelude.{Option, Some, None, Result, Ok, Err}
 use Rattle.std.specs.Option.{unwrap_or}
 use Rattle.text.specs.Words.{Word, split, before, null, same}
 use Rattle.text.specs.Lent.{front}
@@ -15,20 +16,17 @@ use Rattle.kinds.specs.declared.MessageType.TheVariants.{Fpl}
 use Rattle.kinds.specs.declared.Role.{Role}
 use Rattle.kinds.specs.declared.Role.TheVariants.{Files, Changes, Delays, Cancels, Departs, Arrives, Neither}
 use Rattle.kinds.specs.Kinds.{role_of, plan7, plan13, plan16, plan18, brief7, brief13, brief16, brief18}
-use Rattle.message.specs.declared.Answer.{Answer}
-use Rattle.message.specs.declared.Answer.TheVariants.{Accepted as ReadAs, Refused as NotRead}
+use Rattle.message.specs.Answer.{Answer}
 use Rattle.message.specs.Reading.{unexplained_in, answer_of}
 use Rattle.state.specs.declared.Strip.{Strip}
 use Rattle.state.specs.declared.Event.{Event}
 use Rattle.state.specs.declared.Event.TheVariants.{Change, Delay, Cancel, Depart, Arrive}
 use Rattle.state.specs.State.{allowed_in, next_of}
-use Rattle.opening.specs.declared.Opening.{Opening}
-use Rattle.opening.specs.declared.Opening.TheVariants.{Read, Refused as NotOpened}
 use Rattle.opening.specs.Opening.{text_said, opening_of}
 use Rattle.amending.specs.Amended.{amended, new_strip}
 use Rattle.strip.specs.declared.Differences.{Differences}
-use Rattle.strip.specs.declared.Updated.{Updated}
-use Rattle.strip.specs.declared.Updated.TheVariants.{Accepted, Refused}
+use Rattle.outer.specs.declared.Refusal.{Refusal}
+use Rattle.outer.specs.Refusal.{refusal}
 
 -- WHAT A MESSAGE SAYS OF THE STATE, from its contents
 
@@ -92,28 +90,32 @@ differs d = d.identification || (d.aerodrome || (d.time || (d.destination || d.d
 
 -- THE ANSWER: 15, 1 to 9 and 14 as the strip is opened, 14, 12, 13, then for the amended plan 10, 16, 11
 
+-- the strip's new record and the length of its new spelling, or the refusal
+abbrev pub Updated : Type 0
+Updated = Result (Strip × ℕ) Refusal
+
 abbrev pub room_as : List ℕ → Strip → ℕ → Updated
 room_as new next room =
-    cond (ltb most (length new)) (Refused 16 0 0)
-    (cond (ltb room (length new)) (Refused 11 0 0)
-    (Accepted next (length new)))
+    cond (ltb most (length new)) (Err (refusal 16 0 0))
+    (cond (ltb room (length new)) (Err (refusal 11 0 0))
+    (Ok (next, length new)))
 
 abbrev pub amended_as : List Word → Strip → ℕ → Updated
-amended_as cs next room = cond (eqb (unexplained_in cs) 0) (room_as (message_of cs) next room) (Refused 10 (unexplained_in cs) 0)
+amended_as cs next room = cond (eqb (unexplained_in cs) 0) (room_as (message_of cs) next room) (Err (refusal 10 (unexplained_in cs) 0))
 
 abbrev pub event_as : Option Event → Role → List ℕ → Strip → List ℕ → ℕ → Updated
-event_as None role plan held said room = Refused 14 0 0
+event_as None role plan held said room = Err (refusal 14 0 0)
 event_as (Some e) role plan held said room =
-    cond (differs (differences role (split 45 plan) (split 45 said))) (Refused 12 0 0)
+    cond (differs (differences role (split 45 plan) (split 45 said))) (Err (refusal 12 0 0))
     (cond (allowed_in held e) (amended_as (amended role plan said) (next_of held e) room)
-    (Refused 13 0 0))
+    (Err (refusal 13 0 0)))
 
 unfoldable pub offered_as : Role → List ℕ → Strip → List ℕ → ℕ → Updated
 offered_as role plan held said room = event_as (event_of role (split 45 said)) role plan held said room
 
-abbrev pub opened_as : Opening → List ℕ → Strip → List ℕ → ℕ → Updated
-opened_as (NotOpened number field place) strip held m room = Refused number field place
-opened_as (Read t n) strip held m room = offered_as (role_of t) (inner strip) held (text_said t m) room
+abbrev pub opened_as : Answer → List ℕ → Strip → List ℕ → ℕ → Updated
+opened_as (Err r) strip held m room = Err r
+opened_as (Ok (t, n)) strip held m room = offered_as (role_of t) (inner strip) held (text_said t m) room
 
 unfoldable pub update_of : List ℕ → Strip → List ℕ → ℕ → Updated
 update_of strip held m room = opened_as (opening_of strip held m) strip held m room
@@ -121,16 +123,16 @@ update_of strip held m room = opened_as (opening_of strip held m) strip held m r
 -- THE OUTPUT: an accepted message writes the new strip at its front, a refusal leaves it
 
 abbrev pub type_read : Answer → MessageType
-type_read (ReadAs t n) = t
-type_read (NotRead number field place) = Fpl
+type_read (Ok (t, n)) = t
+type_read (Err r) = Fpl
 
 -- the strip after a message that was read as a type
 abbrev pub strip_after : MessageType → List ℕ → List ℕ → List ℕ
 strip_after t strip m = new_strip (role_of t) (inner strip) (text_said t m)
 
 abbrev pub written_as : Updated → List ℕ → List ℕ → List ℕ → List ℕ
-written_as (Accepted held n) strip m out = front (strip_after (type_read (answer_of m most)) strip m) out
-written_as (Refused number field place) strip m out = out
+written_as (Ok (held, n)) strip m out = front (strip_after (type_read (answer_of m most)) strip m) out
+written_as (Err r) strip m out = out
 
 unfoldable pub out_after : List ℕ → Strip → List ℕ → List ℕ → List ℕ
 out_after strip held m out = written_as (update_of strip held m (length out)) strip m out

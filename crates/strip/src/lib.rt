@@ -9,7 +9,7 @@ ghost use Rattle.strip.specs.Updating.{time_of, arrival, event_of, compares_time
 ghost use Rattle.strip.specs.Steps.{Texts, Amends, Offers};
 
 use kinds::Role;
-use opening::Opening;
+use outer::Refusal;
 use shape::Clock;
 use state::{Event, Strip};
 
@@ -23,11 +23,8 @@ pub struct Differences {
     pub date: bool,
 }
 
-#[derive(Clone, Copy)]
-pub enum Updated {
-    Accepted(Strip, usize),
-    Refused { number: u8, field: u8, place: usize },
-}
+// The strip's new record and the length of its new spelling, or the refusal.
+pub type Updated = Result<(Strip, usize), Refusal>;
 
 // Room for a strip and a message together.
 pub const ROOM: usize = 3600;
@@ -168,28 +165,20 @@ fn amend<'a>(role: Role, next: Strip, plan: &'a [u8], said: &'a [u8], out: &mut 
     let e = n - 1;
     let field = message::unexplained_in(&new[1..e]);
     if field != 0 {
-        return Updated::Refused {
+        return Err(Refusal {
             number: 10,
             field,
             place: 0,
-        };
+        });
     }
     if outer::MOST_BYTES < n {
-        return Updated::Refused {
-            number: 16,
-            field: 0,
-            place: 0,
-        };
+        return Err(Refusal::of(16));
     }
     if out.len() < n {
-        return Updated::Refused {
-            number: 11,
-            field: 0,
-            place: 0,
-        };
+        return Err(Refusal::of(11));
     }
     let written = text::put(&new[..n], out);
-    Updated::Accepted(next, written)
+    Ok((next, written))
 }
 
 // Numbers 14, 12 and 13, and what the amended plan gives.
@@ -198,52 +187,28 @@ fn offer<'a>(role: Role, held: Strip, plan: &'a [u8], said: &'a [u8], out: &mut 
     ensures { Offers role held plan.now said.now out.old result out.new }
 {
     match event_of(role, said) {
-        None => Updated::Refused {
-            number: 14,
-            field: 0,
-            place: 0,
-        },
+        None => Err(Refusal::of(14)),
         Some(e) => {
             if differences_in(role, plan, said).any() {
-                return Updated::Refused {
-                    number: 12,
-                    field: 0,
-                    place: 0,
-                };
+                return Err(Refusal::of(12));
             }
             if !held.allows(e) {
-                return Updated::Refused {
-                    number: 13,
-                    field: 0,
-                    place: 0,
-                };
+                return Err(Refusal::of(13));
             }
             amend(role, held.next(e), plan, said, out)
         }
     }
 }
 
-// Offers a message to a strip. Accepted: the strip's new record and the length of its new spelling, which is then at the front of `out`, and
-// the bytes behind it stay. Refused: the number, the field and the place, and every byte of `out` stays.
+// Offers a message to a strip. Ok: the strip's new record and the length of its new spelling, which is then at the front of `out`, and
+// the bytes behind it stay. Err: the number, the field and the place, and every byte of `out` stays.
 pub fn update(strip: &[u8], held: Strip, msg: &[u8], out: &mut [u8]) -> Updated
     ensures { (result ≡ update_of strip.now held msg.now (length out.old))
         × (out.new ≡ out_after strip.now held msg.now out.old) }
 {
     let mut scratch = [0u8; outer::MOST_BYTES];
-    match opening::open_strip(strip, held, msg, &mut scratch) {
-        Opening::Refused {
-            number,
-            field,
-            place,
-        } => Updated::Refused {
-            number,
-            field,
-            place,
-        },
-        Opening::Read(t, n) => {
-            let e = n - 1;
-            let last = strip.len() - 1;
-            offer(t.role(), held, &strip[1..last], &scratch[1..e], out)
-        }
-    }
+    let (t, n) = opening::open_strip(strip, held, msg, &mut scratch)?;
+    let e = n - 1;
+    let last = strip.len() - 1;
+    offer(t.role(), held, &strip[1..last], &scratch[1..e], out)
 }

@@ -4,17 +4,15 @@
 // message, strip or content `\` and two hexadecimal digits stand for a byte. A line that asks nothing is answered `BAD LINE`.
 #![tactic(auto)]
 
-ghost use Rattle.std.specs.Prelude.{◌≡◌, ◌+◌, ◌≤◌, ◌<◌, length};
+ghost use Rattle.std.specs.Prelude.{◌≡◌, ◌+◌, ◌≤◌, ◌<◌, IfSome, length};
 
 use aerodromes::Aerodrome;
-use asked::Asked;
+use asked::Place;
 use kinds::Form;
-use message::Answer;
 use say::{Console, print};
 use shape::Clock;
-use state::{Departure, State, Strip};
+use state::{State, Strip};
 use std::process::ExitCode;
-use strip::Updated;
 use text::Kind;
 
 // The most bytes of a line that is answered, the greatest room that can be lent, and the greatest field number that can be asked for.
@@ -23,9 +21,6 @@ const MOST_LINE: usize = 8192;
 const MOST_ROOM: usize = 1800;
 
 const MOST_ASKED: usize = 255;
-
-// What one to four digits never say, and no count of a line's bytes is.
-const NONE: usize = 10000;
 
 // Room for a line, for the strip held, and for what is written.
 type Line = [u8; 8192];
@@ -38,63 +33,52 @@ fn say_bad<R: Print>(console: &Console<'_, R>) {
 
 // BYTES WRITTEN AS TEXT
 
-// The value of a hexadecimal digit, in small letters; 16 for any other byte.
-fn hex_digit(b: u8) -> usize
-    ensures { result ≤ 16 }
-{
-    text::find(b"0123456789abcdef", 0, b)
+// The value of a hexadecimal digit, in small letters.
+fn hex_digit(b: u8) -> Option<u8> {
+    match b {
+        b'0'..=b'9' => Some(b - b'0'),
+        b'a'..=b'f' => Some(b - b'a' + 10),
+        _ => None,
+    }
 }
 
-// The byte that is written from i on in a line of n bytes; 256 more where it is a backslash and two hexadecimal digits; from 512 on where it is none.
-fn byte_at(line: &Line, i: usize, n: usize) -> usize
+// The byte that is written from i on in a line of n bytes, and how many bytes it takes there.
+fn byte_at(line: &Line, i: usize, n: usize) -> Option<(u8, usize)>
     requires { (i < n) × (n ≤ 8192) }
+    ensures { IfSome result (λ found. 1 ≤ found.1) }
 {
     let b = line[i];
-    if b < b' ' {
-        return 512;
-    }
-    if b'~' < b {
-        return 512;
+    if !matches!(b, b' '..=b'~') {
+        return None;
     }
     if b != b'\\' {
-        return b as usize;
+        return Some((b, 1));
     }
     if n - i < 3 {
-        return 512;
+        return None;
     }
-    let low = hex_digit(line[i + 2]);
-    if 15 < low {
-        return 512;
-    }
-    256 + 16 * hex_digit(line[i + 1]) + low
+    let high = hex_digit(line[i + 1])?;
+    let low = hex_digit(line[i + 2])?;
+    Some((16 * high + low, 3))
 }
 
-// Puts the bytes that the text from a place on stands for in its place, in a line of n bytes, and gives where they end; `NONE` where it stands for none.
-fn decode(line: &mut Line, from: usize, n: usize) -> usize
+// Puts the bytes that the text from a place on stands for in its place, in a line of n bytes, and gives where they end, if it stands for any.
+fn decode(line: &mut Line, from: usize, n: usize) -> Option<usize>
     requires { (from ≤ 10000) × (n ≤ 8192) }
-    ensures { from ≤ result }
+    ensures { IfSome result (λ e. from ≤ e) }
 {
     let mut i = from;
     let mut e = from;
     while i < n {
-        let v = byte_at(line, i, n);
-        if 511 < v {
-            return NONE;
-        }
-        line[e] = (v % 256) as u8;
+        let (b, long) = byte_at(line, i, n)?;
+        line[e] = b;
         e += 1;
-        i += 1 + v / 256 * 2;
+        i += long;
     }
-    e
+    Some(e)
 }
 
 // STATES AS WORDS
-
-#[derive(Clone, Copy)]
-enum Said {
-    Known(State),
-    Nothing,
-}
 
 // The minute that the four digits from a place on say; it may be beyond the day.
 fn minute_at(w: &[u8], at: usize) -> Clock
@@ -104,62 +88,65 @@ fn minute_at(w: &[u8], at: usize) -> Clock
 }
 
 // As `D0600`.
-fn departed(w: &[u8]) -> Said
+fn departed(w: &[u8]) -> Option<State>
     requires { length w.now ≡ 5 }
 {
     if !shape::fits(b"D0000", w) {
-        return Said::Nothing;
+        return None;
     }
-    Said::Known(State::Departed(minute_at(w, 1)))
+    Some(State::Departed(minute_at(w, 1)))
 }
 
 // When a flight departed that arrived, or that it is not known.
-fn departure(w: &[u8]) -> Departure
+fn departure(w: &[u8]) -> Option<Clock>
     requires { length w.now ≡ 15 }
 {
     if w[1] == b'-' {
-        return Departure::Unknown;
+        return None;
     }
-    Departure::Known(minute_at(w, 1))
+    Some(minute_at(w, 1))
 }
 
 // As `A0600/EDDF/0700`, or `A----/EDDF/0700` where the departure is not known.
-fn arrived(w: &[u8]) -> Said
+fn arrived(w: &[u8]) -> Option<State>
     requires { length w.now ≡ 15 }
 {
     if !shape::any(b"A0000/ A----/", &w[..6]) {
-        return Said::Nothing;
+        return None;
     }
     if !shape::fits(b"/0000", &w[10..]) {
-        return Said::Nothing;
+        return None;
     }
-    Said::Known(State::Arrived(departure(w), Aerodrome::of(&w[6..]), minute_at(w, 11)))
+    Some(State::Arrived(
+        departure(w),
+        Aerodrome::of(&w[6..]),
+        minute_at(w, 11),
+    ))
 }
 
-fn state_of(w: &[u8]) -> Said {
-    let n = w.len();
-    match n {
+fn state_of(w: &[u8]) -> Option<State> {
+    match w.len() {
         1 => grounded(w[0]),
         5 => departed(w),
         15 => arrived(w),
-        _ => Said::Nothing,
+        _ => None,
     }
 }
 
-fn grounded(b: u8) -> Said {
+fn grounded(b: u8) -> Option<State> {
     match b {
-        b'F' => Said::Known(State::Filed),
-        b'C' => Said::Known(State::Cancelled),
-        _ => Said::Nothing,
+        b'F' => Some(State::Filed),
+        b'C' => Some(State::Cancelled),
+        _ => None,
     }
 }
 
 // ANSWERS
 
-// What is kept from line to line: how many bytes of a line are gathered, `NONE` where there are too many; how many bytes the strip held has; its state.
+// What is kept from line to line: how many bytes of a line are gathered, unless there are too many; how many bytes the strip held has; its state.
 #[derive(Clone, Copy)]
 struct Run {
-    gathered: usize,
+    gathered: Option<usize>,
     length: usize,
     held: Strip,
 }
@@ -169,42 +156,32 @@ const BEFORE: u8 = 255;
 
 // The n bytes that are written. No answer has more than the room, and if one had, all would be shown.
 fn spelling(out: &Out, n: usize) -> &[u8] {
-    let whole = &out[..];
-    if MOST_ROOM < n {
-        return whole;
-    }
-    &whole[0..n]
+    &out[..n.min(MOST_ROOM)]
 }
 
 // Says so if a byte from n on is not as it was.
 fn check_kept<R: Print>(console: &Console<'_, R>, out: &Out, n: usize) {
-    let mut i = n;
-    while i < MOST_ROOM {
-        if out[i] != BEFORE {
-            print(console, b"CHANGED\n");
-            return;
-        }
-        i += 1;
+    if out.iter().skip(n).any(|&b| b != BEFORE) {
+        print(console, b"CHANGED\n");
     }
 }
 
-fn read<R: Print>(console: &Console<'_, R>, msg: &[u8], room: usize) {
-    if MOST_ROOM < room {
-        say_bad(console);
-        return;
-    }
+fn read<R: Print>(console: &Console<'_, R>, msg: &[u8], room: Option<usize>) {
+    let room = match room {
+        Some(n) if n <= MOST_ROOM => n,
+        _ => {
+            say_bad(console);
+            return;
+        }
+    };
     let mut out = [BEFORE; 1800];
     match message::read(msg, &mut out[0..room]) {
-        Answer::Accepted(t, n) => {
+        Ok((t, n)) => {
             say::accepted(console, t, spelling(&out, n));
             check_kept(console, &out, n);
         }
-        Answer::Refused {
-            number,
-            field,
-            place,
-        } => {
-            say::refusal(console, number, field, place);
+        Err(refusal) => {
+            say::refusal(console, refusal.number, refusal.field, refusal.place);
             check_kept(console, &out, 0);
         }
     }
@@ -229,53 +206,52 @@ fn say_part<R: Print>(
 fn show<'a, R: Print>(
     console: &Console<'_, R>,
     chg: &'a [u8],
-    number: usize,
+    number: Option<usize>,
     held: Strip,
     strip: &'a [u8],
 ) {
-    if MOST_ASKED < number {
-        say_bad(console);
-        return;
-    }
-    let content = asked::in_force(strip, held, chg, number as u8);
-    match asked::ask(strip, held, chg, number as u8) {
-        Asked::InStrip { from, to } => say_part(console, b"IN STRIP ", from, to, content),
-        Asked::InChange { from, to } => say_part(console, b"IN CHG ", from, to, content),
-        Asked::Refused {
-            number: n,
-            field,
-            place,
-        } => say::refusal(console, n, field, place),
+    let number = match number {
+        Some(n) if n <= MOST_ASKED => n as u8,
+        _ => {
+            say_bad(console);
+            return;
+        }
+    };
+    let content = asked::in_force(strip, held, chg, number);
+    match asked::ask(strip, held, chg, number) {
+        Ok(Place::InStrip { from, to }) => say_part(console, b"IN STRIP ", from, to, content),
+        Ok(Place::InChange { from, to }) => say_part(console, b"IN CHG ", from, to, content),
+        Err(refusal) => say::refusal(console, refusal.number, refusal.field, refusal.place),
     }
 }
 
-// The form of a rank among the names of forms.
-fn form_of(rank: usize) -> Form {
-    match rank {
-        1 => Form::Field3,
-        2 => Form::Field7,
-        3 => Form::Field8,
-        4 => Form::Field9,
-        5 => Form::Field10,
-        6 => Form::Field13,
-        7 => Form::Field13Open,
-        8 => Form::Field15,
-        9 => Form::Field16,
-        10 => Form::Field16Plan,
-        11 => Form::Field17,
-        12 => Form::Field18,
-        _ => Form::Field19,
+// The form that a word names.
+fn form_of(word: &[u8]) -> Option<Form> {
+    match word {
+        b"3" => Some(Form::Field3),
+        b"7" => Some(Form::Field7),
+        b"8" => Some(Form::Field8),
+        b"9" => Some(Form::Field9),
+        b"10" => Some(Form::Field10),
+        b"13" => Some(Form::Field13),
+        b"13open" => Some(Form::Field13Open),
+        b"15" => Some(Form::Field15),
+        b"16" => Some(Form::Field16),
+        b"16plan" => Some(Form::Field16Plan),
+        b"17" => Some(Form::Field17),
+        b"18" => Some(Form::Field18),
+        b"19" => Some(Form::Field19),
+        _ => None,
     }
 }
 
 // Holds a content to the form that a word names.
 fn fit<R: Print>(console: &Console<'_, R>, word: &[u8], content: &[u8]) {
-    let k = text::rank_of(word, b"3 7 8 9 10 13 13open 15 16 16plan 17 18 19");
-    if k == 0 {
+    let Some(form) = form_of(word) else {
         say_bad(console);
         return;
-    }
-    if forms::fits_form(form_of(k), content) {
+    };
+    if forms::fits_form(form, content) {
         print(console, b"FITS\n");
     } else {
         print(console, b"NO\n");
@@ -284,11 +260,7 @@ fn fit<R: Print>(console: &Console<'_, R>, word: &[u8], content: &[u8]) {
 
 // The n bytes of the strip held. It has no more than a line, so none is left out.
 fn strip_held(plan: &Line, n: usize) -> &[u8] {
-    let whole = &plan[..];
-    if MOST_LINE < n {
-        return whole;
-    }
-    &whole[0..n]
+    &plan[..n.min(MOST_LINE)]
 }
 
 // What leaves the strip as it is.
@@ -301,7 +273,7 @@ fn tell<'a, R: Print>(
     strip: &'a [u8],
 ) {
     match letter {
-        b'R' => read(console, msg, MOST_ROOM),
+        b'R' => read(console, msg, Some(MOST_ROOM)),
         b'r' => read(console, msg, number_of(word)),
         b'F' => show(console, msg, number_of(word), held, strip),
         b'W' => say_cause::line(console, causes::cause_of(strip, held, msg)),
@@ -327,15 +299,15 @@ fn hold<R: Print>(
     plan: &mut Line,
 ) -> Run {
     match state_of(word) {
-        Said::Known(state) => {
+        Some(state) => {
             print(console, b"HELD\n");
             Run {
-                gathered: 0,
+                gathered: Some(0),
                 length: keep(strip, plan),
                 held: Strip { state },
             }
         }
-        Said::Nothing => {
+        None => {
             say_bad(console);
             run
         }
@@ -346,33 +318,31 @@ fn hold<R: Print>(
 fn offer<R: Print>(
     console: &Console<'_, R>,
     msg: &[u8],
-    room: usize,
+    room: Option<usize>,
     run: Run,
     plan: &mut Line,
 ) -> Run {
-    if MOST_ROOM < room {
-        say_bad(console);
-        return run;
-    }
-    let held = run.held;
+    let room = match room {
+        Some(n) if n <= MOST_ROOM => n,
+        _ => {
+            say_bad(console);
+            return run;
+        }
+    };
     let mut out = [BEFORE; 1800];
-    match strip::update(strip_held(plan, run.length), held, msg, &mut out[0..room]) {
-        Updated::Accepted(next, n) => {
+    match strip::update(strip_held(plan, run.length), run.held, msg, &mut out[0..room]) {
+        Ok((next, n)) => {
             let new = spelling(&out, n);
             say::strip(console, next, new);
             check_kept(console, &out, n);
             Run {
-                gathered: 0,
+                gathered: Some(0),
                 length: keep(new, plan),
                 held: next,
             }
         }
-        Updated::Refused {
-            number,
-            field,
-            place,
-        } => {
-            say::refusal(console, number, field, place);
+        Err(refusal) => {
+            say::refusal(console, refusal.number, refusal.field, refusal.place);
             check_kept(console, &out, 0);
             run
         }
@@ -381,17 +351,17 @@ fn offer<R: Print>(
 
 // WHAT A LINE ASKS
 
-// The number that one to four digits say; `NONE` for any other word.
-fn number_of(w: &[u8]) -> usize {
+// The number that a word of one to four digits says.
+fn number_of(w: &[u8]) -> Option<usize> {
     if !text::all_of(Kind::Digit, w) {
-        return NONE;
+        return None;
     }
     match w.len() {
-        1 => shape::one(w[0]),
-        2 => shape::two(w, 0),
-        3 => shape::three(w, 0),
-        4 => shape::four(w, 0),
-        _ => NONE,
+        1 => Some(shape::one(w[0])),
+        2 => Some(shape::two(w, 0)),
+        3 => Some(shape::three(w, 0)),
+        4 => Some(shape::four(w, 0)),
+        _ => None,
     }
 }
 
@@ -412,17 +382,16 @@ fn ask<R: Print>(
     let msg = &whole[from..e];
     let letter = line[0];
     match letter {
-        b'U' => offer(console, msg, MOST_ROOM, run, plan),
+        b'U' => offer(console, msg, Some(MOST_ROOM), run, plan),
         b'u' => offer(console, msg, number_of(word), run, plan),
         b'H' => hold(console, word, msg, run, plan),
         _ => {
-            let held = run.held;
             tell(
                 console,
                 letter,
                 word,
                 msg,
-                held,
+                run.held,
                 strip_held(plan, run.length),
             );
             run
@@ -430,50 +399,57 @@ fn ask<R: Print>(
     }
 }
 
-// Where the text begins of which a line asks, if it is so long; `NONE` for any other line. A letter and a space stand before it, and but for
+// Where the text begins of which a line asks, if it is so long; no other line asks of one. A letter and a space stand before it, and but for
 // `R`, `U` and `W` a word and a space.
-fn text_from(line: &Line) -> usize
-    ensures { result ≤ 10000 }
+fn text_from(line: &Line) -> Option<usize>
+    ensures { IfSome result (λ from. from ≤ 10000) }
 {
     if line[1] != b' ' {
-        return NONE;
+        return None;
     }
-    if shape::one_of(line[0], b"RUW") {
-        return 2;
+    if matches!(line[0], b'R' | b'U' | b'W') {
+        return Some(2);
     }
-    text::find(line, 2, b' ') + 1
+    Some(text::find(line, 2, b' ') + 1)
 }
 
-// Answers a line of n bytes.
+// Answers a line of n bytes, or one that is too long.
 fn answer<R: Print>(
     console: &Console<'_, R>,
-    n: usize,
+    n: Option<usize>,
     line: &mut Line,
     run: Run,
     plan: &mut Line,
 ) -> Run {
-    if MOST_LINE < n {
-        print(console, b"TOO LONG\n");
-        return run;
-    }
-    let from = text_from(line);
-    let e = decode(line, from, n);
-    if n < e {
+    let n = match n {
+        Some(n) if n <= MOST_LINE => n,
+        _ => {
+            print(console, b"TOO LONG\n");
+            return run;
+        }
+    };
+    let Some(from) = text_from(line) else {
         say_bad(console);
         return run;
+    };
+    match decode(line, from, n) {
+        Some(e) if e <= n => ask(console, line, from, e, run, plan),
+        _ => {
+            say_bad(console);
+            run
+        }
     }
-    ask(console, line, from, e, run, plan)
 }
 
 // THE LINES OF STANDARD INPUT: they are gathered from blocks, and each is answered once it ends
 
-// Puts a byte behind the n bytes that are gathered of a line, and gives how many there are then; `NONE` where there are too many.
-fn gather(b: u8, n: usize, line: &mut Line) -> usize {
+// Puts a byte behind the n bytes that are gathered of a line, and gives how many there are then, unless there are too many.
+fn gather(b: u8, n: usize, line: &mut Line) -> Option<usize> {
     if MOST_LINE <= n {
-        return NONE;
+        return None;
     }
     line[n] = b;
-    n + 1
+    Some(n + 1)
 }
 
 // Answers the lines that end in a block, and gathers what is left of it.
@@ -485,44 +461,39 @@ fn each_byte<R: Print>(
     plan: &mut Line,
 ) -> Run {
     let mut kept = run;
-    let mut i = 0;
-    while i < block.len() {
-        let b = block[i];
-        i += 1;
+    for &b in block {
         if b == b'\n' {
             kept = answer(console, kept.gathered, line, kept, plan);
-            kept.gathered = 0;
-        } else {
-            kept.gathered = gather(b, kept.gathered, line);
+            kept.gathered = Some(0);
+        } else if let Some(n) = kept.gathered {
+            kept.gathered = gather(b, n, line);
         }
     }
     kept
 }
 
-// Reads blocks up to one that is not full. A proved loop has to end, and nothing says that an input does: the turns are counted down from a
-// number that no run uses up. The last line may have no line feed behind it.
+// Reads blocks up to one that is not full. A loop has to end, so the blocks are counted, up to a number that no run reaches. The last line may have no
+// line feed behind it.
 fn main(rt: HostRuntime) -> ExitCode {
     let console = Console::new(&rt, rt.stderr());
     let mut block = [0u8; 65536];
     let mut line = [0u8; 8192];
     let mut plan = [0u8; 8192];
     let mut run = Run {
-        gathered: 0,
+        gathered: Some(0),
         length: 0,
         held: Strip {
             state: State::Filed,
         },
     };
-    let mut turns = u64::MAX;
-    while turns > 0 {
+    for _ in 0..u64::MAX {
         let n = say::input(&console, &mut rt.stdin(), &mut block);
         run = each_byte(&console, &block[..n], &mut line, run, &mut plan);
-        turns -= 1;
         if n < 65536 {
-            turns = 0;
+            break;
         }
     }
-    if 0 < run.gathered {
+    if run.gathered != Some(0) {
         answer(&console, run.gathered, &mut line, run, &mut plan);
     }
     say::status(&console)

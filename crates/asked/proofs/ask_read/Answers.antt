@@ -26,13 +26,13 @@ as_long c =
 pub returns-then-not-is_change : goal.returns-then-not-is_change
 returns-then-not-is_change c =
     let a = c.args in let told = no_change a.t a.spelled.now a.strip.now a.chg.now a.number (sym c.is_change.ensures ∙ c.if-not-is_change.true) in
-    record { value = told.0; shows = told.1 }
+    record { value = rw c.of.ensures told.0; shows = tt }
 
 pub returns-then-not-same_bytes : goal.returns-then-not-same_bytes
 returns-then-not-same_bytes c =
     let a = c.args in let told = not_spelled a.t a.spelled.now a.strip.now a.chg.now a.number
     (change (goal.at.returns-then-not-same_bytes c).Else-not-is_change)
-    (sym c.same_bytes.ensures ∙ c.if-not-same_bytes.true) in record { value = told.0; shows = told.1 }
+    (sym c.same_bytes.ensures ∙ c.if-not-same_bytes.true) in record { value = rw c.of-then-not-same_bytes.ensures told.0; shows = tt }
 
 pub overflow_sub-e : goal.overflow_sub-e
 overflow_sub-e c =

@@ -17,7 +17,7 @@ compared c =
 pub returns-then-any : goal.returns-then-any
 returns-then-any c =
     let a = c.args in let told = other_flight a.plan.now a.said.now a.number (compared (goal.at.returns-then-any c).After-any ∙ c.if-any.true) in
-    record { value = told.0; shows_text = told.1 }
+    record { value = rw c.of.ensures told.0; shows_text = tt }
 
 same-flight : (c : After-named_bare) → differs (differences Changes (split 45 c.args.plan.now) (split 45 c.args.said.now)) ≡ false
 same-flight c =
@@ -33,7 +33,7 @@ pub returns-then-named_bare : goal.returns-then-named_bare
 returns-then-named_bare c =
     let a = c.args in let told = neither_whole a.plan.now a.said.now a.number (same-flight (goal.at.returns-then-named_bare c).After-named_bare) _
     c.rank_of-k.ensures (bare-tested (goal.at.returns-then-named_bare c).After-named_bare ∙ c.if-named_bare.true) in
-    record { value = told.0; shows_text = told.1 }
+    record { value = rw c.of-then-named_bare.ensures told.0; shows_text = tt }
 
 pub returns-then-k-eq0 : goal.returns-then-k-eq0
 returns-then-k-eq0 c =

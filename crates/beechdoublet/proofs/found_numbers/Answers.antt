@@ -1,7 +1,6 @@
 use Prim.Native.Nat.{ℕ}
-use mathlib.Core.List.{List}
+use mathlib.Core.List.{List, ◌∷◌}
 use mathlib.Core.Path.{ap}
-use mathlib.Core.List.{◌∷◌}
 use Rattle.handed.proofs.Steps.{state_laid}
 use Rattle.beechdoublet.proofs.found_numbers.Goals as goal
 

@@ -1,14 +1,14 @@
 -- `beechdoublet::tell_asked` meets its contract. Assumes nothing.
 use Rattle.beechdoublet.proofs.tell_asked.Goals as goal
 
-pub returns-in-InStrip : goal.returns-in-InStrip
-returns-in-InStrip c =
-    let e = c.in-InStrip.is in (rw e, rw e)
+pub returns-in-Ok-InStrip : goal.returns-in-Ok-InStrip
+returns-in-Ok-InStrip c =
+    let e = c.in-Ok-InStrip.is in (rw e, rw e)
 
-pub returns-in-InChange : goal.returns-in-InChange
-returns-in-InChange c =
-    let e = c.in-InChange.is in (rw e, rw e)
+pub returns-in-Ok-InChange : goal.returns-in-Ok-InChange
+returns-in-Ok-InChange c =
+    let e = c.in-Ok-InChange.is in (rw e, rw e)
 
-pub returns-in-Refused : goal.returns-in-Refused
-returns-in-Refused c =
-    let e = c.in-Refused.is in (rw e, rw (e, c.field_told-told.ensures))
+pub returns-in-Err : goal.returns-in-Err
+returns-in-Err c =
+    let e = c.in-Err.is in (rw e, rw (e, c.field_told-told.ensures))

@@ -1,10 +1,10 @@
 -- `beechdoublet::tell_part` meets its contract. Assumes nothing.
 use Rattle.beechdoublet.proofs.tell_part.Goals as goal
 
-pub returns-in-At : goal.returns-in-At
-returns-in-At c =
-    let e = c.in-At.is in (rw e, rw e)
+pub returns-in-Ok : goal.returns-in-At
+returns-in-Ok c =
+    let e = c.in-Ok.is in (rw e, rw e)
 
-pub returns-in-Refused : goal.returns-in-Refused
-returns-in-Refused c =
-    let e = c.in-Refused.is in (rw e, rw (e, c.field_told-told.ensures))
+pub returns-in-Err : goal.returns-in-Err
+returns-in-Err c =
+    let e = c.in-Err.is in (rw e, rw (e, c.field_told-told.ensures))

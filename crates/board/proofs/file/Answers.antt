@@ -1,18 +1,17 @@
 -- `board::file` meets its contract. Assumes nothing.
 use mathlib.Core.Path.{sym, ◌∙◌}
 use Rattle.rooms.specs.Rooms.Act.{file}
-use Rattle.rooms.proofs.Firms.{names_firm, names_nobody}
 use Rattle.board.proofs.Turns.{by_firm, by_nobody}
 use Rattle.board.proofs.file.Goals as goal
 
-pub returns-in-Nobody : goal.returns-in-Nobody
-returns-in-Nobody c =
+pub returns-in-None : goal.returns-in-None
+returns-in-None c =
     let a = c.args in
     by_nobody (file a.msg.now) a.board a.bytes.now _ a.firm
-    (names_nobody _ (sym c.firm_named.ensures ∙ c.in-Nobody.is)) c.refused.ensures
+    (sym c.from_number.ensures ∙ c.in-None.is) c.refused.ensures
 
-pub returns-in-By : goal.returns-in-By
-returns-in-By c =
+pub returns-in-Some : goal.returns-in-Some
+returns-in-Some c =
     let a = c.args in
     by_firm (file a.msg.now) a.board.places a.bytes.now _ _ a.firm _
-    (names_firm _ _ (sym c.firm_named.ensures ∙ c.in-By.is)) c.file_for.ensures
+    (sym c.from_number.ensures ∙ c.in-Some.is) c.file_for.ensures

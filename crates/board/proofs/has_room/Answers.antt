@@ -6,5 +6,5 @@ use Rattle.board.proofs.has_room.Goals as goal
 pub returns : goal.returns
 returns c =
     c.has_room.ensures
-    ∙ room_is c.args.f _ c.args.board.places _ _ _ c.other_firm.ensures c.held_by-theirs.ensures c.beyond_sure.ensures
+    ∙ room_is c.args.f _ c.args.board.places _ _ _ c.other.ensures c.held_by-theirs.ensures c.beyond_sure.ensures
     c.held_by.ensures

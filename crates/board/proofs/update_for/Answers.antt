@@ -17,25 +17,25 @@ use Rattle.board.proofs.update_for.Goals as goal
 
 inside : (c : After-update) → c.args.slot < 10
 inside c =
-    flight_inside c.args.f c.args.slot c.args.board.places _ _ (sym c.held_in.ensures ∙ c.in-Flight.is)
+    flight_inside c.args.f c.args.slot c.args.board.places _ (sym c.held_in.ensures ∙ c.in-Some.is)
 
 -- what the update gave, of the strip that stands there
 updates : (c : After-update) → (u : Updated) → c.update.result ≡ u → update_of ((shown_to c.args.f c.args.slot c.args.board.places c.args.bytes.now))
-    c.in-Flight.held c.args.msg.now 1800 ≡ u
+    c.in-Some.flight.held c.args.msg.now 1800 ≡ u
 updates c u e =
-    sym (ap (λ (w : List ℕ). update_of w c.in-Flight.held c.args.msg.now 1800) c.strip_in.ensures)
+    sym (ap (λ (w : List ℕ). update_of w c.in-Some.flight.held c.args.msg.now 1800) c.strip_in.ensures)
     ∙ sym c.update.ensures.0
     ∙ e
 
-new_is : (c : After-update) → c.update.new.out ≡ out_after ((shown_to c.args.f c.args.slot c.args.board.places c.args.bytes.now)) c.in-Flight.held
+new_is : (c : After-update) → c.update.new.out ≡ out_after ((shown_to c.args.f c.args.slot c.args.board.places c.args.bytes.now)) c.in-Some.flight.held
     c.args.msg.now lent
 new_is c =
-    c.update.ensures.1 ∙ ap (λ (w : List ℕ). out_after w c.in-Flight.held c.args.msg.now lent) c.strip_in.ensures
+    c.update.ensures.1 ∙ ap (λ (w : List ℕ). out_after w c.in-Some.flight.held c.args.msg.now lent) c.strip_in.ensures
 
 short : (c : In-Accepted) → c.in-Accepted.n ≤ 1800
 short c =
-    let updates : (u : Updated) → c.update.result ≡ u → update_of ((shown_to c.args.f c.args.slot c.args.board.places c.args.bytes.now)) c.in-Flight.held
-    c.args.msg.now 1800 ≡ u = λ u e. sym (ap (λ (w : List ℕ). update_of w c.in-Flight.held c.args.msg.now 1800) c.strip_in.ensures)
+    let updates : (u : Updated) → c.update.result ≡ u → update_of ((shown_to c.args.f c.args.slot c.args.board.places c.args.bytes.now)) c.in-Some.flight.held
+    c.args.msg.now 1800 ≡ u = λ u e. sym (ap (λ (w : List ℕ). update_of w c.in-Some.flight.held c.args.msg.now 1800) c.strip_in.ensures)
     ∙ sym c.update.ensures.0
     ∙ e in
     accepted_fits _ _ _ 1800 _ _ (updates _ c.in-Accepted.is)
@@ -63,20 +63,20 @@ put-b-requires c = (
   ),
 )
 
-pub returns-in-Nothing : goal.returns-in-Nothing
-returns-in-Nothing c =
+pub returns-in-None : goal.returns-in-None
+returns-in-None c =
     let a = c.args in
-    update_none a.f a.slot a.board a.bytes.now _ c.held_in.ensures c.in-Nothing.is a.msg.now _ c.refused.ensures
+    update_none a.f a.slot a.board a.bytes.now _ c.held_in.ensures c.in-None.is a.msg.now _ c.refused.ensures
 
 pub returns-in-Refused : goal.returns-in-Refused
 returns-in-Refused c =
     let a = c.args in
-    update_refused a.f a.slot a.board a.bytes.now _ _ _ c.held_in.ensures c.in-Flight.is a.msg.now
+    update_refused a.f a.slot a.board a.bytes.now _ _ c.held_in.ensures c.in-Some.is a.msg.now
     _ _ _ _ c.refused-in-Refused.ensures (updates (goal.at.returns-in-Refused c).After-update _ c.in-Refused.is)
 
 pub returns-in-Accepted : goal.returns-in-Accepted
 returns-in-Accepted c =
     let a = c.args in
-    update_taken a.f a.slot a.board a.bytes.now _ _ _ c.held_in.ensures c.in-Flight.is a.msg.now
+    update_taken a.f a.slot a.board a.bytes.now _ _ c.held_in.ensures c.in-Some.is a.msg.now
     _ _ c.update.new.out _ _ (updates (goal.at.returns-in-Accepted c).After-update _ c.in-Accepted.is) (new_is (goal.at.returns-in-Accepted c).After-update)
     (omega (arith, c.update.auto.out)) refl c.put-b.ensures

@@ -1,30 +1,20 @@
 -- `board_numbers::clear` meets its contract. Assumes nothing.
-use mathlib.Core.Path.{◌≡◌, sym, ◌∙◌}
-use borrow.Author.Tests.{not-true, not-false}
-use Rattle.handed.specs.States.{byte_of}
+use mathlib.Core.Path.{sym, ◌∙◌}
 use Rattle.rooms.specs.Rooms.Act.{clear}
-use Rattle.board_numbers.proofs.Steps.{call_taken, call_not}
-use Rattle.board_numbers.proofs.clear.Goals.{After-struct_known-1}
+use Rattle.board_numbers.proofs.Steps.{call_taken, call_not, board_taken, no_board}
 use Rattle.board_numbers.proofs.clear.Goals as goal
 
-by-is : (c : After-struct_known-1) → c.byte_of-by.result ≡ byte_of c.args.firm
-by-is c =
-    c.byte_of-by.ensures
-
-pub returns-then-not-h : goal.returns-then-not-h
-returns-then-not-h c =
+pub returns-in_default : goal.returns-in_default
+returns-in_default c =
     let a = c.args in
     λ bytes.
-    call_not (clear c.args.slot) a.firm c.byte_of-by.result a.numbers.now bytes (by-is (goal.at.returns-then-not-h c).After-struct_known-1) c.not_board.result
-    _ _
-    (sym c.hand_in-h.ensures.1 ∙ not-true _ c.if-not-h.true) c.not_board.ensures c.tell.ensures.0 c.tell.ensures.1
+    call_not (clear c.args.slot) a.firm c.byte_of-by.result a.numbers.now bytes c.byte_of-by.ensures c.not_board.result _ _
+    (no_board a.numbers.now (sym c.hand_in.ensures ∙ c.in_default.is)) c.not_board.ensures c.tell.ensures.0 c.tell.ensures.1
 
 pub returns : goal.returns
 returns c =
-    let h = c.hand_in-h in
     let a = c.args in
+    let h = board_taken a.numbers.now c.in-Some.board (sym c.hand_in.ensures ∙ c.in-Some.is) in
     λ bytes.
-    call_taken (clear c.args.slot) a.firm c.byte_of-by.result a.numbers.now bytes (by-is (goal.at.returns c).After-struct_known-1) h.result.board.places
-    c.clear-t.result _ _ _ _
-    h.ensures.0 (sym h.ensures.1 ∙ not-false _ c.if-not-h.false) (c.clear-t.ensures bytes) c.put_board.ensures c.tell-2.ensures.0
-    c.tell-2.ensures.1
+    call_taken (clear c.args.slot) a.firm c.byte_of-by.result a.numbers.now bytes c.byte_of-by.ensures c.in-Some.board.places c.clear-t.result _ _ _ _
+    h.1 h.0 (c.clear-t.ensures bytes) c.put_board.ensures c.tell-2.ensures.0 c.tell-2.ensures.1

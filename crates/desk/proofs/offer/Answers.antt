@@ -17,4 +17,4 @@ slice_bounds-put-end c =
 
 pub returns-in-Accepted : goal.returns-in-Accepted
 returns-in-Accepted c =
-    taken _ _ _ _ _ _ _ _ (sym c.update.ensures.0 ∙ c.in-Accepted.is) c.update.ensures.1 (omega (arith, c.update.auto.out)) c.put.ensures.1
+    taken _ _ _ _ _ _ _ (sym c.update.ensures.0 ∙ c.in-Accepted.is) c.update.ensures.1 (omega (arith, c.update.auto.out)) c.put.ensures.1

@@ -1,6 +1,6 @@
 use mathlib.Core.Path.{sym, ap, ◌∙◌}
 use native.Mathlib.Omega.{arith}
-use Rattle.std.proofs.Math.Option.{none}
+use Rattle.std.specs.Prelude.{None}
 use Rattle.pieces.proofs.Walk.{to_front, no_piece}
 use Rattle.desk.specs.Desk.{standing_in, after_all}
 use Rattle.desk.proofs.Offers.{one_more_lem}
@@ -9,7 +9,7 @@ use Rattle.desk.proofs.run.Goals as goal
 pub loop-at-init : goal.loop-at-init
 loop-at-init g c =
     let f = to_front c.args.s.now 0 _ c.skip_white-at.ensures in
-    (c.requires, tt, f.none_ahead, ap (after_all none) f.same_pieces)
+    (c.requires, tt, f.none_ahead, ap (after_all None) f.same_pieces)
 
 pub loop-at-preserved : goal.loop-at-preserved
 loop-at-preserved g c =

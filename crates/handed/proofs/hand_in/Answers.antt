@@ -2,12 +2,10 @@
 use Rattle.handed.proofs.Steps.{none_handed, one_handed}
 use Rattle.handed.proofs.hand_in.Goals as goal
 
-pub returns-then-not-same_numbers : goal.returns-then-not-same_numbers
-returns-then-not-same_numbers c =
-    none_handed c.args.n.now _ _ _ c.state_of-state.ensures c.state_numbers-again.ensures c.same_numbers.ensures
-    (c.if-not-same_numbers.true)
+pub returns-then-ne : goal.returns-then-ne
+returns-then-ne c =
+    none_handed c.args.n.now _ _ _ c.state_of-state.ensures c.state_numbers.ensures c.ne.ensures c.if-ne.true
 
 pub returns : goal.returns
 returns c =
-    one_handed c.args.n.now _ _ _ c.state_of-state.ensures c.state_numbers-again.ensures c.same_numbers.ensures
-    (c.if-not-same_numbers.false)
+    one_handed c.args.n.now _ _ _ c.state_of-state.ensures c.state_numbers.ensures c.ne.ensures c.if-ne.false

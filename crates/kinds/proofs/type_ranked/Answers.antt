@@ -1,12 +1,13 @@
 -- `kinds::type_ranked` meets its contract. Assumes nothing.
 use Prim.Native.Nat.{suc, ◌-◌}
-use mathlib.Core.Path.{◌≡◌, sym, ap, ◌∙◌}
-use mathlib.Core.List.{◌∷◌, map}
+use mathlib.Core.Path.{◌≡◌, ap, ◌∙◌}
 use native.Mathlib.Omega.{arith}
-use lib.ListN.{get_or-eq_default}
+use Rattle.std.specs.Prelude.{Option}
+use Rattle.std.specs.Option.{ok_or}
 use Rattle.kinds.specs.Kinds.{types_read, type_ranked}
-use Rattle.kinds.specs.declared.Named.TheVariants.{Read, NotRead, NoType}
-use Rattle.kinds.proofs.Names.{ranked_read}
+use Rattle.kinds.specs.declared.MessageType.{MessageType}
+use Rattle.kinds.specs.declared.TypeFault.TheVariants.{NotRead}
+use Rattle.kinds.proofs.Names.{ranked_found}
 use Rattle.kinds.proofs.type_ranked.Goals as goal
 
 pub returns-then-k-eq0 : goal.returns-then-k-eq0
@@ -14,14 +15,11 @@ unfolding type_ranked
 returns-then-k-eq0 c =
     rw c.if-k-eq0.true
 
-pub returns-then-k-le9 : goal.returns-then-k-le9
-unfolding type_ranked types_read
-returns-then-k-le9 c =
-    let k = c.args.k in
-    let z : suc (k - 1) ≡ k = omega arith in
-    ranked_read types_read (k - 1) (omega arith) ∙ ap type_ranked z
-
 pub returns : goal.returns
 unfolding type_ranked types_read
 returns c =
-    sym (get_or-eq_default (NoType ∷ map Read types_read) NotRead {n = c.args.k} (omega arith))
+    let k = c.args.k in
+    let f = c.get.ensures.lookup in
+    let z : suc (k - 1) ≡ k = omega arith in
+    c.ok_or.ensures.value ∙ ap (λ (o : Option MessageType). ok_or o NotRead) c.copied.ensures ∙ ranked_found types_read (k - 1) c.get.result f.0 f.1
+    ∙ ap type_ranked z

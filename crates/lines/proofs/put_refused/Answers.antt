@@ -9,11 +9,11 @@ unfolding refused_line
 put-o-requires c = omega (arith, c.requires)
 
 pub put_number-p-requires : goal.put_number-p-requires
-put_number-p-requires c = number_fits _ c.args.field c.args.place _ c.requires _ _ c.put-o.ensures.0 c.put-o.ensures.1
+put_number-p-requires c = number_fits _ c.args.refusal.field c.args.refusal.place _ c.requires _ _ c.put-o.ensures.0 c.put-o.ensures.1
 
 pub put_number-q-requires : goal.put_number-q-requires
 put_number-q-requires c =
-    field_fits _ _ c.args.place _ c.requires _ _ c.put-o.ensures.0 c.put-o.ensures.1 _ _ c.put_number-p.ensures.0 c.put_number-p.ensures.1
+    field_fits _ _ c.args.refusal.place _ c.requires _ _ c.put-o.ensures.0 c.put-o.ensures.1 _ _ c.put_number-p.ensures.0 c.put_number-p.ensures.1
 
 pub put_number-requires : goal.put_number-requires
 put_number-requires c =

@@ -36,30 +36,30 @@ pub overflow_add-result : goal.overflow_add-result
 overflow_add-result c =
     let p = c.line-told in
     let f = few c.args.piece.now c.args.out.now p.new.out p.result c.requires.0 c.requires.1 p.ensures in
-    omega (arith, f, c.draw.ensures.0, drawn_short c.args.piece.now c.in-Refused.place, c.requires.0, c.requires.1)
+    omega (arith, f, c.draw.ensures.0, drawn_short c.args.piece.now c.in-Err.refusal.place, c.requires.0, c.requires.1)
 
-pub returns-in-Accepted-clause-value : goal.returns-in-Accepted-clause-value
-returns-in-Accepted-clause-value c =
+pub returns-in-Ok-clause-value : goal.returns-in-Ok-clause-value
+returns-in-Ok-clause-value c =
     let p = c.line-told in
     let m = c.args.piece.now in
     let t = told m c.args.out.now p.new.out p.result c.requires.0 c.requires.1 p.ensures in
-    put_same c.args.out.now (accepted_marked m _ _ (sym t.answer_is ∙ c.in-Accepted.is)) (t.length_is, t.written)
+    put_same c.args.out.now (accepted_marked m _ _ (sym t.answer_is ∙ c.in-Ok.is)) (t.length_is, t.written)
 
-pub returns-in-Refused-clause-value : goal.returns-in-Refused-clause-value
-returns-in-Refused-clause-value c =
+pub returns-in-Err-clause-value : goal.returns-in-Err-clause-value
+returns-in-Err-clause-value c =
     let p = c.line-told in
     let m = c.args.piece.now in
     let out = c.args.out.now in
-    let place = c.in-Refused.place in
+    let place = c.in-Err.refusal.place in
     let t = told m out p.new.out p.result c.requires.0 c.requires.1 p.ensures in
     let v = drawn m place in
-    put_same out (refused_marked m _ _ place (sym t.answer_is ∙ c.in-Refused.is)) (
+    put_same out (refused_marked m _ _ place (sym t.answer_is ∙ c.in-Err.is)) (
       omega (arith, t.length_is, c.draw.ensures.0, length-append (listing_line m) v),
       lent p.new.out v p.result.length _ c.draw.ensures.1 ∙ halves (listing_line m) v out p.new.out p.result.length t.length_is t.written,
     )
 
-pub returns-in-Refused-clause-upper_bound : goal.returns-in-Refused-clause-upper_bound
-returns-in-Refused-clause-upper_bound c =
+pub returns-in-Err-clause-upper_bound : goal.returns-in-Err-clause-upper_bound
+returns-in-Err-clause-upper_bound c =
     let p = c.line-told in
     let f = few c.args.piece.now c.args.out.now p.new.out p.result c.requires.0 c.requires.1 p.ensures in
-    omega (arith, f, c.draw.ensures.0, drawn_short c.args.piece.now c.in-Refused.place, c.requires.0)
+    omega (arith, f, c.draw.ensures.0, drawn_short c.args.piece.now c.in-Err.refusal.place, c.requires.0)

@@ -23,10 +23,10 @@ pub unexplained_by-requires : goal.unexplained_by-requires
 unexplained_by-requires c =
     (c.field_ends-ends.ensures, nine (goal.at.unexplained_by-requires c).Start)
 
-pub returns-in-At : goal.returns-in-At
-returns-in-At c =
-    rw (← c.fields_fault.ensures, c.in-At.is)
+pub returns-then-is_ok : goal.returns-then-is_ok
+returns-then-is_ok c =
+    rw (← c.fields_fault.ensures, ← c.is_ok.ensures.value, c.if-is_ok.true, ← c.unexplained_by.ensures)
 
-pub returns-in-Clear : goal.returns-in-Clear
-returns-in-Clear c =
-    rw (← c.fields_fault.ensures, c.in-Clear.is, ← c.unexplained_by.ensures)
+pub returns-else-is_ok : goal.returns-else-is_ok
+returns-else-is_ok c =
+    rw (← c.fields_fault.ensures, ← c.is_ok.ensures.value, c.if-is_ok.false)

@@ -11,14 +11,10 @@ pub is_plan_counted-requires : goal.is_plan_counted-requires
 is_plan_counted-requires c =
     c.requires
 
-pub returns-in-Read : goal.returns-in-Read
-returns-in-Read c =
-    rw (← c.three_of.ensures, ← c.type_named.ensures, c.in-Read.is) c.is_plan_counted.ensures
+pub returns-in-Ok : goal.returns-in-Ok
+returns-in-Ok c =
+    rw (← c.three_of.ensures, ← c.type_named.ensures, c.in-Ok.is) c.is_plan_counted.ensures
 
-pub returns-in-NotRead : goal.returns-in-NotRead
-returns-in-NotRead c =
-    rw (← c.three_of.ensures, ← c.type_named.ensures, c.in-NotRead.is)
-
-pub returns-in-NoType : goal.returns-in-NoType
-returns-in-NoType c =
-    rw (← c.three_of.ensures, ← c.type_named.ensures, c.in-NoType.is)
+pub returns-in-Err : goal.returns-in-Err
+returns-in-Err c =
+    rw (← c.three_of.ensures, ← c.type_named.ensures, c.in-Err.is)

@@ -25,19 +25,23 @@ pub overflow_add-count : goal.overflow_add-count
 overflow_add-count c =
     omega (arith, c.count_hyphens-count.ensures, some_bytes c.args.msg.now c.requires)
 
-pub overflow_sub-result : goal.overflow_sub-result
-overflow_sub-result c =
+pub overflow_sub-msg : goal.overflow_sub-msg
+overflow_sub-msg c =
     omega (arith, some_bytes c.args.msg.now c.requires)
 
 pub returns-then-count-least : goal.returns-then-count-least
 returns-then-count-least c =
-    rw (too_few c.args.t c.args.msg.now (length c.args.out.now) _ (count_is (goal.at.returns-then-count-least c).After-count_hyphens-count)
-    (omega (arith, c.least.ensures, c.if-count-least.true))) (refl, refl)
+    rw (
+      c.at.ensures,
+      too_few c.args.t c.args.msg.now (length c.args.out.now) _ (count_is (goal.at.returns-then-count-least c).After-count_hyphens-count)
+          (omega (arith, c.least.ensures, c.if-count-least.true)),
+    ) (refl, refl)
 
 pub returns-then-greatest-count : goal.returns-then-greatest-count
 returns-then-greatest-count c =
     let h : greatest_of c.args.t < (c.count_hyphens-count.result + 1) = omega (arith, c.greatest-greatest.ensures, c.if-greatest-count.true) in
     rw (
+      c.at-then-greatest-count.ensures,
       too_many c.args.t c.args.msg.now (length c.args.out.now) _ (count_is (goal.at.returns-then-greatest-count c).After-count_hyphens-count)
           (at_least (goal.at.returns-then-greatest-count c).Else-count-least) h,
       ← c.greatest-greatest.ensures,

@@ -15,23 +15,23 @@ fields_fault-requires c =
 
 pub content_at-w-requires : goal.content_at-w-requires
 content_at-w-requires c =
-    (c.field_ends-ends.ensures, fault_inside _ _ _ _ _ (sym c.fields_fault.ensures ∙ c.in-At.is))
+    (c.field_ends-ends.ensures, fault_inside _ _ _ _ _ (sym c.fields_fault.ensures ∙ c.in-Err.is))
 
 pub read_explained-requires : goal.read_explained-requires
 read_explained-requires c =
-    (c.requires.0, c.field_ends-ends.ensures, sym c.fields_fault.ensures ∙ c.in-Clear.is)
+    (c.requires.0, c.field_ends-ends.ensures, sym c.fields_fault.ensures ∙ c.in_default.is)
 
-pub returns-in-At : goal.returns-in-At
-returns-in-At c =
+pub returns-in-Err : goal.returns-in-Err
+returns-in-Err c =
     rw (
-      field_fault _ _ _ _ c.requires.0 (length c.args.out.now) _ _ (sym c.fields_fault.ensures ∙ c.in-At.is),
+      field_fault _ _ _ _ c.requires.0 (length c.args.out.now) _ _ (sym c.fields_fault.ensures ∙ c.in-Err.is),
       ← fault_placed _ _ _ _ c.requires.0 _ _ _ _ c.form_at-form.ensures c.content_at-w.ensures,
       ← c.form_at-form.ensures,
       ← c.number.ensures,
       ← c.fault_place.ensures,
     ) (refl, refl)
 
-pub returns-in-Clear : goal.returns-in-Clear
-returns-in-Clear c =
-    let clear = fields_clear _ _ _ _ c.requires.0 (length c.args.out.now) (sym c.fields_fault.ensures ∙ c.in-Clear.is) in
+pub returns : goal.returns
+returns c =
+    let clear = fields_clear _ _ _ _ c.requires.0 (length c.args.out.now) (sym c.fields_fault.ensures ∙ c.in_default.is) in
     rw clear c.read_explained.ensures

@@ -1,4 +1,5 @@
 -- `opening::open_strip` meets its contract. Assumes nothing.
+use Rattle.std.specs.Prelude.{Err}
 use mathlib.Core.Path.{◌≡◌, sym, ap, ◌∙◌}
 use mathlib.Core.Bool.{true}
 use native.Mathlib.Omega.{arith}
@@ -25,28 +26,29 @@ long c =
 pub returns-then-not-is_sound : goal.returns-then-not-is_sound
 returns-then-not-is_sound c =
     let a = c.args in
-    unsound a.strip.now a.held a.msg.now a.scratch.now (sym c.is_sound.ensures ∙ c.if-not-is_sound.true)
+    rw c.of.ensures (unsound a.strip.now a.held a.msg.now a.scratch.now (sym c.is_sound.ensures ∙ c.if-not-is_sound.true))
 
 pub returns-then-not-is_canonical_plan : goal.returns-then-not-is_canonical_plan
 returns-then-not-is_canonical_plan c =
     let a = c.args in
-    no_plan a.strip.now a.held a.msg.now a.scratch.now (held_sound (goal.at.returns-then-not-is_canonical_plan c).Else-not-is_sound)
-    (sym c.is_canonical_plan.ensures ∙ c.if-not-is_canonical_plan.true)
+    rw c.of-then-not-is_canonical_plan.ensures (no_plan a.strip.now a.held a.msg.now a.scratch.now (held_sound
+        (goal.at.returns-then-not-is_canonical_plan c).Else-not-is_sound)
+    (sym c.is_canonical_plan.ensures ∙ c.if-not-is_canonical_plan.true))
 
-pub returns-in-Refused : goal.returns-in-Refused
-returns-in-Refused c =
+pub returns-in-Err : goal.returns-in-Err
+returns-in-Err c =
     let a = c.args in
-    let there = sym c.read.ensures.0 ∙ c.in-Refused.is in
+    let there = sym c.read.ensures.0 ∙ c.in-Err.is in
     rw (c.read.ensures.1, refused_stays a.msg.now a.scratch.now _ _ _ there)
-    (not_read a.strip.now a.held a.msg.now a.scratch.now (held_sound (goal.at.returns-in-Refused c).Else-not-is_sound)
-    (is_plan_lem (goal.at.returns-in-Refused c).Else-not-is_canonical_plan) _ _ _
-    (ap (answer_of a.msg.now) (sym (long (goal.at.returns-in-Refused c).After-read)) ∙ there) _ c.not_read.ensures)
+    (not_read a.strip.now a.held a.msg.now a.scratch.now (held_sound (goal.at.returns-in-Err c).Else-not-is_sound)
+    (is_plan_lem (goal.at.returns-in-Err c).Else-not-is_canonical_plan) _
+    (ap (answer_of a.msg.now) (sym (long (goal.at.returns-in-Err c).After-read)) ∙ there) _ (ap Err c.not_read.ensures))
 
-pub returns-in-Accepted : goal.returns-in-Accepted
-returns-in-Accepted c =
+pub returns-in-Ok : goal.returns-in-Ok
+returns-in-Ok c =
     let a = c.args in
-    let there = sym c.read.ensures.0 ∙ c.in-Accepted.is in
-    was_read_lem a.strip.now a.held a.msg.now a.scratch.now (held_sound (goal.at.returns-in-Accepted c).Else-not-is_sound)
-    (is_plan_lem (goal.at.returns-in-Accepted c).Else-not-is_canonical_plan) _ _
-    (ap (answer_of a.msg.now) (sym (long (goal.at.returns-in-Accepted c).After-read)) ∙ there) _
+    let there = sym c.read.ensures.0 ∙ c.in-Ok.is in
+    was_read_lem a.strip.now a.held a.msg.now a.scratch.now (held_sound (goal.at.returns-in-Ok c).Else-not-is_sound)
+    (is_plan_lem (goal.at.returns-in-Ok c).Else-not-is_canonical_plan) c.in-Ok.read.0 c.in-Ok.read.1
+    (ap (answer_of a.msg.now) (sym (long (goal.at.returns-in-Ok c).After-read)) ∙ there) _
     (c.read.ensures.1 ∙ read_front a.msg.now a.scratch.now _ _ there)

@@ -73,15 +73,15 @@ returns-then-field-ne0 c =
 pub returns-then-n-gt-MOST_BYTES : goal.returns-then-n-gt-MOST_BYTES
 returns-then-n-gt-MOST_BYTES c =
     let a = c.args in
-    too_long a.role a.plan.now a.said.now a.next a.out.now _ (field_is (goal.at.returns-then-n-gt-MOST_BYTES c).After-unexplained_in-field)
-    c.if-field-ne0.false _ (long (goal.at.returns-then-n-gt-MOST_BYTES c).After-write_amended-n) c.if-n-gt-MOST_BYTES.true
+    rw c.of.ensures (too_long a.role a.plan.now a.said.now a.next a.out.now _ (field_is (goal.at.returns-then-n-gt-MOST_BYTES c).After-unexplained_in-field)
+    c.if-field-ne0.false _ (long (goal.at.returns-then-n-gt-MOST_BYTES c).After-write_amended-n) c.if-n-gt-MOST_BYTES.true)
 
 pub returns-then-out-n : goal.returns-then-out-n
 returns-then-out-n c =
     let a = c.args in
-    no_room_lem a.role a.plan.now a.said.now a.next a.out.now _ (field_is (goal.at.returns-then-out-n c).After-unexplained_in-field) c.if-field-ne0.false _
+    rw c.of-then-out-n.ensures (no_room_lem a.role a.plan.now a.said.now a.next a.out.now _ (field_is (goal.at.returns-then-out-n c).After-unexplained_in-field) c.if-field-ne0.false _
     (long (goal.at.returns-then-out-n c).After-write_amended-n)
-    (omega (arith, c.if-n-gt-MOST_BYTES.false)) c.if-out-n.true
+    (omega (arith, c.if-n-gt-MOST_BYTES.false)) c.if-out-n.true)
 
 pub slice_bounds-new-end : goal.slice_bounds-new-end
 slice_bounds-new-end c =

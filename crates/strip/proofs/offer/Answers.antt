@@ -18,15 +18,16 @@ compared c =
 pub returns-then-any : goal.returns-then-any
 returns-then-any c =
     let a = c.args in
-    differing a.role a.plan.now a.held a.said.now a.out.now _ (says (goal.at.returns-then-any c).In-Some) (compared (goal.at.returns-then-any c).After-any
-    ∙ c.if-any.true)
+    rw c.of-then-any.ensures (differing a.role a.plan.now a.held a.said.now a.out.now _ (says (goal.at.returns-then-any c).In-Some) (compared
+    (goal.at.returns-then-any c).After-any
+    ∙ c.if-any.true))
 
 pub returns-then-not-allows : goal.returns-then-not-allows
 returns-then-not-allows c =
     let a = c.args in
-    not_allowed a.role a.plan.now a.held a.said.now a.out.now _ (says (goal.at.returns-then-not-allows c).In-Some)
+    rw c.of-then-not-allows.ensures (not_allowed a.role a.plan.now a.held a.said.now a.out.now _ (says (goal.at.returns-then-not-allows c).In-Some)
     (compared (goal.at.returns-then-not-allows c).After-any ∙ c.if-any.false)
-    (sym c.allows.ensures ∙ c.if-not-allows.true)
+    (sym c.allows.ensures ∙ c.if-not-allows.true))
 
 pub amend-requires : goal.amend-requires
 amend-requires c =
@@ -35,7 +36,7 @@ amend-requires c =
 pub returns-in-None : goal.returns-in-None
 returns-in-None c =
     let a = c.args in
-    unfit a.role a.plan.now a.held a.said.now a.out.now (sym c.event_of.ensures ∙ c.in-None.is)
+    rw c.of.ensures (unfit a.role a.plan.now a.held a.said.now a.out.now (sym c.event_of.ensures ∙ c.in-None.is))
 
 pub returns-else-not-allows : goal.returns-else-not-allows
 returns-else-not-allows c =
