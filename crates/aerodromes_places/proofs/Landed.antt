@@ -85,7 +85,8 @@ landed_is s = go (split 32 s) (null-split 32 s)
     begun true false vs = behind_other vs
     begun false y vs = none_fits landed vs
 
-    go : (ws : List Word) → null ws ≡ false → words_fit landed ws (Some Start) ≡ (joined clock_hours (first ws) && place_fits (aerodrome_of (first ws)) (others ws))
+    go : (ws : List Word) → null ws ≡ false → words_fit landed ws (Some Start)
+        ≡ (joined clock_hours (first ws) && place_fits (aerodrome_of (first ws)) (others ws))
     go [] h = absurd (true≢false h)
     go (w ∷ ws) h = begun (joined clock_hours w) (same (aerodrome_of w) unlisted) ws
 

@@ -28,6 +28,7 @@ fn place_edition(
     requires { (is_index a.now (cells 2 left.now) ≡ true) × (is_index b.now (cells 2 right.now) ≡ true) }
     ensures { result ≡ place10 (edition10 (cells 2 left.now) m (cells 2 right.now) n) s.now }
 {
+    // Cut here and not by places::cut_place: the edit at_the_oblique tries the sum.
     let o = text::find(s, 0, b'/');
     if o == s.len() {
         return side_place(a, left, m, &s[..o]);

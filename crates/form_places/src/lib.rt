@@ -6,7 +6,7 @@ ghost use Rattle.form_places.specs.Places.{place_named, place22, place_in};
 
 use kinds::Form;
 
-// The place of a content as the field whose number has rank k.
+// The place of a content as the field whose number has rank k, a number as forms::rank_in gives it.
 fn place_named(k: usize, s: &[u8]) -> usize
     requires { (1 ≤ k) × (k ≤ 8) }
     ensures { result ≡ place_named k s.now }
@@ -27,6 +27,7 @@ fn place_named(k: usize, s: &[u8]) -> usize
 fn place_entry(s: &[u8]) -> usize
     ensures { result ≡ place22 s.now }
 {
+    // Cut here and not by places::cut_place: place_named takes no rank but one of the eight, and only behind one of the numbers is it known.
     let o = text::find(s, 0, b'/');
     let k = forms::rank_in(Form::Field22, s);
     if o == s.len() {

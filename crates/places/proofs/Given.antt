@@ -2,11 +2,11 @@
 use Prim.Native.Nat.{ℕ}
 use mathlib.Core.Path.{◌≡◌, refl, sym, ap}
 use mathlib.Core.Bool.{Bool, true, false, ◌||◌, cond, false≢true}
-use Rattle.std.specs.Prelude.{Option, Some, None}
+use Rattle.std.specs.Prelude.{Some}
 use mathlib.Core.List.{List}
 use Rattle.places.specs.Place.{IsPlace}
 use Rattle.places.specs.Words.{ended}
-use Rattle.places.specs.Given.{given, or_zero}
+use Rattle.places.specs.Given.{given}
 use Rattle.places.proofs.Place.{place_of_language}
 
 pub iff : (a b : Bool) → (a ≡ true → b ≡ true) → (b ≡ true → a ≡ true) → a ≡ b
@@ -26,13 +26,5 @@ pub given_some : {A : Type 0} (b : Bool) (k j : A) → given b k ≡ Some j → 
 given_some true k j e = (refl, cc)
 given_some false k j e = absurd (false≢true (ap ended e))
 
-pub given_zero : (b : Bool) (k : ℕ) → or_zero (given b k) ≡ cond b k 0
-given_zero true k = refl
-given_zero false k = refl
-
 pub given_place : {A : Type 0} (f : List ℕ → Bool) (k : List ℕ → A) (s : List ℕ) (p : ℕ) → IsPlace f s p → IsPlace (λ w. ended (given (f w) (k w))) s p
 given_place f k s p a = place_of_language f (λ w. ended (given (f w) (k w))) (λ w. sym (given_ended (f w) (k w))) s p a
-
-pub or_some : (o : Option ℕ) (j : ℕ) → j ≡ or_zero o → (j ≡ 0 → ⊥) → o ≡ Some j
-or_some None j e n = absurd (n e)
-or_some (Some i) j e n = ap Some (sym e)

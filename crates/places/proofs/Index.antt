@@ -6,7 +6,6 @@ use Rattle.std.specs.Prelude.{Some, None}
 use mathlib.Core.List.{List, [], ◌∷◌, ◌++◌}
 use lib.Dec.{ltb}
 use lib.ListN.{length, take, drop, get_or, length-drop}
-use lib.Seq.{drop-drop}
 use native.Mathlib.Omega.{arith}
 use Rattle.text.specs.Words.{Word, null, split, up_to, holds, behind, leading}
 use native.Mathlib.Nat.{not-suc-le-zero, add-zero}
@@ -16,7 +15,7 @@ use borrow.Author.Tests.{lt-ltb, le-ltb, lt-leb, le-leb}
 use Rattle.text.proofs.Index.{drop_here, drop_end, rest, split_at, after_here, after_end, null-split, found, found_none, found_before, found_behind}
 use Rattle.places.specs.Words.{Words, onward, words_place}
 use Rattle.std.specs.List.{prefix_len, zip}
-use Rattle.places.specs.Parts.{along_by, run_place, first_place, no_more, fixed_place, tens, units, minutes_place, time_place, cut_place, then_place, passes}
+use Rattle.places.specs.Parts.{along_by, run_place, no_more, fixed_place, cut_place, then_place, passes}
 
 -- FOLLOWING, over the pairs of bytes at one place
 pub along_zipped : (m : ℕ → ℕ → Bool) (t w : Word) → prefix_len (λ (p : ℕ × ℕ). m p.0 p.1) (zip t w) ≡ along_by m t w
@@ -28,33 +27,6 @@ along_zipped m (x ∷ t) (b ∷ w) = go (m x b) (along_zipped m t w)
         → cond c (1 + prefix_len (λ (p : ℕ × ℕ). m p.0 p.1) (zip t w)) 0 ≡ cond c (suc (along_by m t w)) 0
     go true e = omega arith
     go false e = refl
-
--- A FIRST BYTE
-
-module _ (q : ℕ → Bool) (pf : ℕ → List ℕ → ℕ) where
-  pub first_none : (w : List ℕ) → length w ≡ 0 → first_place q pf w ≡ 0
-  first_none [] h = refl
-  first_none (b ∷ w) h = absurd (omega arith)
-
-  pub first_stop : (w : List ℕ) → q (get_or w 0 0) ≡ false → first_place q pf w ≡ 0
-  first_stop [] e = refl
-  first_stop (b ∷ w) e = rw e
-
-  pub first_goes : (w : List ℕ) → (length w ≡ 0 → ⊥) → q (get_or w 0 0) ≡ true → first_place q pf w ≡ suc (pf (get_or w 0 0) (drop 1 w))
-  first_goes [] n e = absurd (n refl)
-  first_goes (b ∷ w) n e = rw e
-
-pub second_byte : (w : List ℕ) → get_or (drop 1 w) 0 0 ≡ get_or w 1 0
-second_byte [] = refl
-second_byte (b ∷ w) = refl
-
-pub one_left : (w : List ℕ) → length w ≡ 1 → length (drop 1 w) ≡ 0
-one_left w h = simp length-drop (omega arith)
-
-pub some_left : (w : List ℕ) → (length w ≡ 0 → ⊥) → (length w ≡ 1 → ⊥) → length (drop 1 w) ≡ 0 → ⊥
-some_left [] n m h = n refl
-some_left (b ∷ []) n m h = m refl
-some_left (b ∷ (c ∷ w)) n m h = omega arith
 
 -- WHAT STANDS BEHIND i, and a place in it
 
@@ -93,30 +65,6 @@ module _ (p : ℕ → Bool) (f : List ℕ → Bool) (pf pg : List ℕ → ℕ) (
 
   pub then_on : (r : ℕ) → n < length s → f (take n s) ≡ true → r ≡ pg (take (length s - n) (drop n s)) → n + r ≡ then_place p f pf pg s
   then_on r l h e = rw (← end, lt-ltb n (length s) l, h) (ap (λ (k : ℕ). n + k) (e ∙ ap pg (rest s n)))
-
--- A FIRST BYTE AND A SECOND
-
-module _ (q r : ℕ → Bool) (w : List ℕ) where
-  abbrev pair : ℕ
-  pair = first_place q (λ a. first_place r (λ b. no_more)) w
-
-  pub pair_none : length w ≡ 0 → 0 ≡ pair
-  pair_none h = sym (first_none q (λ a. first_place r (λ b. no_more)) w h)
-
-  pub pair_off : q (get_or w 0 0) ≡ false → 0 ≡ pair
-  pair_off e = sym (first_stop q (λ a. first_place r (λ b. no_more)) w e)
-
-  on : (length w ≡ 0 → ⊥) → q (get_or w 0 0) ≡ true → pair ≡ suc (first_place r (λ b. no_more) (drop 1 w))
-  on n e = first_goes q (λ a. first_place r (λ b. no_more)) w n e
-
-  pub pair_one : length w ≡ 1 → q (get_or w 0 0) ≡ true → 1 ≡ pair
-  pair_one h e = sym (on (λ n. omega arith) e ∙ ap suc (first_none r (λ b. no_more) (drop 1 w) (one_left w h)))
-
-  pub pair_second : (length w ≡ 0 → ⊥) → q (get_or w 0 0) ≡ true → r (get_or w 1 0) ≡ false → 1 ≡ pair
-  pair_second n e f = sym (on n e ∙ ap suc (first_stop r (λ b. no_more) (drop 1 w) (ap r (second_byte w) ∙ f)))
-
-  pub pair_both : (length w ≡ 0 → ⊥) → (length w ≡ 1 → ⊥) → q (get_or w 0 0) ≡ true → r (get_or w 1 0) ≡ true → 2 ≡ pair
-  pair_both n m e f = sym (on n e ∙ ap suc (first_goes r (λ b. no_more) (drop 1 w) (some_left w n m) (ap r (second_byte w) ∙ f)))
 
 -- WORDS, at an index: the word at `at` ends at e
 
@@ -160,37 +108,6 @@ module _ (p : ℕ → Bool) (n : ℕ) (pg : List ℕ → ℕ) (s : List ℕ) (m 
 -- and nothing behind them
 pub fixed_run : (p : ℕ → Bool) (n : ℕ) (s : List ℕ) → run_place n p s ≡ fixed_place p n no_more s
 fixed_run p n s = sym (smaller_by n (leading p s)) ∙ ap (λ (k : ℕ). cond (leb n (leading p s)) k (leading p s)) (sym (add-zero n))
-
--- A TIME
-
-module _ (most : ℕ) (w : List ℕ) where
-  on_tens : (length w ≡ 0 → ⊥) → tens most (get_or w 0 0) ≡ true → time_place most w
-      ≡ suc (first_place (units most (get_or w 0 0)) (λ b. minutes_place) (drop 1 w))
-  unfolding time_place
-  on_tens n e = first_goes (tens most) (λ a. first_place (units most a) (λ b. minutes_place)) w n e
-
-  pub time_none : length w ≡ 0 → 0 ≡ time_place most w
-  unfolding time_place
-  time_none h = sym (first_none (tens most) (λ a. first_place (units most a) (λ b. minutes_place)) w h)
-
-  pub time_off : tens most (get_or w 0 0) ≡ false → 0 ≡ time_place most w
-  unfolding time_place
-  time_off e = sym (first_stop (tens most) (λ a. first_place (units most a) (λ b. minutes_place)) w e)
-
-  pub time_one : length w ≡ 1 → tens most (get_or w 0 0) ≡ true → 1 ≡ time_place most w
-  time_one h e = sym (on_tens (λ n. omega arith) e ∙ ap suc (first_none (units most (get_or w 0 0)) (λ b. minutes_place) (drop 1 w) (one_left w h)))
-
-  pub time_second : (length w ≡ 0 → ⊥) → tens most (get_or w 0 0) ≡ true → units most (get_or w 0 0) (get_or w 1 0) ≡ false → 1 ≡ time_place most w
-  time_second n e f =
-      sym (on_tens n e ∙ ap suc (first_stop (units most (get_or w 0 0)) (λ b. minutes_place) (drop 1 w) (ap (units most (get_or w 0 0)) (second_byte w) ∙ f)))
-
-  pub time_both : (length w ≡ 0 → ⊥) → (length w ≡ 1 → ⊥) → tens most (get_or w 0 0) ≡ true → units most (get_or w 0 0) (get_or w 1 0) ≡ true
-      → (r : ℕ) → r ≡ minutes_place (take (length w - 2) (drop 2 w)) → 2 + r ≡ time_place most w
-  time_both n m e f r h =
-      let x : r ≡ minutes_place (drop 1 (drop 1 w)) = h ∙ ap minutes_place (rest w 2 ∙ sym (drop-drop 1 1 w)) in
-      let u = units most (get_or w 0 0) in
-      let y = on_tens n e ∙ ap suc (first_goes u (λ b. minutes_place) (drop 1 w) (some_left w n m) (ap u (second_byte w) ∙ f)) in
-      omega arith
 
 -- PREFIXES
 

@@ -1,6 +1,6 @@
 -- The larger and the smaller of two places, and the largest of the places that the words of a list have. Assumes nothing.
 use Prim.Native.Nat.{ℕ, ◌<◌, ◌≤◌}
-use mathlib.Core.Path.{◌≡◌, refl, sym, ap, ◌∙◌}
+use mathlib.Core.Path.{◌≡◌, refl, sym, ◌∙◌}
 use mathlib.Core.Bool.{Bool, true, false, cond}
 use mathlib.Core.List.{List, [], ◌∷◌}
 use native.Mathlib.Omega.{arith}
@@ -43,9 +43,6 @@ smaller_by p q = go (leb p q) refl
     go : (x : Bool) → leb p q ≡ x → cond x p q ≡ smaller p q
     go true e = let l : p ≤ q = leb-true p q e in omega arith
     go false e = let l : q < p = leb-false p q e in omega arith
-
-pub larger_up : {p p' q q' r : ℕ} → r ≡ larger p q → p ≡ p' → q ≡ q' → r ≡ larger p' q'
-larger_up {p} {p'} {q} {q'} e f g = e ∙ ap (λ (x : ℕ). larger x q) f ∙ ap (larger p') g
 
 -- THE WORDS OF A LIST: what a fold of `max` gives is the largest of the places that f gives to them
 

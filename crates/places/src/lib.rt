@@ -100,6 +100,7 @@ pub fn words_place<
         → ((k : K) (w : _) (r : ℕ) → P.post place k w r → r ≡ p k w.now)
         → result ≡ words_place (form K a f g) p start (split 32 s.now) }
 {
+    // A loop: the places of the bytes count too, and an iterator over pieces does not give them.
     let mut at = 0;
     let mut known = start;
     loop {
