@@ -120,6 +120,7 @@ pub fn inner_bytes(s: &[u8]) -> usize
     ensures { (result ≡ inner_bytes s.now) × (result ≤ length s.now) }
 {
     let mut i = 0;
+    // A loop: where the last block ends is where the count goes on byte by byte.
     while 16 <= s.len() - i {
         let e = i + 16;
         if !all_inner(&s[i..e]) {
