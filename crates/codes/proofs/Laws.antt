@@ -41,13 +41,6 @@ module _ (s : List ℕ) (at : ℕ) (h : at < length s) where
   pub code_two : at + 1 < length s → digit (get_or s (at + 1) 0) ≡ true → codes (drop at s) ≡ take (at + 1 + 1 - at) (drop at s) ∷ codes (drop (at + 1 + 1) s)
   code_two l e = rw (two, drop_here s at h, drop_here s (at + 1) l, e)
 
-  -- its second byte
-  pub no_digit : 32 ≡ get_or (take (at + 1 - at) (drop at s)) 1 32
-  no_digit = rw (one, drop_here s at h)
-
-  pub its_digit : at + 1 < length s → get_or s (at + 1) 0 ≡ get_or (take (at + 1 + 1 - at) (drop at s)) 1 32
-  its_digit l = rw (two, drop_here s at h, drop_here s (at + 1) l)
-
 -- some codes, of some bytes
 pub null_codes : (c : ℕ) (s : List ℕ) → null (codes (c ∷ s)) ≡ false
 null_codes c [] = refl

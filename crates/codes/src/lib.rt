@@ -19,17 +19,12 @@ fn code_at(s: &[u8], at: usize) -> Code
     ensures at_lt_end { (at < result.end) × (result.end ≤ length s.now) }
     ensures digit_value { result.digit ≡ get_or (take (result.end - at) (drop at s.now)) 1 32 }
 {
-    let next = at + 1;
-    if next < s.len() {
-        let d = s[next];
-        if alphabet::is_digit(d) {
-            let end = next + 1;
-            return Code { end, digit: d };
-        }
-    }
-    Code {
-        end: next,
-        digit: b' ',
+    match s.get(at + 1) {
+        Some(&digit) if alphabet::is_digit(digit) => Code { end: at + 2, digit },
+        _ => Code {
+            end: at + 1,
+            digit: b' ',
+        },
     }
 }
 
@@ -39,6 +34,7 @@ fn comes(w: &[u8], s: &[u8], from: usize) -> bool
     ensures { result ≡ elem w.now (codes (drop from s.now)) }
 {
     let mut at = from;
+    // A loop: how far a code reaches is known only where it stands.
     while at < s.len() {
         let c = code_at(s, at);
         let e = c.end;
@@ -62,17 +58,9 @@ fn cell_behind(f: usize, b: u8, c: u8, list: &[u8]) -> usize
     requires { (f ≤ 255) × (b ≡ 32 → ⊥) }
     ensures { result ≡ rank_from (f + 1) (before 32 (b ∷ (c ∷ []))) (cells 2 (drop (2 * f) list.now)) }
 {
-    let mut at = 2 * f;
-    let mut k = f;
-    while at + 1 < list.len() {
-        let x = list[at];
-        let y = list[at + 1];
-        at += 2;
-        k += 1;
-        if x == b {
-            if y == c {
-                return k;
-            }
+    for k in f..list.len() / 2 {
+        if list[2 * k] == b && list[2 * k + 1] == c {
+            return k + 1;
         }
     }
     0
@@ -104,6 +92,7 @@ pub fn codes_fit_by(first: &[u8; 26], list: &[u8], s: &[u8]) -> bool
 {
     let mut seen = [false; 64];
     let mut at = 0;
+    // A loop, as in `comes`.
     while at < s.len() {
         let c = code_at(s, at);
         let e = c.end;

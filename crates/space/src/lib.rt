@@ -74,6 +74,7 @@ pub fn reduce(msg: &[u8], buf: &mut [u8]) -> usize
 {
     let mut n = 0;
     let mut i = 0;
+    // A loop: a block is looked at with the byte behind it, and what is left at the end goes byte by byte.
     while 16 < msg.len() - i {
         let from = i;
         i += 16;
@@ -135,6 +136,7 @@ pub fn is_reduced(msg: &[u8]) -> bool
 {
     let mut last = 0;
     let mut i = 0;
+    // A loop, as in `reduce`.
     while 16 < msg.len() - i {
         let e = i + 16;
         if !all_regular(&msg[i..e + 1]) {
@@ -166,6 +168,7 @@ pub fn count_hyphens(msg: &[u8]) -> usize
 {
     let mut n = 0;
     let mut i = 0;
+    // A loop: the last part is the one that is counted behind it.
     while 224 < msg.len() - i {
         let e = i + 224;
         n += few_hyphens(&msg[i..e]) as usize;

@@ -22,10 +22,12 @@ either true u = refl
 either false u = refl
 
 pub one_of_listed : (b : ℕ) (set : List ℕ) → list_any (λ x. eqb b x) set ≡ one_of b set
-one_of_listed b set = same_from_clauses (list_any (λ x. eqb b x)) (one_of b) (λ x t. eqb b x || t) refl (λ x ys. refl) (λ x ys. sym (either (eqb b x) (one_of b ys))) set
+one_of_listed b set = same_from_clauses (list_any (λ x. eqb b x)) (one_of b) (λ x t. eqb b x || t) refl (λ x ys. refl)
+    (λ x ys. sym (either (eqb b x) (one_of b ys))) set
 
 pub elem_listed : (w : Word) (vs : List Word) → list_any (λ v. same w v) vs ≡ elem w vs
-elem_listed w vs = same_from_clauses (list_any (λ v. same w v)) (elem w) (λ v t. same w v || t) refl (λ x ys. refl) (λ x ys. sym (either (same w x) (elem w ys))) vs
+elem_listed w vs = same_from_clauses (list_any (λ v. same w v)) (elem w) (λ v t. same w v || t) refl (λ x ys. refl)
+    (λ x ys. sym (either (same w x) (elem w ys))) vs
 
 -- THE PIECES
 

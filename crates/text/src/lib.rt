@@ -31,6 +31,7 @@ pub fn find_far(s: &[u8], from: usize, c: u8) -> usize
     ensures lower_bound { (from ≤ result) × (result ≤ length s.now) }
 {
     let mut i = from;
+    // A loop: where the last block ends is where the search goes on byte by byte.
     while 16 <= s.len() - i {
         let e = i + 16;
         if !is_free(c, &s[i..e]) {
@@ -135,13 +136,11 @@ pub fn rank_behind(w: &[u8], width: usize, list: &[u8], last: usize) -> usize
     ensures { result ≡ rank_from (last + 1) w.now (drop last (cells width list.now)) }
 {
     let n = list.len() / width;
-    let mut k = last;
-    while k < n {
+    for k in last..n {
         let at = k * width;
         if in_cell(w, &list[at..at + width]) {
             return k + 1;
         }
-        k += 1;
     }
     0
 }

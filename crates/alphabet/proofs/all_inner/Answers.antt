@@ -11,5 +11,6 @@ use Rattle.alphabet.proofs.all_inner.Goals as goal
 pub returns : goal.returns
 returns c =
     let s = c.args.s.now in
-    fold_from_yields_List _ (λ fine b. fine && inner_byte b) _ c.fold.result c.fold.ensures.ran (YieldsList-from_slice s (search rules)) (λ a x b q k. search rules)
+    fold_from_yields_List _ (λ fine b. fine && inner_byte b) _ c.fold.result c.fold.ensures.ran (YieldsList-from_slice s (search rules))
+    (λ a x b q k. search rules)
     ∙ all_folded inner_byte all_inner refl (λ b s. refl) s

@@ -1,59 +1,36 @@
 -- `codes::cell_behind` meets its contract. Assumes nothing.
-use Prim.Native.Nat.{◌+◌, ◌*◌, ◌<◌}
-use mathlib.Core.Path.{◌≡◌, refl, sym, ap, ◌∙◌}
+use Prim.Native.Nat.{ℕ, ◌+◌, ◌*◌, ◌<◌}
 use mathlib.Core.Bool.{false}
+use mathlib.Core.Path.{◌≡◌, sym, ap, ◌∙◌}
 use mathlib.Core.List.{[], ◌∷◌}
 use lib.ListN.{length, drop, get_or}
-use Rattle.text.specs.Words.{before, same, rank_from, cells}
-use Rattle.codes.proofs.Pairs.{pairs, cells_pairs, here, further, nowhere, cell_other, cell_half, cell_same}
-use borrow.Author.Rules.{rules}
-use Rattle.codes.proofs.cell_behind.Goals.{After-shared_slice_known-in-loop-at-1}
+use native.Mathlib.Omega.{arith}
+use Rattle.text.specs.Words.{before, same, rank_from}
+use Rattle.codes.proofs.Pairs.{pairs, cells_pairs, further, nowhere, cell_other, cell_half}
+use Rattle.codes.proofs.cell_behind.Goals.{else-list-k-via-then-list-k+else-list-k-2, else-list-k-via-else-list-k}
 use Rattle.codes.proofs.cell_behind.Goals as goal
 
-inside : (c : After-shared_slice_known-in-loop-at-1) → c.loop-at.at + 1 < length c.args.list.now
-inside c =
-    c.loop-at-test.true
-
-found : (c : After-shared_slice_known-in-loop-at-1) → ((get_or c.args.list.now c.loop-at.at 0)) ≡ c.args.b → ((get_or c.args.list.now (c.loop-at.at + 1) 0))
-    ≡ c.args.c → ((rank_from (c.args.f + 1) ((before 32 (c.args.b ∷ (c.args.c ∷ [])))) (cells 2 (drop (2 * c.args.f) c.args.list.now)))) ≡ c.loop-at.k + 1
-found c p q =
-    c.loop-at.invariant.2 ∙ here ((before 32 (c.args.b ∷ (c.args.c ∷ [])))) c.loop-at.k c.args.list.now c.loop-at.at (inside c)
-    (cell_same c.args.b c.args.c c.requires.1 ((get_or c.args.list.now c.loop-at.at 0)) ((get_or c.args.list.now (c.loop-at.at + 1) 0)) p q)
-
-passed : (c : After-shared_slice_known-in-loop-at-1) → same ((before 32 (c.args.b ∷ (c.args.c ∷ []))))
-    (before 32 (((get_or c.args.list.now c.loop-at.at 0)) ∷ (((get_or c.args.list.now (c.loop-at.at + 1) 0)) ∷ []))) ≡ false
-    → ((rank_from (c.args.f + 1) ((before 32 (c.args.b ∷ (c.args.c ∷ [])))) (cells 2 (drop (2 * c.args.f) c.args.list.now))))
-    ≡ rank_from (c.loop-at.k + 1 + 1) ((before 32 (c.args.b ∷ (c.args.c ∷ [])))) (pairs (drop (c.loop-at.at + 2) c.args.list.now))
-passed c e =
-    c.loop-at.invariant.2 ∙ further ((before 32 (c.args.b ∷ (c.args.c ∷ [])))) c.loop-at.k c.args.list.now c.loop-at.at (inside c) e
-
-pub loop-at-init : goal.loop-at-init
-loop-at-init c =
+pub loop-k-init : goal.loop-k-init
+loop-k-init c =
     let a = c.args in
-    (refl, search rules, ap (rank_from (a.f + 1) (before 32 (a.b ∷ (a.c ∷ [])))) (cells_pairs (drop (2 * a.f) a.list.now)))
-
-pub returns-then-y-c : goal.returns-then-y-c
-returns-then-y-c c =
-    sym (found (goal.at.returns-then-y-c c).After-shared_slice_known-in-loop-at-1 c.if-x-b.true c.if-y-c.true)
-
-pub loop-at-preserved-else-y-c : goal.loop-at-preserved-else-y-c
-loop-at-preserved-else-y-c c = (
-  search rules,
-  search rules,
-  passed (goal.at.loop-at-preserved-else-y-c c).After-shared_slice_known-in-loop-at-1
-      (cell_half c.args.b c.args.c c.requires.1 (get_or c.args.list.now c.loop-at.at 0) (get_or c.args.list.now (c.loop-at.at + 1) 0) c.if-x-b.true
-      c.if-y-c.false),
-)
-
-pub loop-at-preserved : goal.loop-at-preserved
-loop-at-preserved c = (
-  search rules,
-  search rules,
-  passed (goal.at.loop-at-preserved c).After-shared_slice_known-in-loop-at-1
-      (cell_other c.args.b c.args.c c.requires.1 (get_or c.args.list.now c.loop-at.at 0) (get_or c.args.list.now (c.loop-at.at + 1) 0) c.if-x-b.false),
-)
+    ap (rank_from (a.f + 1) (before 32 (a.b ∷ (a.c ∷ [])))) (cells_pairs (drop (2 * a.f) a.list.now))
 
 pub returns : goal.returns
 returns c =
     let a = c.args in
-    sym (c.loop-at.invariant.2 ∙ nowhere (before 32 (a.b ∷ (a.c ∷ []))) c.loop-at.k a.list.now c.loop-at.at c.loop-at-test.false)
+    sym (c.loop-k.invariant ∙ nowhere (before 32 (a.b ∷ (a.c ∷ []))) c.loop-k.k a.list.now (2 * c.loop-k.k) (omega (arith, c.loop-k-test.false)))
+
+pub loop-k-preserved : goal.loop-k-preserved
+loop-k-preserved c =
+    let a = c.args in
+    let k = c.loop-k.k in
+    let s = a.list.now in
+    let cell = before 32 (a.b ∷ (a.c ∷ [])) in
+    let inside : 2 * k + 1 < length s = omega (arith, c.loop-k-test.true) in
+    let e : 2 * k + 2 ≡ 2 * (k + 1) = omega arith in
+    let on = λ (o : same cell (before 32 (get_or s (2 * k) 0 ∷ (get_or s (2 * k + 1) 0 ∷ []))) ≡ false).
+    c.loop-k.invariant ∙ (further cell k s (2 * k) inside o ∙ ap (λ (i : ℕ). rank_from (k + 1 + 1) cell (pairs (drop i s))) e) in
+    elim c.else-list-k.branch [
+      | else-list-k-via-then-list-k+else-list-k-2 w ↦ on (cell_half a.b a.c c.requires.1 _ _ w.if-list-k.true w.if-list-k-2.false)
+      | else-list-k-via-else-list-k w ↦ on (cell_other a.b a.c c.requires.1 _ _ w.if-list-k.false)
+    ]

@@ -1,32 +1,27 @@
 -- `codes::code_at` meets its contract. Assumes nothing.
-use mathlib.Core.Path.{sym, ◌∙◌}
-use Rattle.codes.proofs.Laws.{code_last, code_one, code_two, no_digit, its_digit}
-use borrow.Author.Rules.{rules}
+use Rattle.std.proofs.Common.{rules, arith, ◌≡◌, ◌+◌, ◌<◌, length, get_or}
+use mathlib.Core.Path.{sym, ap, ◌∙◌}
+use Rattle.alphabet.specs.Alphabet.{digit}
+use Rattle.codes.proofs.Laws.{code_last, code_one, code_two}
+use Rattle.codes.proofs.code_at.Goals.{in_default-via-in-Some+else-is_digit, in_default-via-in_default}
 use Rattle.codes.proofs.code_at.Goals as goal
 
-pub returns-then-is_digit : goal.returns-then-is_digit
-returns-then-is_digit c =
-    let a = c.args in record {
-      s_value = code_two a.s.now a.at (search rules) (search rules) (sym c.is_digit.ensures ∙ c.if-is_digit.true);
-      at_lt_end =
-          search rules;
-      digit_value = its_digit a.s.now a.at (search rules) (search rules);
-    }
+pub returns-in-Some-clause-s_value : goal.returns-in-Some-clause-s_value
+returns-in-Some-clause-s_value c =
+    let a = c.args in
+    let l : a.at + 1 < length a.s.now = search rules in
+    let e : c.in-Some.field-0.now ≡ get_or a.s.now (a.at + 1) 0 = search rules in
+    let z : a.at + 1 + 1 ≡ a.at + 2 = omega arith in
+    rw z at (code_two a.s.now a.at c.requires l (ap digit (sym e) ∙ (sym c.is_digit.ensures ∙ c.if-is_digit.true)))
 
-pub returns-else-is_digit : goal.returns-else-is_digit
-returns-else-is_digit c =
-    let a = c.args in record {
-      s_value = code_one a.s.now a.at (search rules) (search rules) (sym c.is_digit.ensures ∙ c.if-is_digit.false);
-      at_lt_end =
-          search rules;
-      digit_value = no_digit a.s.now a.at (search rules);
-    }
-
-pub returns-else-next-s : goal.returns-else-next-s
-returns-else-next-s c =
-    let a = c.args in record {
-      s_value = code_last a.s.now a.at (search rules) (search rules);
-      at_lt_end = search rules;
-      digit_value =
-          no_digit a.s.now a.at (search rules);
-    }
+pub returns-in_default-clause-s_value : goal.returns-in_default-clause-s_value
+returns-in_default-clause-s_value c =
+    let a = c.args in
+    elim c.in_default.branch [
+      | in_default-via-in-Some+else-is_digit w ↦ (
+          let l : a.at + 1 < length a.s.now = search (rules, w.in-Some.ensures) in
+          let e : w.in-Some.field-0.now ≡ get_or a.s.now (a.at + 1) 0 = search (rules, w.in-Some.ensures) in
+          code_one a.s.now a.at c.requires l (ap digit (sym e) ∙ (sym w.is_digit.ensures ∙ w.if-is_digit.false))
+          )
+      | in_default-via-in_default w ↦ code_last a.s.now a.at c.requires (search rules)
+    ]

@@ -15,6 +15,8 @@ pub returns-clause-value : goal.returns-clause-value
 returns-clause-value c =
     let a = c.args in
     let s = drop a.from a.s.now in
-    let found = position_from_yields_List (λ b. not (of_kind a.k b)) _ _ c.position.result c.position.ensures.ran (YieldsList-from_slice s (search (rules, rest)))
+    let found = position_from_yields_List (λ b. not (of_kind a.k b)) _ _ c.position.result c.position.ensures.ran
+    (YieldsList-from_slice s (search (rules, rest)))
     (λ x b q k. search (rules, tests)) in
-    ap (λ n. a.from + n) (leading_found (of_kind a.k) s _ found _ (c.unwrap_or.ensures ∙ ap (λ s. unwrap_or c.position.result (length s)) (rest a.s.now a.from))).0
+    ap (λ n. a.from + n) (leading_found (of_kind a.k) s _ found _
+    (c.unwrap_or.ensures ∙ ap (λ s. unwrap_or c.position.result (length s)) (rest a.s.now a.from))).0

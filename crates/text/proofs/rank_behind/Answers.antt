@@ -56,10 +56,6 @@ returns-then-in_cell c =
     let e = sym c.in_cell.ensures ∙ c.if-in_cell.true in
     sym (c.loop-k.invariant ∙ cell_found (c.loop-k.k + 1) a.width (c.loop-k.k * a.width) a.w.now c.args.list.now (omega (arith, h.0)) n e)
 
-pub overflow_add-k : goal.overflow_add-k
-overflow_add-k c =
-    let h = (inside (goal.at.overflow_add-k c).In-loop-k).0 in search rules
-
 pub loop-k-preserved : goal.loop-k-preserved
 loop-k-preserved c =
     let a = c.args in

@@ -1,4 +1,4 @@
-use Prim.Native.Nat.{◌+◌, ◌-◌, ◌*◌}
+use Prim.Native.Nat.{◌+◌, ◌*◌}
 use mathlib.Core.Path.{◌≡◌}
 use lib.ListN.{drop}
 use Rattle.text.specs.Words.{rank_from, cells}
@@ -8,6 +8,3 @@ use Rattle.text.proofs.rank_behind.Given as goal
 abbrev pub invariant-loop-k : goal.invariant-loop-k
 invariant-loop-k l = rank_from (l.last + 1) l.w (drop l.last (cells l.width l.list))
     ≡ rank_from (l.k + 1) l.w (cells_from (l.k + 1) l.width (l.k * l.width) l.list)
-
-abbrev pub decreases-loop-k : goal.decreases-loop-k
-decreases-loop-k l = l.n - l.k
