@@ -26,6 +26,7 @@ fn stripped<'a>(w: &'a [u8]) -> &'a [u8]
 }
 
 // How many letters of a set stand in w.
+// Lengths have functions of their own beside those that write, here and below: nothing is written before all is checked.
 fn sorted_length(set: &[u8], w: &[u8]) -> usize
     ensures { result ≡ length (sorted set.now w.now) }
 {

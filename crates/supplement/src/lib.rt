@@ -26,6 +26,7 @@ pub enum Stage {
 }
 
 // The place of an item in their order, by its key's letter, from 1; 0 for any other byte.
+// A number, as `ensures place_of` has it: places are compared, and 0 is behind none.
 #[tactic(auto, unfolding(crate::specs::Field19::keyed))]
 pub fn place(key: u8) -> usize
     ensures { result ≡ place_of (by_letter key) }
