@@ -25,10 +25,7 @@ pub fn field<'a>(s: &'a [u8], j: usize) -> &'a [u8]
 pub fn behind_aerodrome<'a>(s: &'a [u8]) -> &'a [u8]
     ensures { result.now ≡ drop 4 s.now }
 {
-    if s.len() < 4 {
-        return &s[s.len()..];
-    }
-    &s[4..]
+    s.get(4..).unwrap_or(&[])
 }
 
 // Writes the plan's own field of rank k with an entry's content put in: behind a destination alone, what stands behind the plan's own.
@@ -96,11 +93,9 @@ fn put_content<'a>(
     match role {
         Role::Changes => put_changed(own, said, first, k, out),
         Role::Delays => put_delayed(own, said, k, out),
-        Role::Cancels => text::put(own, out),
-        Role::Departs => text::put(own, out),
-        Role::Arrives => text::put(own, out),
-        Role::Files => text::put(own, out),
-        Role::Neither => text::put(own, out),
+        Role::Cancels | Role::Departs | Role::Arrives | Role::Files | Role::Neither => {
+            text::put(own, out)
+        }
     }
 }
 
@@ -140,13 +135,11 @@ pub fn write_amended<'a>(role: Role, plan: &'a [u8], said: &'a [u8], out: &mut [
     let first = force::first_entry(said);
     let mut o = 0;
     let mut c = Cursor { at: 0 };
-    let mut k = 0;
-    while k < PLAN_FIELDS {
+    for k in 0..PLAN_FIELDS {
         let at = c.at;
         let e = c.end(plan, b'-');
         o += put_field(role, &plan[at..e], said, first, k, &mut out[o..]);
         c = behind(plan, e);
-        k += 1;
     }
     out[o] = b')';
     o + 1

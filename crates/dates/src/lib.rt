@@ -77,6 +77,7 @@ fn place_of(s: &[u8]) -> Place
             to: s.len(),
         };
     }
+    // A loop: where a word stands is answered too, and an iterator over the words does not give it.
     let mut at = 0;
     loop {
         let e = text::find(s, at, b' ');

@@ -34,6 +34,7 @@ fn find_entry(chg: &[u8], first: Cursor, k: usize) -> Option<Span>
     requires { (0 < k) × AtEntries chg.now first.at }
     ensures { FoundIn chg.now k result }
 {
+    // A loop: where an entry stands is answered too, and an iterator over the entries does not give it.
     let mut c = first;
     loop {
         let at = c.at;

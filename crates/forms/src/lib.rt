@@ -20,6 +20,7 @@ fn rank_of_entry(s: &[u8]) -> usize
 fn fits_named(k: usize, s: &[u8]) -> bool
     ensures { result ≡ (ltb 0 k && (field_named k).fits s.now) }
 {
+    // By rank, not through fits_form: that asks fits_entry, so one dispatch for both would call itself, and its arm for Field22 would never run here.
     match k {
         0 => false,
         1 => head::fits_field7(s),

@@ -78,14 +78,12 @@ fn rank_of(t: MessageType, count: usize, number: u8) -> usize
     requires { (least_of t ≤ count) × (count ≤ greatest_of t) }
     ensures { result ≡ up_to number (map number_of (forms_of t count)) }
 {
-    let mut j = 0;
-    while j < count {
+    for j in 0..count {
         if t.form_at(count, j).number() == number {
             return j;
         }
-        j += 1;
     }
-    j
+    count
 }
 
 // Where the content of field j stands; a text begins one byte behind its message.

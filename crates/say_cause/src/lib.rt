@@ -20,12 +20,13 @@ fn differences<R: Print>(console: &Console<'_, R>, d: Differences) {
     name(console, d.date, b"DATE");
 }
 
-fn key<R: Print>(console: &Console<'_, R>, k: Key) {
+// The key, as field 18 has it.
+fn key_name(k: Key) -> &'static [u8] {
     match k {
-        Key::Typ => print(console, b" TYP"),
-        Key::Dep => print(console, b" DEP"),
-        Key::Dest => print(console, b" DEST"),
-        Key::Altn => print(console, b" ALTN"),
+        Key::Typ => b"TYP",
+        Key::Dep => b"DEP",
+        Key::Dest => b"DEST",
+        Key::Altn => b"ALTN",
     }
 }
 
@@ -34,7 +35,7 @@ pub fn names<R: Print>(console: &Console<'_, R>, c: Cause) {
     match c {
         Cause::NothingMore => {}
         Cause::Another(d) => differences(console, d),
-        Cause::Missing(k) => key(console, k),
+        Cause::Missing(k) => name(console, true, key_name(k)),
         Cause::Forbidden(s) => {
             print(console, b" ");
             say::state(console, s);

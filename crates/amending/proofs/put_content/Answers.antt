@@ -1,9 +1,11 @@
 -- `amending::put_content` meets its contract. Assumes nothing.
 use Prim.Native.Nat.{ℕ, ◌≤◌}
-use mathlib.Core.Path.{◌≡◌, sym, ap}
+use mathlib.Core.Path.{◌≡◌, refl, sym, ap}
+use mathlib.Core.Logic.{◌⊎◌, inl, inr}
 use mathlib.Core.List.{List}
 use lib.ListN.{length}
 use Rattle.kinds.specs.declared.Role.{Role}
+use Rattle.kinds.specs.declared.Role.TheVariants.{Files, Cancels, Departs, Arrives, Neither}
 use Rattle.canonical.proofs.Turns.{put_same, room_same}
 use Rattle.dates.specs.Dates.{Puts}
 use Rattle.amending.specs.Amended.{content_in}
@@ -30,25 +32,19 @@ pub put_delayed-requires : goal.put_delayed-requires
 put_delayed-requires c =
     asked (goal.at.put_delayed-requires c).Start c.in-Delays.is
 
+-- the roles that leave the field as it is
+own_kept : (r : Role) (own said : List ℕ) (k : ℕ) → (r ≡ Cancels) ⊎ ((r ≡ Departs) ⊎ ((r ≡ Arrives) ⊎ ((r ≡ Files) ⊎ (r ≡ Neither)))) → own
+    ≡ content_in r own said k
+own_kept r own said k (inl e) = rw e refl
+own_kept r own said k (inr (inl e)) = rw e refl
+own_kept r own said k (inr (inr (inl e))) = rw e refl
+own_kept r own said k (inr (inr (inr (inl e)))) = rw e refl
+own_kept r own said k (inr (inr (inr (inr e)))) = rw e refl
+
 pub put-requires : goal.put-requires
 put-requires c =
-    asked (goal.at.put-requires c).Start c.in-Cancels.is
-
-pub put-requires-in-Departs : goal.put-requires-in-Departs
-put-requires-in-Departs c =
-    asked (goal.at.put-requires-in-Departs c).Start c.in-Departs.is
-
-pub put-requires-in-Arrives : goal.put-requires-in-Arrives
-put-requires-in-Arrives c =
-    asked (goal.at.put-requires-in-Arrives c).Start c.in-Arrives.is
-
-pub put-requires-in-Files : goal.put-requires-in-Files
-put-requires-in-Files c =
-    asked (goal.at.put-requires-in-Files c).Start c.in-Files.is
-
-pub put-requires-in-Neither : goal.put-requires-in-Neither
-put-requires-in-Neither c =
-    asked (goal.at.put-requires-in-Neither c).Start c.in-Neither.is
+    let a = c.args in
+    room_same a.out.now (sym (own_kept a.role a.own.now a.said.now a.k c.in-Cancels.is)) c.requires.1
 
 pub returns-in-Changes : goal.returns-in-Changes
 returns-in-Changes c =
@@ -60,20 +56,5 @@ returns-in-Delays c =
 
 pub returns-in-Cancels : goal.returns-in-Cancels
 returns-in-Cancels c =
-    given (goal.at.returns-in-Cancels c).Start c.in-Cancels.is c.put.ensures
-
-pub returns-in-Departs : goal.returns-in-Departs
-returns-in-Departs c =
-    given (goal.at.returns-in-Departs c).Start c.in-Departs.is c.put-in-Departs.ensures
-
-pub returns-in-Arrives : goal.returns-in-Arrives
-returns-in-Arrives c =
-    given (goal.at.returns-in-Arrives c).Start c.in-Arrives.is c.put-in-Arrives.ensures
-
-pub returns-in-Files : goal.returns-in-Files
-returns-in-Files c =
-    given (goal.at.returns-in-Files c).Start c.in-Files.is c.put-in-Files.ensures
-
-pub returns-in-Neither : goal.returns-in-Neither
-returns-in-Neither c =
-    given (goal.at.returns-in-Neither c).Start c.in-Neither.is c.put-in-Neither.ensures
+    let a = c.args in
+    put_same a.out.now (own_kept a.role a.own.now a.said.now a.k c.in-Cancels.is) c.put.ensures

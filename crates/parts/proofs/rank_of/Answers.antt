@@ -29,4 +29,4 @@ pub returns : goal.returns
 returns c =
     let a = c.args in
     let p = c.requires in
-    omega (arith, rank_end a.t a.count p.0 p.1 a.number c.loop-j.j c.loop-j-test.false, c.loop-j.invariant)
+    omega (arith, rank_end a.t a.count p.0 p.1 a.number c.loop-j.j c.loop-j-test.false, c.loop-j.invariant, c.loop-j.auto.j-end, c.loop-j-test.false)

@@ -1,4 +1,4 @@
-use Prim.Native.Nat.{◌+◌, ◌-◌, ◌≤◌}
+use Prim.Native.Nat.{◌+◌}
 use mathlib.Core.Path.{◌≡◌}
 use mathlib.Core.List.{map}
 use lib.ListN.{drop}
@@ -8,7 +8,4 @@ use Rattle.parts.proofs.rank_of.Given as goal
 
 abbrev pub invariant-loop-j : goal.invariant-loop-j
 invariant-loop-j l =
-    (l.j ≤ l.count) × (up_to l.number (map number_of (forms_of l.t l.count)) ≡ l.j + up_to l.number (drop l.j (map number_of (forms_of l.t l.count))))
-
-abbrev pub decreases-loop-j : goal.decreases-loop-j
-decreases-loop-j l = l.count - l.j
+    up_to l.number (map number_of (forms_of l.t l.count)) ≡ l.j + up_to l.number (drop l.j (map number_of (forms_of l.t l.count)))
