@@ -1,4 +1,5 @@
 pub mod Laws
 pub mod Same
+pub mod Numbers
 pub mod Good
 pub mod Walk
