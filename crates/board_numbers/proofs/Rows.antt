@@ -162,4 +162,4 @@ module _ (ns : List ℕ) where
   unfolding held_of
   one_held z s n es en =
       rw (ne_eqb (get_or ns 0 0) 0 z, en) (ap (λ (t : State). Some (record { held = record { state = t }; length = kept 1801 (get_or ns 9 0) })) (es
-          ∙ state_behind ns))
+      ∙ state_behind ns))

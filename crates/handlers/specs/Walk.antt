@@ -1,6 +1,6 @@
 -- The walk of the program `handlers` over its input and over its journal: how bytes become lines, and the board after each. Where there is a journal, an
 -- accepted call that cannot be kept leaves the board as it was. Assumes nothing.
-use Rattle.std.specs.Prelude.{ℕ, ◌≡◌, refl, Bool, true, false, ◌&&◌, cond, List, [], ◌∷◌, ◌++◌, length, drop, Ok, Err}
+use Rattle.std.specs.Prelude.{ℕ, ◌≡◌, refl, Bool, true, false, ◌&&◌, cond, List, [], ◌∷◌, ◌++◌, length, drop, is_ok}
 use Rattle.alphabet.specs.Text.{bytes}
 use Rattle.rooms.specs.Rooms.{Board, empty, said, after, Call as OnBoard}
 use Rattle.racks.specs.Places.{Place, board_in, Sized}
@@ -16,7 +16,6 @@ use Rattle.journal.specs.declared.Journal.{Journal}
 use Rattle.journal.specs.declared.Journal.TheVariants.{Nowhere, At}
 use Rattle.journal.specs.Lines.{Waits, fresh, lines_from, waits_then}
 use Rattle.handlers.specs.declared.Played.{Played}
-use Rattle.board.specs.declared.Done.TheVariants.{Cleared, Filed, Updated}
 
 -- THE CALL ON THE BOARD
 abbrev pub call_of : Call → List ℕ → OnBoard (List ℕ)
@@ -25,10 +24,7 @@ call_of (Update firm slot from) line = updating firm slot (drop from line)
 call_of (Clear firm slot) line = clearing firm slot
 
 abbrev pub accepted_as : Verdict → Bool
-accepted_as (Ok (Filed k)) = true
-accepted_as (Ok (Updated held n)) = true
-accepted_as (Ok Cleared) = true
-accepted_as (Err r) = false
+accepted_as v = is_ok v
 
 -- THE BOARD AFTER A LINE: what is no call on the board leaves it
 
