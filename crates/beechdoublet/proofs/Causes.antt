@@ -6,7 +6,7 @@ use mathlib.Core.List.{List, [], ◌∷◌}
 use native.Mathlib.Omega.{arith}
 use lib.Dec.{eqb}
 use lib.ListN.{drop, get_or}
-use Rattle.std.specs.Prelude.{Option as Optional, None, Some}
+use Rattle.std.specs.Prelude.{Option as Optional, None, Some, Ok, Err}
 use Rattle.alphabet.specs.Alphabet.{one_of}
 use Rattle.state.specs.declared.Strip.{Strip}
 use Rattle.strip.specs.declared.Differences.{Differences}
@@ -21,7 +21,6 @@ use Rattle.beechdoublet.specs.Numbers.{update_number}
 use Rattle.beechdoublet.specs.Handed.{update_as}
 use Rattle.beechdoublet.specs.Causes.{flag, set_numbers, key_number, cause_number, cause_numbers, cause_as}
 use Rattle.handed.proofs.Laws.{state_one}
-use Rattle.std.specs.Prelude.{Ok, Err}
 
 -- NUMBERS LOSE NOTHING
 
@@ -78,7 +77,8 @@ cause_one (Forbidden s) (Forbidden t) q = ap Forbidden (state_one s t (ap (drop 
 abbrev pub shown_number : ℕ → ℕ
 shown_number number = cond (one_of number (10 ∷ 12 ∷ 13 ∷ [])) number 0
 
-pub cause_number_lem : (h : Optional Strip) (strip m : List ℕ) (room : ℕ) → cause_number (cause_as h strip m) ≡ shown_number (update_number (update_as h strip m room))
+pub cause_number_lem : (h : Optional Strip) (strip m : List ℕ) (room : ℕ)
+    → cause_number (cause_as h strip m) ≡ shown_number (update_number (update_as h strip m room))
 cause_number_lem None strip m room = refl
 cause_number_lem (Some held) strip m room = go (cause_of strip held m) (update_of strip held m room) (agrees strip held m room)
   where

@@ -43,8 +43,15 @@ use Rattle.handed.proofs.Laws.{state_one, handed_back}
 use Rattle.board_numbers.proofs.Zero.{refused_numbered}
 use Rattle.beechdoublet.specs.Handed.{update_as, state_as, asked_as}
 use Rattle.beechdoublet.specs.Laws.{was_read, was_taken, was_shown, Numbered, Told, was_given, Given, was_planned, NumberedPlan}
+use Rattle.std.specs.Prelude.{Result}
+use Rattle.outer.specs.declared.Refusal.{Refusal}
 use Rattle.outer.specs.Refusal.{refusal}
 use Rattle.asked.specs.declared.Place.TheVariants.{InChange, InStrip}
+
+-- refusals of equal numbers, fields and places are equal
+err_one : {A : Type 0} (r q : Refusal) → r.number ≡ q.number → r.field ≡ q.field → r.place ≡ q.place → ◌≡◌ {A = Result A Refusal} (Err r) (Err q)
+err_one r q n f p =
+    ap (λ (x : ℕ). Err (refusal x r.field r.place)) n ∙ ap (λ (x : ℕ). Err (refusal q.number x r.place)) f ∙ ap (λ (x : ℕ). Err (refusal q.number q.field x)) p
 
 -- THE TYPES
 
@@ -68,10 +75,11 @@ pub read_one : (a b : Answer) → read_numbers a ≡ read_numbers b → a ≡ b
 read_one (Ok (t, n)) (Ok (u, k)) e =
     let p : type_number t ≡ type_number u = cc in
     let q : t ≡ u = type_one t u p in
-    cc
+    let r : n ≡ k = cc in
+    ap (λ (x : MessageType). Ok (x, n)) q ∙ ap (λ (x : ℕ). Ok (u, x)) r
 read_one (Ok (t, n)) (Err r) e = let p : type_number t ≡ 0 = cc in absurd (omega (arith, type_some t))
 read_one (Err r) (Ok (u, k)) e = let p : type_number u ≡ 0 = cc in absurd (omega (arith, type_some u))
-read_one (Err r) (Err r') e = cc
+read_one (Err r) (Err r') e = let n : r.number ≡ r'.number = cc in let f : r.field ≡ r'.field = cc in let p : r.place ≡ r'.place = cc in err_one r r' n f p
 
 -- 0 is given back exactly where the message is accepted
 pub read_zero : (m : List ℕ) (room : ℕ) → eqb (read_number (answer_of m room)) 0 ≡ was_read (answer_of m room)
@@ -108,7 +116,7 @@ update_one ns (Ok (a, n)) (Ok (b, k)) hu hv e f =
     ap (λ (s : State). Ok (record { state = s }, n)) p ∙ ap (λ (n : ℕ). Ok (b, n)) q
 update_one ns (Ok (a, n)) (Err r) hu hv e f = let z : r.number ≡ 0 = cc in absurd (omega (arith, hv))
 update_one ns (Err r) (Ok (b, k)) hu hv e f = let z : r.number ≡ 0 = cc in absurd (omega (arith, hu))
-update_one ns (Err r) (Err r') hu hv e f = cc
+update_one ns (Err r) (Err r') hu hv e h = let n : r.number ≡ r'.number = cc in let f : r.field ≡ r'.field = cc in let p : r.place ≡ r'.place = cc in err_one r r' n f p
 
 -- what an accepted message leaves can be handed in again
 pub next_handed : (ns strip m : List ℕ) (room : ℕ) (held next : Strip) (n : ℕ) → update_of strip held m room ≡ Ok (next, n)
@@ -129,7 +137,7 @@ asked_one (Ok (InChange from to)) (Ok (InChange from' to')) e = cc
 asked_one (Ok (InChange from to)) (Err r) e = let z : ◌≡◌ {A = ℕ} 2 0 = cc in absurd (omega arith)
 asked_one (Err r) (Ok (InStrip from to)) e = cc
 asked_one (Err r) (Ok (InChange from to)) e = let z : ◌≡◌ {A = ℕ} 0 2 = cc in absurd (omega arith)
-asked_one (Err r) (Err r') e = cc
+asked_one (Err r) (Err r') e = let n : r.number ≡ r'.number = cc in let f : r.field ≡ r'.field = cc in let p : r.place ≡ r'.place = cc in err_one r r' n f p
 
 -- an 8 for the number asked has it as its field, over 255 too
 told_whole : (asked : ℕ) → field_told asked 8 (byte_of asked) ≡ asked
@@ -212,7 +220,7 @@ part_one (Ok s) (Ok u) e =
     ap₂ (λ (x y : ℕ). Ok (record { from = x; to = y })) f t
 part_one (Ok s) (Err r) e = let z : ◌≡◌ {A = ℕ} 1 0 = cc in absurd (omega arith)
 part_one (Err r) (Ok s) e = cc
-part_one (Err r) (Err r') e = cc
+part_one (Err r) (Err r') e = let n : r.number ≡ r'.number = cc in let f : r.field ≡ r'.field = cc in let p : r.place ≡ r'.place = cc in err_one r r' n f p
 
 -- an 8 for the number asked has it as its field, over 255 too
 pub part_whole_lem : (asked : ℕ) → part_whole asked (Err (refusal 8 (byte_of asked) 0)) ≡ Err (refusal 8 asked 0)
@@ -276,7 +284,7 @@ pub plan_one : (a b : Planned) → NumberedPlan a → NumberedPlan b → plan_nu
 plan_one (Ok p) (Ok q) ha hb e = ap Ok (parts_one p q e)
 plan_one (Ok p) (Err r) ha hb e = let z : r.number ≡ 0 = cc in absurd (omega (arith, hb))
 plan_one (Err r) (Ok q) ha hb e = let z : r.number ≡ 0 = cc in absurd (omega (arith, ha))
-plan_one (Err r) (Err r') ha hb e = cc
+plan_one (Err r) (Err r') ha hb e = let n : r.number ≡ r'.number = cc in let f : r.field ≡ r'.field = cc in let p : r.place ≡ r'.place = cc in err_one r r' n f p
 
 pub plan_numbered : (m : List ℕ) → NumberedPlan (planned_of m)
 unfolding planned_of taken_of

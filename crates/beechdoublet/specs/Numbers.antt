@@ -128,7 +128,7 @@ numbered = (refl, refl)
 
 -- a plan of two FK27 with two alternates and a date, and a refusal
 parts : (plan_numbers
-    (Parts
+    (Ok
     (record {
       identification = record { from = 5; to = 10 };
       aircraft = record { count = 2; kind = record { from = 15; to = 19 } };

@@ -52,7 +52,13 @@ fn tell_read(a: Answer, answer: &mut [u64; 5]) -> u8
             0
         }
         Err(refusal) => {
-            *answer = [refusal.number as u64, refusal.field as u64, refusal.place as u64, 0, 0];
+            *answer = [
+                refusal.number as u64,
+                refusal.field as u64,
+                refusal.place as u64,
+                0,
+                0,
+            ];
             refusal.number
         }
     }
@@ -80,7 +86,12 @@ fn tell_update(u: Updated, state: &mut [u64; 8], answer: &mut [u64; 4]) -> u8
             0
         }
         Err(refusal) => {
-            *answer = [refusal.number as u64, refusal.field as u64, refusal.place as u64, 0];
+            *answer = [
+                refusal.number as u64,
+                refusal.field as u64,
+                refusal.place as u64,
+                0,
+            ];
             refusal.number
         }
     }

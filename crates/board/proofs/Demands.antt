@@ -4,15 +4,12 @@ use mathlib.Core.Path.{◌≡◌, refl, sym, ap, ◌∙◌}
 use mathlib.Core.Bool.{Bool, true, false, cond}
 use mathlib.Core.List.{List, [], ◌∷◌, map}
 use native.Mathlib.Omega.{arith}
-use Rattle.std.specs.Prelude.{Option, Some}
+use Rattle.std.specs.Prelude.{Option, Some, Ok, Err}
 use Rattle.kinds.specs.declared.MessageType.{MessageType}
 use Rattle.kinds.specs.declared.MessageType.TheVariants.{Fpl}
-use Rattle.message.specs.declared.Answer.{Answer}
-use Rattle.message.specs.declared.Answer.TheVariants.{Accepted as ReadAs, Refused as NotRead}
+use Rattle.message.specs.Answer.{Answer}
 use Rattle.message.specs.Reading.{is_plan, answer_of}
-use Rattle.strip.specs.declared.Updated.{Updated}
-use Rattle.strip.specs.declared.Updated.TheVariants.{Accepted, Refused}
-use Rattle.strip.specs.Updating.{update_of, out_after}
+use Rattle.strip.specs.Updating.{Updated, update_of, out_after}
 use Rattle.history.specs.Demand3.{Standing, put_as, updater, offered, offered_all, filed_as}
 use Rattle.message.proofs.Plans.{plan_type}
 use Rattle.history.proofs.Demand3.{demand3}
@@ -26,8 +23,10 @@ use Rattle.rooms.specs.Demands.Lived.{vacant, lives}
 use Rattle.rooms.proofs.Independent.{independent}
 use Rattle.rooms.proofs.Lives.{lives_right}
 use Rattle.rooms.proofs.Meets.{meets}
-use Rattle.board.specs.House.{Why, filing_as, updating_as, lent, house}
-use Rattle.board.specs.declared.Verdict.{Verdict}
+use Rattle.outer.specs.Refusal.{refusal}
+use Rattle.outer.specs.declared.Refusal.{Refusal}
+use Rattle.board.specs.House.{filing_as, updating_as, lent, house}
+use Rattle.board.specs.Verdict.{Verdict}
 use Rattle.board.specs.Turns.{told}
 use Rattle.board.specs.Runs.{verdicts}
 use Rattle.board.specs.Demands.{offer_of, FromFiling, EachStrip, own_verdicts, HandlersApart}
@@ -41,25 +40,25 @@ board_meets = meets house
 
 pub record Filed (m : List ℕ) (s : Standing) : Type 0 where
   pub long : ℕ
-  pub read : answer_of m 1800 ≡ ReadAs Fpl long
+  pub read : answer_of m 1800 ≡ Ok (Fpl, long)
   pub strip_is : s ≡ filed_as m
 
 filed : (m : List ℕ) (s : Standing) (a : Answer) → answer_of m 1800 ≡ a → filing_as a m ≡ takes s → Filed m s
-filed m s (NotRead number field place) q e = absurd (let z : ◌≡◌ {A = ℕ} 0 1 = cc in omega arith)
-filed m s (ReadAs t n) q e = go (is_plan t) refl e
+filed m s (Err r) q e = cc
+filed m s (Ok (t, n)) q e = go (is_plan t) refl e
   where
     go : (p : Bool) → is_plan t ≡ p
-        → ◌≡◌ {A = Outcome Standing Why} (cond p (takes (filed_as m)) (refuses (record { number = 14; field = 0; place = 0 }))) (takes s) → Filed m s
+        → ◌≡◌ {A = Outcome Standing Refusal} (cond p (takes (filed_as m)) (refuses (refusal 14 0 0))) (takes s) → Filed m s
     go true p e =
         let same : filed_as m ≡ s = cc in
-        record { long = n; read = q ∙ ap (λ (u : MessageType). ReadAs u n) (plan_type t p); strip_is = sym same }
-    go false p e = absurd (let z : ◌≡◌ {A = ℕ} 0 1 = cc in omega arith)
+        record { long = n; read = q ∙ ap (λ (u : MessageType). Ok (u, n)) (plan_type t p); strip_is = sym same }
+    go false p e = cc
 
 -- AN OFFER is the history's
 
 one_offer : (s : Standing) (m out : List ℕ) (u : Updated) → offered_as house (updating_as u out) s ≡ put_as u out s
-one_offer s m out (Accepted held n) = refl
-one_offer s m out (Refused number field place) = refl
+one_offer s m out (Ok (held, n)) = refl
+one_offer s m out (Err r) = refl
 
 offers : (s : Standing) (ms : List (List ℕ)) → offer_all house s ms ≡ offered_all updater s (map offer_of ms)
 offers s [] = refl
@@ -71,7 +70,7 @@ offers s (m ∷ ms) =
 
 from_life : (f : Firm) (k : ℕ) (cs : List (Call (List ℕ))) (s : Standing) (l : Option (Life (List ℕ))) (p : Option Standing)
     → life_at house f k (log_of house (empty house) cs) ≡ l → Lived house l p → p ≡ Some s → FromFiling f k cs s
-from_life f k cs s _ _ e vacant q = absurd (let z : ◌≡◌ {A = ℕ} 0 1 = cc in omega arith)
+from_life f k cs s _ _ e vacant q = cc
 from_life f k cs s _ _ e (lives l t q) r =
     let w = filed l.filing t (answer_of l.filing 1800) refl q in
     let same : offer_all house t l.offers ≡ s = cc in

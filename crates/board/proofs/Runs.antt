@@ -7,29 +7,25 @@ use native.Mathlib.Omega.{arith}
 use lib.Dec.{leb}
 use lib.ListN.{length, take, drop, get_or, set, replicate, length-set, length-take}
 use borrow.Author.Tests.{le-leb, leb-true, leb-false}
-use Rattle.std.specs.Prelude.{Option, None, Some}
+use Rattle.std.specs.Prelude.{Option, None, Some, Ok, Err}
 use Rattle.kinds.specs.declared.MessageType.{MessageType}
-use Rattle.message.specs.declared.Answer.{Answer}
-use Rattle.message.specs.declared.Answer.TheVariants.{Accepted as ReadAs, Refused as NotRead}
+use Rattle.message.specs.Answer.{Answer}
 use Rattle.message.specs.Reading.{is_plan, spelling_of, answer_of}
 use Rattle.message.proofs.Reached.{accepted_taken}
-use Rattle.strip.specs.declared.Updated.{Updated as Update}
-use Rattle.strip.specs.declared.Updated.TheVariants.{Accepted, Refused as NotTaken}
-use Rattle.strip.specs.Updating.{update_of, out_after}
+use Rattle.strip.specs.Updating.{Updated as Update, update_of, out_after}
 use Rattle.history.specs.Demand3.{Standing, filed_as as filed_strip}
 use Rattle.message.proofs.Plans.{plan_type}
 use Rattle.history.proofs.Causes.{accepted_fits}
 use Rattle.rooms.specs.declared.Firm.{Firm}
 use Rattle.rooms.specs.declared.Firm.TheVariants.{First, Second}
 use Rattle.rooms.specs.Rooms.{firm_of, other, same, Act, Call, Board, held_in, lowest, beyond, has_room, Said, empty}
-use Rattle.rooms.specs.Rooms.{filed_as, updated_as, offered_at, cleared_at, reply}
-use Rattle.rooms.specs.Rooms.{said_to, said, put, after}
+use Rattle.rooms.specs.Rooms.{filed_as, updated_as, offered_at, cleared_at, reply, said_to, said, put, after}
 use Rattle.rooms.specs.Rooms.Outcome.{takes, refuses}
 use Rattle.rooms.specs.Rooms.Act.{file, update, clear}
 use Rattle.rooms.specs.Rooms.Reply.{filed, updated, cleared, refused, no_firm, no_slot, no_room, not_over}
 use Rattle.rooms.proofs.Racks.{lowest_inside, room_below}
 use Rattle.board.specs.House.{filing_as, updating_as, lent, over_in, house}
-use Rattle.board.specs.declared.Verdict.{Verdict}
+use Rattle.board.specs.Verdict.{Verdict}
 use Rattle.board.specs.declared.Turn.{Turn}
 use Rattle.racks.specs.Places.{Place, Sized, in_place, strip_in, vacant, base, rack_at, board_in, place_of, written}
 use Rattle.board.specs.Turns.{told, placed, lent_after, placed_by, lent_by, Turned}
@@ -52,8 +48,8 @@ Proper not_over = Unit
 
 -- what is filed
 filing_proper : (k : ℕ) → k < 10 → (m : List ℕ) (a : Answer) → answer_of m 1800 ≡ a → Proper (filed_as house (filing_as a m) k)
-filing_proper k h m (NotRead number field place) e = tt
-filing_proper k h m (ReadAs t n) e = go (is_plan t) refl
+filing_proper k h m (Err r) e = tt
+filing_proper k h m (Ok (t, n)) e = go (is_plan t) refl
   where
     go : (b : Bool) → is_plan t ≡ b → Proper (filed_as house (cond b (takes (filed_strip m)) (refuses (record { number = 14; field = 0; place = 0 }))) k)
     go true p = (h, subst (λ (u : MessageType). length (spelling_of u m) ≤ 1800) (plan_type t p) (accepted_taken t m 1800 n e).fits)
@@ -62,8 +58,8 @@ filing_proper k h m (ReadAs t n) e = go (is_plan t) refl
 -- what an update leaves
 updating_proper : (k : ℕ) → k < 10 → (s : Standing) (m : List ℕ) (u : Update) → update_of s.strip s.held m 1800 ≡ u
     → Proper (updated_as house (updating_as u (out_after s.strip s.held m lent)) k)
-updating_proper k h s m (NotTaken number field place) e = tt
-updating_proper k h s m (Accepted held n) e =
+updating_proper k h s m (Err r) e = tt
+updating_proper k h s m (Ok (held, n)) e =
     (h, omega (arith, accepted_fits s.strip s.held m 1800 held n e, length-take n (out_after s.strip s.held m lent)))
 
 module _ (ps : List Place) (bytes : List ℕ) (f : Firm) (n : ℕ) where

@@ -1,9 +1,8 @@
 -- What is promised of the board (document 02, request 6), of strips as they are. `Meets house (keeper house)` of the crate rooms has the counts, 18, 19,
 -- 20 and 13, the lowest empty slot, the two firms and the journal; this page has what the strip's own rules add, and the code. Assumes nothing.
-use Rattle.std.specs.Prelude.{ℕ, ◌≡◌, List, [], ◌∷◌, map, length, replicate, Some}
+use Rattle.std.specs.Prelude.{ℕ, ◌≡◌, List, [], ◌∷◌, map, length, replicate, Some, Ok, Err}
 use Rattle.sent.specs.Sent.{contents}
 use Rattle.kinds.specs.declared.MessageType.TheVariants.{Fpl}
-use Rattle.message.specs.declared.Answer.TheVariants.{Accepted as ReadAs}
 use Rattle.message.specs.Reading.{answer_of}
 use Rattle.history.specs.Demand3.{Standing, Offer, updater, offered_all, filed_as, Demand3}
 use Rattle.rooms.specs.declared.Firm.{Firm}
@@ -12,10 +11,10 @@ use Rattle.rooms.specs.Keeper.{is_of, kept, after_all, log_of, view}
 use Rattle.rooms.specs.Counts.{Life, life_at}
 use Rattle.racks.specs.Places.{Place, vacant, board_in}
 use Rattle.board.specs.House.{lent, house}
-use Rattle.board.specs.declared.Verdict.{Verdict}
-use Rattle.board.specs.declared.Verdict.TheVariants.{Refused}
+use Rattle.board.specs.Verdict.{Verdict}
 use Rattle.board.specs.Turns.{told, filing, updating}
 use Rattle.board.specs.Runs.{Plays}
+use Rattle.outer.specs.Refusal.{refusal}
 
 -- THE THIRD DEMAND holds for each strip from its filing to its clearing: what stands in a slot was filed there, an accepted FPL, and is what the
 -- messages offered to it since have made of it
@@ -28,7 +27,7 @@ pub record FromFiling (f : Firm) (k : ℕ) (cs : List (Call (List ℕ))) (s : St
   pub life : Life (List ℕ)
   pub is_life : life_at house f k (log_of house (empty house) cs) ≡ Some life
   pub long : ℕ
-  pub read : answer_of life.filing 1800 ≡ ReadAs Fpl long
+  pub read : answer_of life.filing 1800 ≡ Ok (Fpl, long)
   pub strip_is : s ≡ offered_all updater (filed_as life.filing) (map offer_of life.offers)
   pub demanded : Demand3 updater (contents life.filing) (filed_as life.filing) (map offer_of life.offers)
 
@@ -41,11 +40,11 @@ EachStrip = (cs : List (Call (List ℕ))) (f : Firm) (k : ℕ) (s : Standing) �
 
 abbrev pub FilingNever : Type 0
 FilingNever = (cs : List (Call (List ℕ))) (n : ℕ) (m : List ℕ) (field place : ℕ)
-    → told (said house (after_all house (empty house) cs) (filing n m)) ≡ Refused 11 field place → ⊥
+    → told (said house (after_all house (empty house) cs) (filing n m)) ≡ Err (refusal 11 field place) → ⊥
 
 pub record UpdateNever (cs : List (Call (List ℕ))) (n k : ℕ) (m : List ℕ) : Type 0 where
-  pub eleven : (field place : ℕ) → told (said house (after_all house (empty house) cs) (updating n k m)) ≡ Refused 11 field place → ⊥
-  pub fifteen : (field place : ℕ) → told (said house (after_all house (empty house) cs) (updating n k m)) ≡ Refused 15 field place → ⊥
+  pub eleven : (field place : ℕ) → told (said house (after_all house (empty house) cs) (updating n k m)) ≡ Err (refusal 11 field place) → ⊥
+  pub fifteen : (field place : ℕ) → told (said house (after_all house (empty house) cs) (updating n k m)) ≡ Err (refusal 15 field place) → ⊥
 
 abbrev pub UpdatingNever : Type 0
 UpdatingNever = (cs : List (Call (List ℕ))) (n k : ℕ) (m : List ℕ) → UpdateNever cs n k m

@@ -1,36 +1,29 @@
 -- The rules of a strip on the board (document 02, request 6): a filing is an accepted FPL, an update is the strip's own, and a strip that has
 -- arrived or was cancelled may be cleared. Assumes nothing.
-use Rattle.std.specs.Prelude.{ℕ, Bool, true, false, cond, List, take, replicate}
-use Rattle.message.specs.declared.Answer.{Answer}
-use Rattle.message.specs.declared.Answer.TheVariants.{Accepted as ReadAs, Refused as NotRead}
+use Rattle.std.specs.Prelude.{ℕ, Bool, true, false, cond, List, take, replicate, Ok, Err}
+use Rattle.outer.specs.declared.Refusal.{Refusal}
+use Rattle.outer.specs.Refusal.{refusal}
+use Rattle.message.specs.Answer.{Answer}
 use Rattle.message.specs.Reading.{is_plan, answer_of}
 use Rattle.state.specs.declared.State.{State}
 use Rattle.state.specs.declared.State.TheVariants.{Filed, Departed, Arrived, Cancelled}
-use Rattle.strip.specs.declared.Updated.{Updated}
-use Rattle.strip.specs.declared.Updated.TheVariants.{Accepted, Refused}
-use Rattle.strip.specs.Updating.{update_of, out_after}
+use Rattle.strip.specs.Updating.{Updated, update_of, out_after}
 use Rattle.history.specs.Demand3.{Standing, filed_as}
 use Rattle.rooms.specs.Rooms.{Outcome, House}
 use Rattle.rooms.specs.Rooms.Outcome.{takes, refuses}
 
--- why a message is not taken: number, field and place
-pub record Why : Type 0 where
-  pub number : ℕ
-  pub field : ℕ
-  pub place : ℕ
-
 -- FILING: 1 to 9, 14 for other types, 10
-abbrev pub filing_as : Answer → List ℕ → Outcome Standing Why
-filing_as (ReadAs t n) m = cond (is_plan t) (takes (filed_as m)) (refuses (record { number = 14; field = 0; place = 0 }))
-filing_as (NotRead number field place) m = refuses (record { number = number; field = field; place = place })
+abbrev pub filing_as : Answer → List ℕ → Outcome Standing Refusal
+filing_as (Ok (t, n)) m = cond (is_plan t) (takes (filed_as m)) (refuses (refusal 14 0 0))
+filing_as (Err r) m = refuses r
 
 -- UPDATING: what the update writes into room for 1,800 bytes
 abbrev pub lent : List ℕ
 lent = replicate 1800 0
 
-abbrev pub updating_as : Updated → List ℕ → Outcome Standing Why
-updating_as (Accepted held n) out = takes (record { strip = take n out; held = held })
-updating_as (Refused number field place) out = refuses (record { number = number; field = field; place = place })
+abbrev pub updating_as : Updated → List ℕ → Outcome Standing Refusal
+updating_as (Ok (held, n)) out = takes (record { strip = take n out; held = held })
+updating_as (Err r) out = refuses r
 
 -- CLEARING: arrived or cancelled
 abbrev pub over_in : State → Bool
@@ -44,7 +37,7 @@ house =
     record {
       Strip = Standing;
       Message = List ℕ;
-      Why = Why;
+      Why = Refusal;
       filing = λ m. filing_as (answer_of m 1800) m;
       updating = λ b m. updating_as (update_of b.strip b.held m 1800) (out_after b.strip b.held m lent);
       over = λ b. over_in b.held.state;

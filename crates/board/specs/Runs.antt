@@ -6,7 +6,7 @@ use Rattle.rooms.specs.Rooms.{Call, Board, empty}
 use Rattle.rooms.specs.Keeper.{Entry, after_all, log_of}
 use Rattle.racks.specs.Places.{Place, vacant, board_in, Sized}
 use Rattle.board.specs.House.{house}
-use Rattle.board.specs.declared.Verdict.{Verdict}
+use Rattle.board.specs.Verdict.{Verdict}
 use Rattle.board.specs.declared.Turn.{Turn}
 use Rattle.board.specs.Turns.{told, Turned}
 

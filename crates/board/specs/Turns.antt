@@ -1,16 +1,15 @@
 -- What each call does to the board as the code holds it: the verdict in document 02's numbers, every place and every byte. Assumes nothing.
-use Rattle.std.specs.Prelude.{ℕ, ◌+◌, ◌≡◌, Bool, List, [], length, set, Option, None, Some}
+use Rattle.std.specs.Prelude.{ℕ, ◌+◌, ◌≡◌, Bool, List, [], length, set, Option, None, Some, Ok, Err}
 use Rattle.rooms.specs.declared.Firm.{Firm}
 use Rattle.rooms.specs.Rooms.{firm_of, other, Act, Call, held_in, beyond, has_room, Said, reply, said}
 use Rattle.rooms.specs.Rooms.Act.{file, update, clear}
 use Rattle.rooms.specs.Rooms.Reply.{filed, updated, cleared, refused, no_firm, no_slot, no_room, not_over}
 use Rattle.racks.specs.Places.{Place, vacant, base, board_in, held_to, shown_to, place_of, written}
 use Rattle.board.specs.House.{house}
-use Rattle.board.specs.declared.Verdict.{Verdict}
-use Rattle.board.specs.declared.Verdict.TheVariants.{Filed, Updated, Cleared, Refused}
+use Rattle.board.specs.Verdict.{Verdict, Looked}
 use Rattle.board.specs.declared.Turn.{Turn}
-use Rattle.board.specs.declared.Looked.{Looked}
-use Rattle.board.specs.declared.Looked.TheVariants.{Stands, Refused as NotShown}
+use Rattle.outer.specs.Refusal.{refusal}
+use Rattle.board.specs.declared.Done.TheVariants.{Cleared, Filed, Updated}
 
 -- THE ROOM, from the places: the bytes play no part
 abbrev pub room_for : Firm → List Place → Bool
@@ -19,14 +18,14 @@ room_for f ps = has_room (held_in (board_in ps [] f)) (beyond (held_in (board_in
 -- THE VERDICT, in document 02's numbers
 
 abbrev pub told : Said house → Verdict
-told (filed k s) = Filed k
-told (updated k s) = Updated s.held (length s.strip)
-told (cleared k) = Cleared
-told (refused w) = Refused w.number w.field w.place
-told no_firm = Refused 18 0 0
-told no_slot = Refused 19 0 0
-told no_room = Refused 20 0 0
-told not_over = Refused 13 0 0
+told (filed k s) = Ok (Filed k)
+told (updated k s) = Ok (Updated s.held (length s.strip))
+told (cleared k) = Ok Cleared
+told (refused w) = Err w
+told no_firm = Err (refusal 18 0 0)
+told no_slot = Err (refusal 19 0 0)
+told no_room = Err (refusal 20 0 0)
+told not_over = Err (refusal 13 0 0)
 
 -- THE PLACES AND THE BYTES AFTERWARDS: a strip is written at the front of its place; a clearing leaves every byte, a refusal everything
 
@@ -98,14 +97,14 @@ Clearing firm slot ps t = (bytes : List ℕ) → Turned (clearing firm slot) ps 
 -- THE LOOK at a slot: 18, 19, or the record of what stands there; and the strip itself
 
 abbrev pub looked_as : Place → Looked
-looked_as None = NotShown 19 0 0
-looked_as (Some p) = Stands p.held
+looked_as None = Err (refusal 19 0 0)
+looked_as (Some p) = Ok p.held
 
 abbrev pub looked_at : Firm → ℕ → List Place → Looked
 looked_at f slot ps = looked_as (held_to f slot ps)
 
 abbrev pub looked_to : Option Firm → ℕ → List Place → Looked
-looked_to None slot ps = NotShown 18 0 0
+looked_to None slot ps = Err (refusal 18 0 0)
 looked_to (Some f) slot ps = looked_at f slot ps
 
 abbrev pub strip_to : Option Firm → ℕ → List Place → List ℕ → List ℕ

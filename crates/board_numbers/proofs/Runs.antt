@@ -6,16 +6,13 @@ use mathlib.Core.Bool.{Bool, true, false, cond}
 use mathlib.Core.List.{List, [], ◌∷◌}
 use native.Mathlib.Omega.{arith}
 use lib.ListN.{length, get_or, set, replicate, length-set, length-take}
-use Rattle.std.specs.Prelude.{Option, None, Some}
+use Rattle.std.specs.Prelude.{Option, None, Some, Ok, Err}
 use Rattle.kinds.specs.declared.MessageType.{MessageType}
-use Rattle.message.specs.declared.Answer.{Answer}
-use Rattle.message.specs.declared.Answer.TheVariants.{Accepted as ReadAs, Refused as NotRead}
+use Rattle.message.specs.Answer.{Answer}
 use Rattle.message.specs.Reading.{is_plan, spelling_of, answer_of}
 use Rattle.message.proofs.Reached.{accepted_taken}
 use Rattle.message.proofs.Plans.{plan_type}
-use Rattle.strip.specs.declared.Updated.{Updated as Update}
-use Rattle.strip.specs.declared.Updated.TheVariants.{Accepted, Refused as NotTaken}
-use Rattle.strip.specs.Updating.{update_of, out_after}
+use Rattle.strip.specs.Updating.{Updated as Update, update_of, out_after}
 use Rattle.history.specs.Demand3.{Standing, filed_as as filed_strip}
 use Rattle.history.proofs.Causes.{Took, Verdict, verdict, accepted_fits}
 use Rattle.history.proofs.Demand3.{took_proper}
@@ -51,8 +48,8 @@ Stored no_room = Unit
 Stored not_over = Unit
 
 filing_stored : (k : ℕ) (m : List ℕ) (a : Answer) → answer_of m 1800 ≡ a → Stored (filed_as house (filing_as a m) k)
-filing_stored k m (NotRead number field place) e = tt
-filing_stored k m (ReadAs t n) e = go (is_plan t) refl
+filing_stored k m (Err r) e = tt
+filing_stored k m (Ok (t, n)) e = go (is_plan t) refl
   where
     go : (b : Bool) → is_plan t ≡ b → Stored (filed_as house (cond b (takes (filed_strip m)) (refuses (record { number = 14; field = 0; place = 0 }))) k)
     go true p = (refl, subst (λ (u : MessageType). length (spelling_of u m) ≤ 1800) (plan_type t p) (accepted_taken t m 1800 n e).fits)
@@ -60,8 +57,8 @@ filing_stored k m (ReadAs t n) e = go (is_plan t) refl
 
 updating_stored : (k : ℕ) (s : Standing) (m : List ℕ) (u : Update) → update_of s.strip s.held m 1800 ≡ u
     → Stored (updated_as house (updating_as u (out_after s.strip s.held m lent)) k)
-updating_stored k s m (NotTaken number field place) e = tt
-updating_stored k s m (Accepted held n) e =
+updating_stored k s m (Err r) e = tt
+updating_stored k s m (Ok (held, n)) e =
     let t : Took s.strip s.held m 1800 held n = subst (Verdict s.strip s.held m 1800) e (verdict s.strip s.held m 1800) in (
       state_meant held.state (took_proper s.strip s.held m 1800 held n t).held_sound,
       omega (arith, accepted_fits s.strip s.held m 1800 held n e, length-take n (out_after s.strip s.held m lent)),

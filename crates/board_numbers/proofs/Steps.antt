@@ -17,9 +17,8 @@ use Rattle.rooms.specs.Rooms.{firm_of, Act, Call, said_to}
 use Rattle.racks.specs.declared.Board.{Board}
 use Rattle.racks.specs.Places.{Place, board_in}
 use Rattle.board.specs.House.{house}
-use Rattle.board.specs.declared.Verdict.{Verdict}
+use Rattle.board.specs.Verdict.{Verdict, Looked}
 use Rattle.board.specs.declared.Turn.{Turn}
-use Rattle.board.specs.declared.Looked.{Looked}
 use Rattle.board.specs.Turns.{told, placed_by, lent_by, Turned, looked_to, strip_to}
 use Rattle.board_numbers.specs.Numbers.{board_numbers, board_of, is_board, handed_as}
 use Rattle.board_numbers.specs.Calls.{verdict_number, verdict_numbers, not_board, verdict_of, Called}

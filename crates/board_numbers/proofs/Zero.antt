@@ -7,15 +7,12 @@ use native.Mathlib.Omega.{arith}
 use lib.Dec.{eqb}
 use lib.ListN.{get_or}
 use borrow.Author.Tests.{ne_eqb}
-use Rattle.std.specs.Prelude.{Option, None, Some}
-use Rattle.message.specs.declared.Answer.{Answer}
-use Rattle.message.specs.declared.Answer.TheVariants.{Accepted as ReadAs, Refused as NotRead}
+use Rattle.std.specs.Prelude.{Option, None, Some, Ok, Err}
+use Rattle.message.specs.Answer.{Answer}
 use Rattle.message.specs.Reading.{is_plan, answer_of}
 use Rattle.message.proofs.Answers.{refused-number}
 use Rattle.state.specs.declared.Strip.{Strip}
-use Rattle.strip.specs.declared.Updated.{Updated as Update}
-use Rattle.strip.specs.declared.Updated.TheVariants.{Accepted, Refused as NotTaken}
-use Rattle.strip.specs.Updating.{update_of, out_after}
+use Rattle.strip.specs.Updating.{Updated as Update, update_of, out_after}
 use Rattle.history.specs.Demand3.{Standing, filed_as as filed_strip, Cause}
 use Rattle.history.specs.Demand3.Cause.{not_proper, not_read, not_fit, no_type, another_flight, not_allowed, unexplained, too_long, no_room_lem}
 use Rattle.history.proofs.Causes.{refused_cause}
@@ -26,14 +23,13 @@ use Rattle.rooms.specs.Rooms.Act.{file, update, clear}
 use Rattle.rooms.specs.Rooms.Reply.{cleared, no_room, not_over}
 use Rattle.racks.specs.Places.{Place, board_in, held_to}
 use Rattle.board.specs.House.{filing_as, updating_as, lent, over_in, house}
-use Rattle.board.specs.declared.Verdict.{Verdict}
-use Rattle.board.specs.declared.Verdict.TheVariants.{Filed, Updated, Cleared, Refused}
-use Rattle.board.specs.declared.Looked.{Looked}
-use Rattle.board.specs.declared.Looked.TheVariants.{Stands, Refused as NotShown}
+use Rattle.board.specs.Verdict.{Verdict, Looked}
 use Rattle.board.specs.Turns.{told, looked_as, looked_to}
 use Rattle.board_numbers.specs.Numbers.{board_of, is_board}
 use Rattle.board_numbers.specs.Calls.{verdict_number, not_board, said_on, verdict_of, look_number, not_board_look, look_of}
 use Rattle.board_numbers.specs.Runs.{was_done, was_shown}
+use Rattle.outer.specs.Refusal.{refusal}
+use Rattle.board.specs.declared.Done.TheVariants.{Cleared, Filed, Updated}
 
 -- AN UPDATE
 
@@ -49,21 +45,21 @@ caused strip s m room number field place (too_long k u l) = omega arith
 caused strip s m room number field place (no_room_lem k u l h) = omega arith
 
 pub refused_numbered : (strip : List ℕ) (held : Strip) (m : List ℕ) (room number field place : ℕ)
-    → update_of strip held m room ≡ NotTaken number field place → 1 ≤ number
+    → update_of strip held m room ≡ Err (refusal number field place) → 1 ≤ number
 refused_numbered strip held m room number field place e =
     caused strip held m room number field place (refused_cause strip held m room number field place e)
 
 -- A CALL
 
 abbrev Numbered : Verdict → Type 0
-Numbered (Filed k) = Unit
-Numbered (Updated held n) = Unit
-Numbered Cleared = Unit
-Numbered (Refused number field place) = 1 ≤ number
+Numbered (Ok (Filed k)) = Unit
+Numbered (Ok (Updated held n)) = Unit
+Numbered (Ok Cleared) = Unit
+Numbered (Err r) = 1 ≤ r.number
 
 filing_numbered : (k : ℕ) (m : List ℕ) (a : Answer) → answer_of m 1800 ≡ a → Numbered (told (filed_as house (filing_as a m) k))
-filing_numbered k m (NotRead number field place) e = (refused-number m 1800 number field place e).0
-filing_numbered k m (ReadAs t n) e = go (is_plan t)
+filing_numbered k m (Err r) e = (refused-number m 1800 r.number r.field r.place e).0
+filing_numbered k m (Ok (t, n)) e = go (is_plan t)
   where
     go : (b : Bool) → Numbered (told (filed_as house (cond b (takes (filed_strip m)) (refuses (record { number = 14; field = 0; place = 0 }))) k))
     go true = tt
@@ -71,8 +67,8 @@ filing_numbered k m (ReadAs t n) e = go (is_plan t)
 
 updating_numbered : (k : ℕ) (s : Standing) (m : List ℕ) (u : Update) → update_of s.strip s.held m 1800 ≡ u
     → Numbered (told (updated_as house (updating_as u (out_after s.strip s.held m lent)) k))
-updating_numbered k s m (NotTaken number field place) e = refused_numbered s.strip s.held m 1800 number field place e
-updating_numbered k s m (Accepted held n) e = tt
+updating_numbered k s m (Err r) e = refused_numbered s.strip s.held m 1800 r.number r.field r.place e
+updating_numbered k s m (Ok (held, n)) e = tt
 
 module _ (r : Rack house) (theirs : ℕ) where
   file_numbered : (m : List ℕ) (b : Bool) → Numbered (told (cond b (filed_as house (house.filing m) (lowest r)) no_room))
@@ -113,16 +109,16 @@ pub call_zero : (c : Call (List ℕ)) (ns bytes : List ℕ) → eqb (verdict_num
 call_zero c ns bytes = go (verdict_of c ns bytes) (call_numbered c ns bytes (is_board ns))
   where
     go : (v : Verdict) → Numbered v → eqb (verdict_number v) 0 ≡ was_done v
-    go (Filed k) h = refl
-    go (Updated held n) h = refl
-    go Cleared h = refl
-    go (Refused number field place) h = ne_eqb number 0 (λ z. absurd (omega (arith, h, z)))
+    go (Ok (Filed k)) h = refl
+    go (Ok (Updated held n)) h = refl
+    go (Ok Cleared) h = refl
+    go (Err r) h = ne_eqb r.number 0 (λ z. absurd (omega (arith, h, z)))
 
 -- A LOOK
 
 abbrev Told : Looked → Type 0
-Told (Stands held) = Unit
-Told (NotShown number field place) = 1 ≤ number
+Told (Ok held) = Unit
+Told (Err r) = 1 ≤ r.number
 
 held_told : (h : Place) → Told (looked_as h)
 held_told None = omega arith
@@ -144,5 +140,5 @@ pub look_zero : (firm slot : ℕ) (ns : List ℕ) → eqb (look_number (look_of 
 look_zero firm slot ns = go (look_of firm slot ns) (look_told (firm_of firm) slot ns (is_board ns))
   where
     go : (l : Looked) → Told l → eqb (look_number l) 0 ≡ was_shown l
-    go (Stands held) h = refl
-    go (NotShown number field place) h = ne_eqb number 0 (λ z. absurd (omega (arith, h, z)))
+    go (Ok held) h = refl
+    go (Err r) h = ne_eqb r.number 0 (λ z. absurd (omega (arith, h, z)))

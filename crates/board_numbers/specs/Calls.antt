@@ -1,5 +1,5 @@
 -- Calls on a board that is handed in as numbers, with its strips: what each is answered, and every number and byte afterwards. Assumes nothing.
-use Rattle.std.specs.Prelude.{ℕ, ◌+◌, ◌*◌, ◌≡◌, refl, cond, List, [], ◌∷◌, ◌++◌, leb, length, Option, None, Some}
+use Rattle.std.specs.Prelude.{ℕ, ◌+◌, ◌*◌, ◌≡◌, refl, cond, List, [], ◌∷◌, ◌++◌, leb, length, Option, None, Some, Ok, Err}
 use Rattle.state.specs.State.{just_filed}
 use Rattle.handed.specs.States.{state_numbers}
 use Rattle.rooms.specs.declared.Firm.{Firm}
@@ -7,33 +7,32 @@ use Rattle.rooms.specs.declared.Firm.TheVariants.{First, Second}
 use Rattle.rooms.specs.Rooms.{firm_of, Call, Said, said}
 use Rattle.racks.specs.Places.{base, board_in}
 use Rattle.board.specs.House.{house}
-use Rattle.board.specs.declared.Verdict.{Verdict}
-use Rattle.board.specs.declared.Verdict.TheVariants.{Filed, Updated, Cleared, Refused}
-use Rattle.board.specs.declared.Looked.{Looked}
-use Rattle.board.specs.declared.Looked.TheVariants.{Stands, Refused as NotShown}
+use Rattle.board.specs.Verdict.{Verdict, Looked}
 use Rattle.board.specs.Turns.{told, placed_by, lent_by, clearing, looked_to, strip_to}
 use Rattle.board_numbers.specs.Numbers.{board_numbers, board_of, is_board}
+use Rattle.outer.specs.Refusal.{refusal}
+use Rattle.board.specs.declared.Done.TheVariants.{Cleared, Filed, Updated}
 
 -- AN ANSWER AS NUMBERS: number, field, place, slot. What is accepted has the number 0; the slot is the one that a filing got
 
 abbrev pub verdict_number : Verdict → ℕ
-verdict_number (Filed k) = 0
-verdict_number (Updated held n) = 0
-verdict_number Cleared = 0
-verdict_number (Refused number field place) = number
+verdict_number (Ok (Filed k)) = 0
+verdict_number (Ok (Updated held n)) = 0
+verdict_number (Ok Cleared) = 0
+verdict_number (Err r) = r.number
 
 abbrev pub verdict_numbers : Verdict → List ℕ
-verdict_numbers (Filed k) = 0 ∷ 0 ∷ 0 ∷ k ∷ []
-verdict_numbers (Updated held n) = 0 ∷ 0 ∷ 0 ∷ 0 ∷ []
-verdict_numbers Cleared = 0 ∷ 0 ∷ 0 ∷ 0 ∷ []
-verdict_numbers (Refused number field place) = number ∷ field ∷ place ∷ 0 ∷ []
+verdict_numbers (Ok (Filed k)) = 0 ∷ 0 ∷ 0 ∷ k ∷ []
+verdict_numbers (Ok (Updated held n)) = 0 ∷ 0 ∷ 0 ∷ 0 ∷ []
+verdict_numbers (Ok Cleared) = 0 ∷ 0 ∷ 0 ∷ 0 ∷ []
+verdict_numbers (Err r) = r.number ∷ r.field ∷ r.place ∷ 0 ∷ []
 
 -- A CALL. 18 comes first, as document 02 has it; then 15, where the numbers are no board's, for without a board there is neither a slot nor room; and then
 -- what the board answers. No board: nothing is changed
 
 abbrev pub not_board : Option Firm → Verdict
-not_board None = Refused 18 0 0
-not_board (Some f) = Refused 15 0 0
+not_board None = Err (refusal 18 0 0)
+not_board (Some f) = Err (refusal 15 0 0)
 
 abbrev pub said_on : Call (List ℕ) → List ℕ → List ℕ → Said house
 said_on c ns bytes = said house (board_in (board_of ns) bytes) c
@@ -61,16 +60,16 @@ Clears firm slot ns r answer after = (bytes : List ℕ) → Called (clearing fir
 -- THE LOOK at a slot: number, field, place, the eight numbers of the state, the strip's first byte in the strips, and its length
 
 abbrev pub look_number : Looked → ℕ
-look_number (Stands held) = 0
-look_number (NotShown number field place) = number
+look_number (Ok held) = 0
+look_number (Err r) = r.number
 
 abbrev pub look_numbers : Looked → ℕ → ℕ → List ℕ
-look_numbers (Stands held) from long = 0 ∷ (0 ∷ (0 ∷ (state_numbers held.state ++ (from ∷ long ∷ []))))
-look_numbers (NotShown number field place) from long = number ∷ field ∷ place ∷ 0 ∷ 0 ∷ 0 ∷ 0 ∷ 0 ∷ 0 ∷ 0 ∷ 0 ∷ 0 ∷ 0 ∷ []
+look_numbers (Ok held) from long = 0 ∷ (0 ∷ (0 ∷ (state_numbers held.state ++ (from ∷ long ∷ []))))
+look_numbers (Err r) from long = r.number ∷ r.field ∷ r.place ∷ 0 ∷ 0 ∷ 0 ∷ 0 ∷ 0 ∷ 0 ∷ 0 ∷ 0 ∷ 0 ∷ 0 ∷ []
 
 abbrev pub not_board_look : Option Firm → Looked
-not_board_look None = NotShown 18 0 0
-not_board_look (Some f) = NotShown 15 0 0
+not_board_look None = Err (refusal 18 0 0)
+not_board_look (Some f) = Err (refusal 15 0 0)
 
 abbrev pub look_of : ℕ → ℕ → List ℕ → Looked
 look_of firm slot ns = cond (is_board ns) (looked_to (firm_of firm) slot (board_of ns)) (not_board_look (firm_of firm))
@@ -86,10 +85,10 @@ pub record Looks (firm slot : ℕ) (ns bytes : List ℕ) (r : ℕ) (answer : Lis
       ≡ look_numbers (look_of firm slot ns) (start_of (firm_of firm) slot) (length (strip_to (firm_of firm) slot (board_of ns) bytes))
 
 -- EXAMPLES, computed: a filing that got slot 3, a refusal; the second firm's slot 1, and its filed strip of 75 bytes
-told_so : (verdict_numbers (Filed 3) ≡ 0 ∷ 0 ∷ 0 ∷ 3 ∷ []) × (verdict_numbers (Refused 7 13 16) ≡ 7 ∷ 13 ∷ 16 ∷ 0 ∷ [])
+told_so : (verdict_numbers (Ok (Filed 3)) ≡ 0 ∷ 0 ∷ 0 ∷ 3 ∷ []) × (verdict_numbers (Err (refusal 7 13 16)) ≡ 7 ∷ 13 ∷ 16 ∷ 0 ∷ [])
 told_so = (refl, refl)
 
 shown_so : (start_of (Some Second) 1 ≡ 19800) × (start_of (Some First) 0 ≡ 0) × (start_of (Some First) 10 ≡ 0)
-    × (look_numbers (Stands just_filed) 19800 75 ≡ 0 ∷ 0 ∷ 0 ∷ 0 ∷ 0 ∷ 0 ∷ 0 ∷ 0 ∷ 0 ∷ 0 ∷ 0 ∷ 19800 ∷ 75 ∷ [])
-    × (look_numbers (NotShown 19 0 0) 19800 75 ≡ 19 ∷ 0 ∷ 0 ∷ 0 ∷ 0 ∷ 0 ∷ 0 ∷ 0 ∷ 0 ∷ 0 ∷ 0 ∷ 0 ∷ 0 ∷ [])
+    × (look_numbers (Ok just_filed) 19800 75 ≡ 0 ∷ 0 ∷ 0 ∷ 0 ∷ 0 ∷ 0 ∷ 0 ∷ 0 ∷ 0 ∷ 0 ∷ 0 ∷ 19800 ∷ 75 ∷ [])
+    × (look_numbers (Err (refusal 19 0 0)) 19800 75 ≡ 19 ∷ 0 ∷ 0 ∷ 0 ∷ 0 ∷ 0 ∷ 0 ∷ 0 ∷ 0 ∷ 0 ∷ 0 ∷ 0 ∷ 0 ∷ [])
 shown_so = (refl, refl, refl, refl, refl)

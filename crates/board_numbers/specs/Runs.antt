@@ -1,15 +1,13 @@
 -- What numbers can hold of a board, what is accepted, and runs of calls on numbers (proofs/Laws.antt, Zero.antt, Runs.antt). Assumes nothing.
-use Rattle.std.specs.Prelude.{ℕ, ◌≤◌, ◌≡◌, Bool, true, false, None, Some, List, [], ◌∷◌, map}
+use Rattle.std.specs.Prelude.{ℕ, ◌≤◌, ◌≡◌, Bool, true, false, None, Some, List, [], ◌∷◌, map, Ok, Err}
 use Rattle.handed.specs.States.{state_numbers, state_of}
 use Rattle.rooms.specs.Rooms.{Call}
 use Rattle.racks.specs.Places.{Place, held_at}
-use Rattle.board.specs.declared.Verdict.{Verdict}
-use Rattle.board.specs.declared.Verdict.TheVariants.{Filed, Updated, Cleared, Refused}
-use Rattle.board.specs.declared.Looked.{Looked}
-use Rattle.board.specs.declared.Looked.TheVariants.{Stands, Refused as NotShown}
+use Rattle.board.specs.Verdict.{Verdict, Looked}
 use Rattle.board.specs.Runs.{Plays}
 use Rattle.board_numbers.specs.Numbers.{board_of, is_board}
 use Rattle.board_numbers.specs.Calls.{verdict_numbers, Called}
+use Rattle.board.specs.declared.Done.TheVariants.{Cleared, Filed, Updated}
 
 -- a state that is found again from its numbers, as every sound one is, and a length that a place has room for
 abbrev pub Storable : Place → Type 0
@@ -21,14 +19,14 @@ AllStorable ps = (i : ℕ) → Storable (held_at ps i)
 
 -- whether a call was accepted, and whether a look shows a strip
 abbrev pub was_done : Verdict → Bool
-was_done (Filed k) = true
-was_done (Updated held n) = true
-was_done Cleared = true
-was_done (Refused number field place) = false
+was_done (Ok (Filed k)) = true
+was_done (Ok (Updated held n)) = true
+was_done (Ok Cleared) = true
+was_done (Err r) = false
 
 abbrev pub was_shown : Looked → Bool
-was_shown (Stands held) = true
-was_shown (NotShown number field place) = false
+was_shown (Ok held) = true
+was_shown (Err r) = false
 
 -- A RUN of calls on numbers, each with a result that its contract allows, and each handed the numbers and the bytes that the one before left
 pub data Runs : List ℕ → List ℕ → List (Call (List ℕ)) → List (List ℕ) → List ℕ → List ℕ → Type 0 where

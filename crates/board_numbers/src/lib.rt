@@ -10,7 +10,8 @@ ghost use Rattle.board_numbers.specs.Numbers.{held_numbers, board_numbers, held_
 ghost use Rattle.board_numbers.specs.Calls.{verdict_number, verdict_numbers, not_board, Called, Clears};
 ghost use Rattle.board_numbers.specs.Calls.{look_number, look_numbers, not_board_look, start_of, Looks};
 
-use board::{Looked, Verdict};
+use board::{Done, Looked, Verdict};
+use outer::Refusal;
 use racks::{Board, Flight};
 use rooms::Firm;
 use state::Strip;
@@ -120,16 +121,8 @@ fn not_board(firm: u8) -> Verdict
     ensures { result ≡ not_board (firm_of firm) }
 {
     match Firm::from_number(firm) {
-        None => Verdict::Refused {
-            number: 18,
-            field: 0,
-            place: 0,
-        },
-        Some(_) => Verdict::Refused {
-            number: 15,
-            field: 0,
-            place: 0,
-        },
+        None => Err(Refusal::of(18)),
+        Some(_) => Err(Refusal::of(15)),
     }
 }
 
@@ -138,21 +131,22 @@ fn tell(v: Verdict, answer: &mut [u64; 4]) -> u8
     ensures { (result ≡ verdict_number v) × (answer.new ≡ verdict_numbers v) }
 {
     match v {
-        Verdict::Filed(k) => {
+        Ok(Done::Filed(k)) => {
             *answer = [0, 0, 0, k as u64];
             0
         }
-        Verdict::Updated(_, _) | Verdict::Cleared => {
+        Ok(Done::Updated(_, _) | Done::Cleared) => {
             *answer = [0; 4];
             0
         }
-        Verdict::Refused {
-            number,
-            field,
-            place,
-        } => {
-            *answer = [number as u64, field as u64, place as u64, 0];
-            number
+        Err(refusal) => {
+            *answer = [
+                refusal.number as u64,
+                refusal.field as u64,
+                refusal.place as u64,
+                0,
+            ];
+            refusal.number
         }
     }
 }
@@ -216,16 +210,8 @@ fn not_board_look(firm: u8) -> Looked
     ensures { result ≡ not_board_look (firm_of firm) }
 {
     match Firm::from_number(firm) {
-        None => Looked::Refused {
-            number: 18,
-            field: 0,
-            place: 0,
-        },
-        Some(_) => Looked::Refused {
-            number: 15,
-            field: 0,
-            place: 0,
-        },
+        None => Err(Refusal::of(18)),
+        Some(_) => Err(Refusal::of(15)),
     }
 }
 
@@ -252,7 +238,7 @@ fn tell_look(l: Looked, from: usize, long: usize, answer: &mut [u64; 13]) -> u8
     ensures { (result ≡ look_number l) × (answer.new ≡ look_numbers l from long) }
 {
     match l {
-        Looked::Stands(strip) => {
+        Ok(strip) => {
             let e = handed::state_numbers(strip.state);
             *answer = [
                 0,
@@ -271,15 +257,11 @@ fn tell_look(l: Looked, from: usize, long: usize, answer: &mut [u64; 13]) -> u8
             ];
             0
         }
-        Looked::Refused {
-            number,
-            field,
-            place,
-        } => {
+        Err(refusal) => {
             *answer = [
-                number as u64,
-                field as u64,
-                place as u64,
+                refusal.number as u64,
+                refusal.field as u64,
+                refusal.place as u64,
                 0,
                 0,
                 0,
@@ -291,7 +273,7 @@ fn tell_look(l: Looked, from: usize, long: usize, answer: &mut [u64; 13]) -> u8
                 0,
                 0,
             ];
-            number
+            refusal.number
         }
     }
 }

@@ -11,6 +11,7 @@ use Rattle.sent.specs.Sent.{message_of, contents}
 use Rattle.kinds.specs.declared.MessageType.{MessageType}
 use Rattle.kinds.specs.declared.MessageType.TheVariants.{Fpl, Chg}
 use Rattle.kinds.specs.Kinds.{role_of, first_entry}
+use Rattle.outer.proofs.Same.{ok_same}
 use Rattle.message.specs.Reading.{count_of}
 use Rattle.message.specs.Message.{none_twice}
 use Rattle.message.proofs.Reached.{Reached, accepted_taken}
@@ -45,7 +46,7 @@ module _ (b : Standing) (o : Offer) (es : List Word) (c : Accepts updater b o es
   stripped = proper_stripped b.strip b.held proper
 
   type_is : took.passes.type ≡ Chg
-  type_is = let e : Ok (took.passes.type, took.passes.long) ≡ Ok (Chg, c.long) = sym took.passes.read ∙ c.read in cc
+  type_is = (ok_same took.passes.type Chg took.passes.long c.long (sym took.passes.read ∙ c.read)).0
 
   -- a CHG does not move the state
   held_is : c.held ≡ b.held

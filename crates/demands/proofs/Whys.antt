@@ -402,7 +402,7 @@ module _ (strip : List ℕ) (held : Strip) (m : List ℕ) where
           silent room number field place u l =
               let s : shows_nothing (Err (refusal number field place)) ≡ true
               = subst (λ (c : Shown). Agree held c (Err (refusal number field place))) e (subst (Agree held (cause_of strip held m)) u
-                  (agrees strip held m room)) in
+              (agrees strip held m room)) in
               false≢true (sym (ap (λ (b : Bool). cond b false true) l) ∙ s)
 
           none : (room number field place : ℕ) → Cause strip held m room number field place → one_of number (10 ∷ 12 ∷ 13 ∷ []) ≡ true → ⊥

@@ -140,7 +140,7 @@ of_strips =
     "(FPL-ABC12-IN-B39M/M-SDFG/S-EHAM0930-N0440F310 DCT PAM DCT-EDDF0100 EDDK-0)"
     ∷ (asked "(FPL-ABC12-IS-B738/M-SDFG/S-EHAM0930-N0440F310 DCT PAM DCT-EDDF0100 EDDK-0)" "(CHG-ABC12-EHAM0930-EDDF-0-9/B39M/M-8/IN)" 9 (Ok (InChange 29 35))
     ∷ (asked "(FPL-ABC12-IS-B738/M-SDFG/S-EHAM0930-N0440F310 DCT PAM DCT-EDDF0100 EDDK-0)" "(CHG-ABC12-EHAM0930-EDDF-0-9/B39M/M-8/IN)" 10 (Ok
-        (InStrip 21 27)) ∷ []))
+    (InStrip 21 27)) ∷ []))
 
 -- dates (document 02, request 5): a DLA's goes into the strip, in the key order; a CHG's must be the strip's, where both carry one
 abbrev pub OfDates : List Example

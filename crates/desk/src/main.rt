@@ -64,7 +64,12 @@ fn cause(desk: Option<Flight>, piece: &[u8], strip: &[u8]) -> Cause
 }
 
 // Takes a piece: prints its line and hands back what the desk then holds.
-fn take<R: Print>(console: &Console<'_, R>, desk: Option<Flight>, piece: &[u8], strip: &mut [u8]) -> Option<Flight>
+fn take<R: Print>(
+    console: &Console<'_, R>,
+    desk: Option<Flight>,
+    piece: &[u8],
+    strip: &mut [u8],
+) -> Option<Flight>
     requires { (length strip.old ≡ most) × InRoom desk }
     ensures { (standing_in result strip.new ≡ standing_after (standing_in desk strip.old) piece.now) × InRoom result }
 {
@@ -75,13 +80,7 @@ fn take<R: Print>(console: &Console<'_, R>, desk: Option<Flight>, piece: &[u8], 
         }
         Err(refusal) => {
             let why = cause(desk, piece, strip);
-            say_cause::refusal(
-                console,
-                refusal.number,
-                refusal.field,
-                refusal.place,
-                why,
-            );
+            say_cause::refusal(console, refusal.number, refusal.field, refusal.place, why);
             desk
         }
     }

@@ -7,8 +7,7 @@ use mathlib.Core.List.{List, [], ◌∷◌, ◌++◌}
 use native.Mathlib.Omega.{arith}
 use lib.ListN.{length, take, drop, replicate}
 use lib.Seq.{length-take-le}
-use Rattle.rooms.specs.Rooms.{Board, empty}
-use Rattle.rooms.specs.Rooms.{Call as OnBoard}
+use Rattle.rooms.specs.Rooms.{Board, empty, Call as OnBoard}
 use Rattle.racks.specs.declared.Board.{Board as Rack}
 use Rattle.racks.specs.Places.{Place, vacant, board_in, Sized}
 use Rattle.board.specs.House.{house}

@@ -1,13 +1,11 @@
 -- The walk of the program `handlers` over its input and over its journal: how bytes become lines, and the board after each. Where there is a journal, an
 -- accepted call that cannot be kept leaves the board as it was. Assumes nothing.
-use Rattle.std.specs.Prelude.{ℕ, ◌≡◌, refl, Bool, true, false, ◌&&◌, cond, List, [], ◌∷◌, ◌++◌, Option, Some, None, length, drop}
+use Rattle.std.specs.Prelude.{ℕ, ◌≡◌, refl, Bool, true, false, ◌&&◌, cond, List, [], ◌∷◌, ◌++◌, Option, Some, None, length, drop, is_ok}
 use Rattle.alphabet.specs.Text.{bytes}
-use Rattle.rooms.specs.Rooms.{Board, empty, said, after}
-use Rattle.rooms.specs.Rooms.{Call as OnBoard}
+use Rattle.rooms.specs.Rooms.{Board, empty, said, after, Call as OnBoard}
 use Rattle.racks.specs.Places.{Place, board_in, Sized}
 use Rattle.board.specs.House.{house}
-use Rattle.board.specs.declared.Verdict.{Verdict}
-use Rattle.board.specs.declared.Verdict.TheVariants.{Filed, Updated, Cleared, Refused}
+use Rattle.board.specs.Verdict.{Verdict}
 use Rattle.board.specs.Turns.{told, filing, updating, clearing}
 use Rattle.calls.specs.declared.Call.{Call}
 use Rattle.calls.specs.declared.Call.TheVariants.{File, Update, Clear}
@@ -26,10 +24,7 @@ call_of (Update firm slot from) line = updating firm slot (drop from line)
 call_of (Clear firm slot) line = clearing firm slot
 
 abbrev pub accepted_as : Verdict → Bool
-accepted_as (Filed k) = true
-accepted_as (Updated held n) = true
-accepted_as Cleared = true
-accepted_as (Refused number field place) = false
+accepted_as v = is_ok v
 
 -- THE BOARD AFTER A LINE: what is no call on the board leaves it
 

@@ -33,8 +33,12 @@ ranked_read (x ∷ ts) (suc i) d h = ranked_read ts i d (omega arith)
 
 pub ranked_found : (ts : List MessageType) (i : ℕ) (o : Option (Bor MessageType)) → is_some o ≡ ltb i (length ts)
     → IfSome o (λ x. x.now ≡ get_or ts i x.now) → ok_or (option_copied o) NotRead ≡ get_or (map Ok ts) i (Err NotRead)
-ranked_found ts i None s h = sym (get_or-eq_default (map Ok ts) (Err NotRead) {n = i} (omega (arith, length-map {B = Named} ts Ok, ltb-false i (length ts)
-    (sym s))))
+ranked_found ts i None s h = sym (get_or-eq_default (map Ok ts) (Err NotRead) {n = i} (omega (
+  arith,
+  length-map {B = Named} ts Ok,
+  ltb-false i (length ts)
+      (sym s),
+)))
 ranked_found ts i (Some x) s h = ap Ok h ∙ ranked_read ts i x.now (ltb-true i (length ts) (sym s))
 
 -- A TYPE THAT IS READ is named by its own three letters

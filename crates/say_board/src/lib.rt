@@ -1,7 +1,7 @@
 // What the program `handlers` prints of the board: the answer to a call, a strip, the list of a firm's strips.
 #![tactic(auto)]
 
-use board::{Looked, Verdict};
+use board::{Done, Verdict};
 use calls::Call;
 use racks::Board;
 use rooms::Firm;
@@ -39,7 +39,7 @@ fn tell_updated<R: Print>(
 
 // The state of the strip in a slot, behind a space.
 fn show_found<R: Print>(console: &Console<'_, R>, board: Board, firm: u8, slot: usize) {
-    if let Looked::Stands(held) = board::look(board, firm, slot) {
+    if let Ok(held) = board::look(board, firm, slot) {
         say::print(console, b" ");
         say::state(console, held.state);
     }
@@ -54,7 +54,7 @@ fn show_why<R: Print>(
     msg: &[u8],
     bytes: &[u8; 36000],
 ) {
-    if let Looked::Stands(held) = board::look(board, firm, slot) {
+    if let Ok(held) = board::look(board, firm, slot) {
         let strip = board::strip_of(board, firm, slot, bytes);
         say_cause::names(console, causes::cause_of(strip, held, msg));
     }
@@ -94,15 +94,11 @@ pub fn tell<R: Print>(
     bytes: &[u8; 36000],
 ) {
     match v {
-        Verdict::Filed(slot) => tell_filed(console, board, call, slot, bytes),
-        Verdict::Updated(held, _) => tell_updated(console, board, call, held, bytes),
-        Verdict::Cleared => say::print(console, b"OK CLEARED\n"),
-        Verdict::Refused {
-            number,
-            field,
-            place,
-        } => {
-            say::refused(console, number, field, place);
+        Ok(Done::Filed(slot)) => tell_filed(console, board, call, slot, bytes),
+        Ok(Done::Updated(held, _)) => tell_updated(console, board, call, held, bytes),
+        Ok(Done::Cleared) => say::print(console, b"OK CLEARED\n"),
+        Err(refusal) => {
+            say::refused(console, refusal.number, refusal.field, refusal.place);
             show_cause(console, board, call, line, bytes);
             say::print(console, b"\n");
         }
@@ -118,16 +114,8 @@ pub fn show_strip<R: Print>(
     bytes: &[u8; 36000],
 ) {
     match board::look(board, firm, slot) {
-        Looked::Stands(held) => say::strip(
-            console,
-            held,
-            board::strip_of(board, firm, slot, bytes),
-        ),
-        Looked::Refused {
-            number,
-            field,
-            place,
-        } => say::refusal(console, number, field, place),
+        Ok(held) => say::strip(console, held, board::strip_of(board, firm, slot, bytes)),
+        Err(refusal) => say::refusal(console, refusal.number, refusal.field, refusal.place),
     }
 }
 
@@ -139,7 +127,7 @@ fn show_entry<R: Print>(
     slot: usize,
     bytes: &[u8; 36000],
 ) {
-    if let Looked::Stands(held) = board::look(board, firm, slot) {
+    if let Ok(held) = board::look(board, firm, slot) {
         say::print(console, b" ");
         say::decimal(console, slot as u64);
         say::print(console, b" ");

@@ -117,11 +117,7 @@ fn arrived(w: &[u8]) -> Option<State>
     if !shape::fits(b"/0000", &w[10..]) {
         return None;
     }
-    Some(State::Arrived(
-        departure(w),
-        Aerodrome::of(&w[6..]),
-        minute_at(w, 11),
-    ))
+    Some(State::Arrived(departure(w), Aerodrome::of(&w[6..]), minute_at(w, 11)))
 }
 
 fn state_of(w: &[u8]) -> Option<State> {
@@ -330,7 +326,12 @@ fn offer<R: Print>(
         }
     };
     let mut out = [BEFORE; 1800];
-    match strip::update(strip_held(plan, run.length), run.held, msg, &mut out[0..room]) {
+    match strip::update(
+        strip_held(plan, run.length),
+        run.held,
+        msg,
+        &mut out[0..room],
+    ) {
         Ok((next, n)) => {
             let new = spelling(&out, n);
             say::strip(console, next, new);

@@ -1,7 +1,8 @@
 -- `board::clear` meets its contract. Assumes nothing.
-use mathlib.Core.Path.{sym, ◌∙◌}
+use mathlib.Core.Path.{sym, ap, ◌∙◌}
+use Rattle.outer.specs.declared.Refusal.{Refusal}
 use Rattle.rooms.specs.Rooms.Act.{clear}
-use Rattle.board.proofs.Turns.{by_firm, by_nobody}
+use Rattle.board.proofs.Turns.{refused_turn, by_firm, by_nobody}
 use Rattle.board.proofs.clear.Goals as goal
 
 pub returns-in-None : goal.returns-in-None
@@ -9,7 +10,7 @@ returns-in-None c =
     let a = c.args in
     λ bytes.
     by_nobody (clear a.slot) a.board bytes _ a.firm
-    (sym c.from_number.ensures ∙ c.in-None.is) c.refused.ensures
+    (sym c.from_number.ensures ∙ c.in-None.is) (c.refused.ensures ∙ ap (λ (r : Refusal). refused_turn a.board r) c.of.ensures)
 
 pub returns-in-Some : goal.returns-in-Some
 returns-in-Some c =

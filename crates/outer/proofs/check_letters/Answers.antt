@@ -12,7 +12,7 @@ pub returns-then-n-msg : goal.returns-then-n-msg
 returns-then-n-msg c =
     let k = c.known_bytes-n.ensures in
     sym (letters_known c.args.msg.now 0 c.known_bytes-n.result k.0 c.if-n-msg.true ∙ ap (λ (p : ℕ). Err (refusal 3 0 p)) (zero-add _)
-        ∙ sym (ap Err c.at.ensures))
+    ∙ sym (ap Err c.at.ensures))
 
 pub returns : goal.returns
 returns c =
