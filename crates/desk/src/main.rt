@@ -94,7 +94,12 @@ fn cause(desk: Option<Flight>, piece: &[u8], strip: &[u8]) -> Cause
 }
 
 // Takes a piece: prints its line and hands back what the desk then holds.
-fn take<R: Print>(console: &Console<'_, R>, desk: Option<Flight>, piece: &[u8], strip: &mut [u8]) -> Option<Flight>
+fn take<R: Print>(
+    console: &Console<'_, R>,
+    desk: Option<Flight>,
+    piece: &[u8],
+    strip: &mut [u8],
+) -> Option<Flight>
     requires { (length strip.old ≡ most) × InRoom desk }
     ensures { (standing_in result strip.new ≡ standing_after (standing_in desk strip.old) piece.now) × InRoom result }
 {
@@ -121,6 +126,7 @@ fn run<R: Print>(console: &Console<'_, R>, s: &[u8], strip: &mut [u8]) -> Option
 {
     let mut desk = None;
     let mut at = pieces::skip_white(s, 0);
+    // A loop: where a piece ends is for `pieces::piece_end` to say, and no method of slices cuts so.
     while at < s.len() {
         let e = pieces::piece_end(s, at);
         desk = take(console, desk, &s[at..e], strip);
