@@ -79,7 +79,8 @@ cause_one (Forbidden s) (Forbidden t) q = ap Forbidden (state_one s t (ap (drop 
 abbrev pub shown_number : ℕ → ℕ
 shown_number number = cond (one_of number (10 ∷ 12 ∷ 13 ∷ [])) number 0
 
-pub cause_number_lem : (h : Optional Strip) (strip m : List ℕ) (room : ℕ) → cause_number (cause_as h strip m) ≡ shown_number (update_number (update_as h strip m room))
+pub cause_number_lem : (h : Optional Strip) (strip m : List ℕ) (room : ℕ)
+    → cause_number (cause_as h strip m) ≡ shown_number (update_number (update_as h strip m room))
 cause_number_lem None strip m room = refl
 cause_number_lem (Some held) strip m room = go (cause_of strip held m) (update_of strip held m room) (agrees strip held m room)
   where

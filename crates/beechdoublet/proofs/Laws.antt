@@ -202,7 +202,8 @@ asked_told (Some held) strip chg number = go (sound held && canonical_plan strip
     go false = omega arith
 
 -- 0 is given back exactly where the field is shown
-pub asked_zero : (h : Optional Strip) (strip chg : List ℕ) (number : ℕ) → eqb (asked_number (asked_as h strip chg number)) 0 ≡ was_shown (asked_as h strip chg number)
+pub asked_zero : (h : Optional Strip) (strip chg : List ℕ) (number : ℕ)
+    → eqb (asked_number (asked_as h strip chg number)) 0 ≡ was_shown (asked_as h strip chg number)
 asked_zero h strip chg number = go (asked_as h strip chg number) (asked_told h strip chg number)
   where
     go : (a : Asked) → Told a → eqb (asked_number a) 0 ≡ was_shown a

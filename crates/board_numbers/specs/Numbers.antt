@@ -55,7 +55,8 @@ pub empty_board : (is_board nothing ≡ true) × (board_of nothing ≡ replicate
 unfolding is_board board_of held_of board_numbers
 empty_board = (refl, refl)
 
-one_strip : (board_numbers (set (replicate 20 vacant) 11 (Some (record { held = just_filed; length = 75 }))) ≡ with (1 ∷ 0 ∷ 0 ∷ 0 ∷ 0 ∷ 0 ∷ 0 ∷ 0 ∷ 0 ∷ 75 ∷ []))
+one_strip : (board_numbers (set (replicate 20 vacant) 11 (Some (record { held = just_filed; length = 75 })))
+    ≡ with (1 ∷ 0 ∷ 0 ∷ 0 ∷ 0 ∷ 0 ∷ 0 ∷ 0 ∷ 0 ∷ 75 ∷ []))
     × (is_board (with (1 ∷ 0 ∷ 0 ∷ 0 ∷ 0 ∷ 0 ∷ 0 ∷ 0 ∷ 0 ∷ 75 ∷ [])) ≡ true)
     × (is_board (with (1 ∷ 0 ∷ 0 ∷ 0 ∷ 0 ∷ 0 ∷ 0 ∷ 0 ∷ 0 ∷ 1800 ∷ [])) ≡ true)
 unfolding is_board board_of held_of board_numbers
