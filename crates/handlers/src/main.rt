@@ -224,7 +224,8 @@ fn start<R: Print, I: Read>(
         return;
     }
     if journal::drop_torn(console, file, s.torn) {
-        serve(console, from, s.board, Journal::At(file), bytes);
+        let board = s.board;
+        serve(console, from, board, Journal::At(file), bytes);
     }
 }
 
