@@ -116,7 +116,11 @@ update_one ns (Ok (a, n)) (Ok (b, k)) hu hv e f =
     ap (λ (s : State). Ok (record { state = s }, n)) p ∙ ap (λ (n : ℕ). Ok (b, n)) q
 update_one ns (Ok (a, n)) (Err r) hu hv e f = let z : r.number ≡ 0 = cc in absurd (omega (arith, hv))
 update_one ns (Err r) (Ok (b, k)) hu hv e f = let z : r.number ≡ 0 = cc in absurd (omega (arith, hu))
-update_one ns (Err r) (Err r') hu hv e h = let n : r.number ≡ r'.number = cc in let f : r.field ≡ r'.field = cc in let p : r.place ≡ r'.place = cc in err_one r r' n f p
+update_one ns (Err r) (Err r') hu hv e h =
+    let n : r.number ≡ r'.number = cc in
+    let f : r.field ≡ r'.field = cc in
+    let p : r.place ≡ r'.place = cc in
+    err_one r r' n f p
 
 -- what an accepted message leaves can be handed in again
 pub next_handed : (ns strip m : List ℕ) (room : ℕ) (held next : Strip) (n : ℕ) → update_of strip held m room ≡ Ok (next, n)
@@ -284,7 +288,11 @@ pub plan_one : (a b : Planned) → NumberedPlan a → NumberedPlan b → plan_nu
 plan_one (Ok p) (Ok q) ha hb e = ap Ok (parts_one p q e)
 plan_one (Ok p) (Err r) ha hb e = let z : r.number ≡ 0 = cc in absurd (omega (arith, hb))
 plan_one (Err r) (Ok q) ha hb e = let z : r.number ≡ 0 = cc in absurd (omega (arith, ha))
-plan_one (Err r) (Err r') ha hb e = let n : r.number ≡ r'.number = cc in let f : r.field ≡ r'.field = cc in let p : r.place ≡ r'.place = cc in err_one r r' n f p
+plan_one (Err r) (Err r') ha hb e =
+    let n : r.number ≡ r'.number = cc in
+    let f : r.field ≡ r'.field = cc in
+    let p : r.place ≡ r'.place = cc in
+    err_one r r' n f p
 
 pub plan_numbered : (m : List ℕ) → NumberedPlan (planned_of m)
 unfolding planned_of taken_of

@@ -43,13 +43,17 @@ slice_bounds-result-end-in-Ok-InChange c =
 
 pub returns-in-Ok-InStrip : goal.returns-in-Ok-InStrip
 returns-in-Ok-InStrip c =
-    let a = c.args in let is = c.in-Ok-InStrip.is ∙ ap Ok c.in-Ok-InStrip.field-0-is in let told = part_shown a.strip.now a.held a.chg.now a.number (c.ask.ensures.value, c.ask.ensures.shows) is
+    let a = c.args in
+    let is = c.in-Ok-InStrip.is ∙ ap Ok c.in-Ok-InStrip.field-0-is in
+    let told = part_shown a.strip.now a.held a.chg.now a.number (c.ask.ensures.value, c.ask.ensures.shows) is
     a.strip.ref_ptr.0 a.strip.ref_ptr.1 a.chg.ref_ptr.0 a.chg.ref_ptr.1 _ _ _ (holds (goal.at.returns-in-Ok-InStrip c).After-ask is).2 (refl, refl) in
     record { result_value = told.0; stands_at = told.1 }
 
 pub returns-in-Ok-InChange : goal.returns-in-Ok-InChange
 returns-in-Ok-InChange c =
-    let a = c.args in let is = c.in-Ok-InChange.is ∙ ap Ok c.in-Ok-InChange.field-0-is in let told = part_shown a.strip.now a.held a.chg.now a.number (c.ask.ensures.value, c.ask.ensures.shows) is
+    let a = c.args in
+    let is = c.in-Ok-InChange.is ∙ ap Ok c.in-Ok-InChange.field-0-is in
+    let told = part_shown a.strip.now a.held a.chg.now a.number (c.ask.ensures.value, c.ask.ensures.shows) is
     a.strip.ref_ptr.0 a.strip.ref_ptr.1 a.chg.ref_ptr.0 a.chg.ref_ptr.1 _ _ _ (holds (goal.at.returns-in-Ok-InChange c).After-ask is).2 (refl, refl) in
     record { result_value = told.0; stands_at = told.1 }
 

@@ -66,7 +66,8 @@ put-b-requires c = (
 pub returns-in-None : goal.returns-in-None
 returns-in-None c =
     let a = c.args in
-    update_none a.f a.slot a.board a.bytes.now _ c.held_in.ensures c.in-None.is a.msg.now _ (c.refused.ensures ∙ ap (λ (r : Refusal). refused_turn a.board r) c.of.ensures)
+    update_none a.f a.slot a.board a.bytes.now _ c.held_in.ensures c.in-None.is a.msg.now _
+        (c.refused.ensures ∙ ap (λ (r : Refusal). refused_turn a.board r) c.of.ensures)
 
 pub returns-in-Err : goal.returns-in-Err
 returns-in-Err c =

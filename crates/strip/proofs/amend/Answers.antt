@@ -79,7 +79,8 @@ returns-then-n-gt-MOST_BYTES c =
 pub returns-then-out-n : goal.returns-then-out-n
 returns-then-out-n c =
     let a = c.args in
-    rw c.of-then-out-n.ensures (no_room_lem a.role a.plan.now a.said.now a.next a.out.now _ (field_is (goal.at.returns-then-out-n c).After-unexplained_in-field) c.if-field-ne0.false _
+    rw c.of-then-out-n.ensures (no_room_lem a.role a.plan.now a.said.now a.next a.out.now _
+        (field_is (goal.at.returns-then-out-n c).After-unexplained_in-field) c.if-field-ne0.false _
     (long (goal.at.returns-then-out-n c).After-write_amended-n)
     (omega (arith, c.if-n-gt-MOST_BYTES.false)) c.if-out-n.true)
 
