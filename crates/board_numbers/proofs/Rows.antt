@@ -161,5 +161,5 @@ module _ (ns : List ℕ) where
       → n ≡ kept 1801 (get_or ns 9 0) → Some (record { held = record { state = s }; length = n }) ≡ held_of ns
   unfolding held_of
   one_held z s n es en =
-      rw (ne_eqb (get_or ns 0 0) 0 z, en) (ap (λ (t : State). Some (record { held = record { state = t }; length = kept 1801 (get_or ns 9 0) })) (es
-      ∙ state_behind ns))
+      rw (ne_eqb (get_or ns 0 0) 0 z, en)
+      (ap (λ (t : State). Some (record { held = record { state = t }; length = kept 1801 (get_or ns 9 0) })) (es ∙ state_behind ns))

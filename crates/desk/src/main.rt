@@ -93,6 +93,7 @@ fn run<R: Print>(console: &Console<'_, R>, s: &[u8], strip: &mut [u8]) -> Option
 {
     let mut desk = None;
     let mut at = pieces::skip_white(s, 0);
+    // A loop: where a piece ends is for `pieces::piece_end` to say, and no method of slices cuts so.
     while at < s.len() {
         let e = pieces::piece_end(s, at);
         desk = take(console, desk, &s[at..e], strip);

@@ -120,7 +120,9 @@ fn serve<R: Print, I: Read>(
     let mut line = [0u8; 4096];
     let mut now = board;
     let mut reader = Reader { at: 0, got: 0 };
-    for _ in 0..u64::MAX {
+    let mut turns = u64::MAX;
+    while turns > 0 {
+        turns -= 1;
         let t = journal::next_of_input(console, from, reader, &mut chunk, &mut line);
         if !t.ended {
             return now;
@@ -150,13 +152,17 @@ fn replay_line(board: Board, line: &[u8], bytes: &mut [u8; 36000]) -> Played
     match calls::ask_in(line) {
         Ask::Calls(call) => {
             let t = play(board, call, line, bytes);
+            let b = t.board;
+            let v = t.verdict;
             Played {
-                board: t.board,
+                board: b,
                 torn: 0,
-                going: is_accepted(t.verdict),
+                going: is_accepted(v),
             }
         }
-        Ask::Look { .. } | Ask::List(_) | Ask::NoCall => stuck(board),
+        Ask::Look { .. } => stuck(board),
+        Ask::List(_) => stuck(board),
+        Ask::NoCall => stuck(board),
     }
 }
 
@@ -191,7 +197,9 @@ fn replay_all<R>(console: &Console<'_, R>, file: &JournalFile, bytes: &mut [u8; 
     let mut line = [0u8; 4096];
     let mut now = Board::empty();
     let mut reader = Reader { at: 0, got: 0 };
-    for _ in 0..u64::MAX {
+    let mut turns = u64::MAX;
+    while turns > 0 {
+        turns -= 1;
         let t = journal::next_of_journal(console, file, reader, &mut chunk, &mut line);
         let w = t.waiting;
         if !t.ended {
@@ -226,7 +234,8 @@ fn start<R: Print, I: Read>(
         return;
     }
     if journal::drop_torn(console, file, s.torn) {
-        serve(console, from, s.board, Journal::At(file), bytes);
+        let board = s.board;
+        serve(console, from, board, Journal::At(file), bytes);
     }
 }
 

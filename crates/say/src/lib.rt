@@ -69,6 +69,7 @@ fn read_full<I: Read>(from: &mut I, buf: &mut [u8]) -> usize
     ensures { IsPrefixLen result buf.new }
 {
     let mut n = 0;
+    // A loop: std's `read_exact` does not say how many bytes came before the end, and `read_to_end` wants the heap.
     while n < buf.len() {
         match from.read(&mut buf[n..]) {
             Ok(0) => return n,
@@ -110,7 +111,7 @@ pub fn messages<R: Print, I: Read>(
     n
 }
 
-// Writes to standard output.
+// Writes to standard output. No type has `Display`: what is printed are bytes, of which no contract says that they are UTF-8.
 pub fn print<R: Print>(console: &Console<'_, R>, bytes: &[u8]) {
     if console.rt.write_all(bytes).is_err() {
         complain(

@@ -34,7 +34,9 @@ fn say_bad<R: Print>(console: &Console<'_, R>) {
 // BYTES WRITTEN AS TEXT
 
 // The value of a hexadecimal digit, in small letters.
-fn hex_digit(b: u8) -> Option<u8> {
+fn hex_digit(b: u8) -> Option<u8>
+    ensures { IfSome result (λ digit. digit ≤ 15) }
+{
     match b {
         b'0'..=b'9' => Some(b - b'0'),
         b'a'..=b'f' => Some(b - b'a' + 10),
@@ -45,7 +47,7 @@ fn hex_digit(b: u8) -> Option<u8> {
 // The byte that is written from i on in a line of n bytes, and how many bytes it takes there.
 fn byte_at(line: &Line, i: usize, n: usize) -> Option<(u8, usize)>
     requires { (i < n) × (n ≤ 8192) }
-    ensures { IfSome result (λ found. 1 ≤ found.1) }
+    ensures { IfSome result (λ found. 1 ≤ found.1) × IfSome result (λ found. found.1 ≤ 3) }
 {
     let b = line[i];
     if !matches!(b, b' '..=b'~') {
@@ -69,6 +71,7 @@ fn decode(line: &mut Line, from: usize, n: usize) -> Option<usize>
 {
     let mut i = from;
     let mut e = from;
+    // A loop: the bytes are put into the line that is read, and no iterator reads a line and writes it.
     while i < n {
         let (b, long) = byte_at(line, i, n)?;
         line[e] = b;

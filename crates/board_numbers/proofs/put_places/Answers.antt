@@ -29,5 +29,5 @@ loop-i-preserved c =
 
 pub returns : goal.returns
 returns c =
-    let l = c.loop-i in all_written c.args.board.places c.args.out.now l.out (10 * l.i) l.invariant.1 (omega
-    (arith, c.loop-i-test.false, l.auto.i-end)) c.requires
+    let l = c.loop-i in
+    all_written c.args.board.places c.args.out.now l.out (10 * l.i) l.invariant.1 (omega (arith, c.loop-i-test.false, l.auto.i-end)) c.requires

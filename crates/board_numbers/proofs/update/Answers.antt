@@ -14,5 +14,6 @@ pub returns : goal.returns
 returns c =
     let a = c.args in
     let h = board_taken a.numbers.now c.in-Some.board (sym c.hand_in.ensures ∙ c.in-Some.is) in
-    call_taken (update c.args.slot c.args.msg.now) a.firm c.byte_of-by.result a.numbers.now a.strips.now c.byte_of-by.ensures c.in-Some.board.places c.update-t.result _ _ _ _
+    call_taken (update c.args.slot c.args.msg.now) a.firm c.byte_of-by.result a.numbers.now a.strips.now c.byte_of-by.ensures
+    c.in-Some.board.places c.update-t.result _ _ _ _
     h.1 h.0 c.update-t.ensures c.put_board.ensures c.tell-2.ensures.0 c.tell-2.ensures.1

@@ -22,4 +22,6 @@ returns c =
     let s = take (from + 10 - from) (drop from ps) in
     let found = position_from_yields_List is_none _ _ c.position.result c.position.ensures.ran (YieldsList-from_slice s (search rules))
     (λ x b q k. search (rules, tests)) in
-    c.unwrap_or.ensures ∙ lowest_found ps from inside c.position.result found (length-take-le _ _ (omega (arith, inside, length-drop from ps)) ∙ omega arith) ∙ ap (λ (i : ℕ). lowest (rack_at ps [] i)) c.base_of-from.ensures
+    c.unwrap_or.ensures
+    ∙ lowest_found ps from inside c.position.result found (length-take-le _ _ (omega (arith, inside, length-drop from ps)) ∙ omega arith)
+    ∙ ap (λ (i : ℕ). lowest (rack_at ps [] i)) c.base_of-from.ensures
