@@ -3,11 +3,11 @@ use Rattle.beechdoublet.proofs.tell_asked.Goals as goal
 
 pub returns-in-Ok-InStrip : goal.returns-in-Ok-InStrip
 returns-in-Ok-InStrip c =
-    let e = (c.in-Ok-InStrip.is, c.in-Ok-InStrip.field-0-is) in (rw (e.0, e.1), rw (e.0, e.1))
+    (rw (c.in-Ok-InStrip.is, c.in-Ok-InStrip.field-0-is), rw (c.in-Ok-InStrip.is, c.in-Ok-InStrip.field-0-is))
 
 pub returns-in-Ok-InChange : goal.returns-in-Ok-InChange
 returns-in-Ok-InChange c =
-    let e = (c.in-Ok-InChange.is, c.in-Ok-InChange.field-0-is) in (rw (e.0, e.1), rw (e.0, e.1))
+    (rw (c.in-Ok-InChange.is, c.in-Ok-InChange.field-0-is), rw (c.in-Ok-InChange.is, c.in-Ok-InChange.field-0-is))
 
 pub returns-in-Err : goal.returns-in-Err
 returns-in-Err c =
