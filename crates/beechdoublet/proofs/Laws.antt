@@ -192,7 +192,7 @@ read_told : (strip chg : List ℕ) (number : ℕ) (a : Answer) → answer_of chg
 read_told strip chg number (Ok (t, n)) e = type_told t (spelling_of t chg) strip chg number
 read_told strip chg number (Err r) e = pick (leb r.number 9)
   where
-    pick : (b : Bool) → Told (opened_as (cond b (Err r) (Err (refusal 14 0 0))) strip chg number)
+    pick : (b : Bool) → Told (opened_as (Err (cond b r (refusal 14 0 0))) strip chg number)
     pick true = (refused-number chg most r.number r.field r.place e).0
     pick false = omega arith
 
