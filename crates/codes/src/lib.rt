@@ -114,6 +114,13 @@ impl<'a> CodeList<'a> {
         }
         true
     }
+
+    // Whether there are one or more codes, in at most so many bytes, and they fit.
+    pub fn fit_within(&self, most: usize, s: &[u8]) -> bool
+        ensures { result ≡ (leb 1 (length s.now) && (leb (length s.now) most && codes_fit (cells 2 self.now.list.now) (codes s.now))) }
+    {
+        (1..=most).contains(&s.len()) && self.fit(s)
+    }
 }
 
 // One or more codes of a list, none twice, in at most so many bytes.
@@ -128,7 +135,7 @@ impl<'a> SomeCodes<'a> {
     pub fn fit(&self, s: &[u8]) -> bool
         ensures { result ≡ (leb 1 (length s.now) && (leb (length s.now) self.now.most && codes_fit (cells 2 self.now.codes.list.now) (codes s.now))) }
     {
-        (1..=usize::from(self.most)).contains(&s.len()) && self.codes.fit(s)
+        self.codes.fit_within(usize::from(self.most), s)
     }
 }
 
