@@ -6,55 +6,53 @@ ghost use Rattle.text.specs.Words.{cells};
 ghost use Rattle.codes.specs.Codes.{codes, is_index};
 ghost use Rattle.equipment.specs.Field10.{present, side_fits, fits10};
 
+use codes::{CodeList, SomeCodes};
+
 // The side of an aircraft that carries none of its list.
 const NOTHING: &[u8] = b"N";
 
-// Whether a side fits: N alone, or one or more codes of the list, none twice, in at most so many bytes. `first` is the list's index.
+// Whether a side fits: N alone, or one or more codes of the list, none twice, in at most so many bytes. It stands for docs/PROMISES.md, which names it, and takes
+// any number for `most`.
 pub fn side_by(first: &[u8; 26], list: &[u8], most: usize, s: &[u8]) -> bool
     requires { is_index first.now (cells 2 list.now) ≡ true }
     ensures { result ≡ side_fits (cells 2 list.now) most (codes s.now) }
 {
-    if s == NOTHING {
-        return true;
-    }
-    if s.len() < 1 {
-        return false;
-    }
-    if most < s.len() {
-        return false;
-    }
-    codes::codes_fit_by(first, list, s)
+    s == NOTHING || CodeList { first, list }.fit_within(most, s)
 }
 
-// The lists' indexes: how many codes stand before the first that begins with A, B, C, .. Z, a byte for each; where none begins with it, all of them.
-pub const EQUIPMENT_INDEX: [u8; 26] =
-    *b"\x00\x01\x02\x03\x04\x07\x08\x09\x0a\x0b\x12\x13\x14\x2a\x17\x18\x2a\x21\x22\x23\x24\x25\x26\x27\x28\x29";
-
-pub const SURVEILLANCE_INDEX: [u8; 26] =
-    *b"\x00\x09\x01\x0f\x02\x11\x10\x03\x04\x11\x11\x05\x11\x11\x11\x06\x11\x11\x07\x11\x0b\x0d\x11\x08\x11\x11";
-
-// Whether the equipment fits, left of the oblique, in the present edition.
-fn equipment_fits(s: &[u8]) -> bool
-    ensures { result ≡ side_fits present.left present.most_left (codes s.now) }
+// Whether a side fits: N alone, or some codes.
+pub fn fits_side(side: &SomeCodes, s: &[u8]) -> bool
+    ensures { result ≡ side_fits (cells 2 side.now.codes.list.now) side.now.most (codes s.now) }
 {
-    side_by(
-        &EQUIPMENT_INDEX,
-        b"A B C D E1E2E3F G H I J1J2J3J4J5J6J7K L M1M2M3O P1P2P3P4P5P6P7P8P9R S T U V W X Y Z ",
-        64,
-        s,
-    )
+    s == NOTHING || side.fit(s)
 }
 
-// Whether the surveillance fits, behind the oblique, in the present edition.
-fn surveillance_fits(s: &[u8]) -> bool
-    ensures { result ≡ side_fits present.right present.most_right (codes s.now) }
+// The equipment, left of the oblique, in the present edition.
+#[tactic(auto, unfolding(crate::specs::Field10::present))]
+pub fn equipment() -> SomeCodes<'static>
+    ensures { (cells 2 result.codes.list.now ≡ present.left) × (result.most ≡ present.most_left) }
 {
-    side_by(
-        &SURVEILLANCE_INDEX,
-        b"A C E H I L P S X B1B2U1U2V1V2D1G1",
-        20,
-        s,
-    )
+    SomeCodes {
+        codes: CodeList {
+            first: b"\x00\x01\x02\x03\x04\x07\x08\x09\x0a\x0b\x12\x13\x14\x2a\x17\x18\x2a\x21\x22\x23\x24\x25\x26\x27\x28\x29",
+            list: b"A B C D E1E2E3F G H I J1J2J3J4J5J6J7K L M1M2M3O P1P2P3P4P5P6P7P8P9R S T U V W X Y Z ",
+        },
+        most: 64,
+    }
+}
+
+// The surveillance, behind the oblique, in the present edition.
+#[tactic(auto, unfolding(crate::specs::Field10::present))]
+pub fn surveillance() -> SomeCodes<'static>
+    ensures { (cells 2 result.codes.list.now ≡ present.right) × (result.most ≡ present.most_right) }
+{
+    SomeCodes {
+        codes: CodeList {
+            first: b"\x00\x09\x01\x0f\x02\x11\x10\x03\x04\x11\x11\x05\x11\x11\x11\x06\x11\x11\x07\x11\x0b\x0d\x11\x08\x11\x11",
+            list: b"A C E H I L P S X B1B2U1U2V1V2D1G1",
+        },
+        most: 20,
+    }
 }
 
 // Whether a content fits the form in the present edition.
@@ -65,8 +63,5 @@ pub fn fits_field10(s: &[u8]) -> bool
     if o == s.len() {
         return false;
     }
-    if !equipment_fits(&s[..o]) {
-        return false;
-    }
-    surveillance_fits(&s[o + 1..])
+    fits_side(&equipment(), &s[..o]) && fits_side(&surveillance(), &s[o + 1..])
 }

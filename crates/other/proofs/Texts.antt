@@ -9,7 +9,7 @@ use lib.ListN.{length, length-append}
 use borrow.Author.Tests.{eqb-true, leb-true, leb-false, le-leb, lt-leb}
 use Rattle.alphabet.specs.Alphabet.{letter, sign, text, in_alphabet, white, one_of}
 use Rattle.text.specs.Words.{Word, all, elem, text_word}
-use Rattle.text.proofs.Tests.{both, all_imp, of_one, of_elem, elem-length}
+use Rattle.text.proofs.Tests.{both, and_false, all_imp, of_one, of_elem, elem-length}
 use Rattle.text.proofs.Tidy.{sign_text, letter_sign, digit_sign, text_word_lem}
 use Rattle.shape.specs.Shape.{fits, wide}
 use Rattle.shape.proofs.Index.{fits_lengths}
@@ -52,6 +52,19 @@ module _ (w : Word) (e : codes_fit approvals (codes w) ≡ true) where
 pub approved_other : (w : Word) → codes_fit approvals (codes w) ≡ false → approved w ≡ false
 unfolding approved
 approved_other w e = rw e
+
+-- as the code asks it, of the bytes
+pub approved_bytes : (w : Word) → (leb 1 (length w) && (leb (length w) 16 && codes_fit approvals (codes w))) ≡ approved w
+approved_bytes w = go (codes_fit approvals (codes w)) refl (leb 1 (length w)) refl
+  where
+    last : (b : Bool) → (b && true) ≡ b
+    last true = refl
+    last false = refl
+
+    go : (x : Bool) → codes_fit approvals (codes w) ≡ x → (y : Bool) → leb 1 (length w) ≡ y → (y && (leb (length w) 16 && x)) ≡ approved w
+    go true e true q = last (leb (length w) 16) ∙ sym (approved_count w e (leb-true 1 (length w) q))
+    go true e false q = sym (approved_none w e (leb-false 1 (length w) q))
+    go false e y q = and_false y (leb (length w) 16 && false) (and_false (leb (length w) 16) false refl) ∙ sym (approved_other w e)
 
 -- EACH IS A TEXT WORD
 

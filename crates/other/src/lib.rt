@@ -4,10 +4,12 @@
 ghost use Rattle.std.specs.Prelude.{◌≡◌, MatchOption, true, [], ℕ, ◌+◌, ◌-◌, ◌≤◌, ◌<◌, eqb, length, take, drop, get_or};
 ghost use Rattle.alphabet.specs.Alphabet.{one_of, text};
 ghost use Rattle.text.specs.Words.{split, after, up_to, all, free, elem, cells};
-ghost use Rattle.other.specs.Rules.{statuses, approved, days_in, date, elapsed_in, selcal, address, word_fits, single, more_fits};
+ghost use Rattle.other.specs.Rules.{statuses, approvals, approved, days_in, date, elapsed_in, selcal, address, word_fits, single, more_fits};
 ghost use Rattle.other.specs.Rules.{rule_in, rule_of, edition, sound_keys};
 ghost use Rattle.other.specs.Plain.{plain, all_plain};
 ghost use Rattle.other.specs.Field18.{fit_from, fit_more, fits_in, fits18, has_key, words_under, words_from, Found};
+
+use codes::{CodeList, SomeCodes};
 
 // What the words under a key must be: `Free` is any text words.
 #[derive(Clone, Copy)]
@@ -32,25 +34,24 @@ fn is_status(w: &[u8]) -> bool
     )
 }
 
-// The index of PBN's list: how many codes stand before the first that begins with A, B, C, .. Z, a byte for each; where none begins with it, all of them.
-pub const APPROVALS_INDEX: [u8; 26] =
-    *b"\x00\x01\x07\x0b\x18\x18\x18\x18\x18\x18\x18\x0f\x18\x18\x10\x18\x18\x18\x14\x16\x18\x18\x18\x18\x18\x18";
-
 // PBN: 1 to 8 codes of two bytes, none twice.
+#[tactic(auto, unfolding(crate::specs::Rules::approvals))]
+pub fn approvals() -> SomeCodes<'static>
+    ensures { (cells 2 result.codes.list.now ≡ approvals) × (result.most ≡ 16) }
+{
+    SomeCodes {
+        codes: CodeList {
+            first: b"\x00\x01\x07\x0b\x18\x18\x18\x18\x18\x18\x18\x0f\x18\x18\x10\x18\x18\x18\x14\x16\x18\x18\x18\x18\x18\x18",
+            list: b"A1B1B2B3B4B5B6C1C2C3C4D1D2D3D4L1O1O2O3O4S1S2T1T2",
+        },
+        most: 16,
+    }
+}
+
 fn is_approved(w: &[u8]) -> bool
     ensures { result ≡ approved w.now }
 {
-    if !codes::codes_fit_by(
-        &APPROVALS_INDEX,
-        b"A1B1B2B3B4B5B6C1C2C3C4D1D2D3D4L1O1O2O3O4S1S2T1T2",
-        w,
-    ) {
-        return false;
-    }
-    if w.len() < 1 {
-        return false;
-    }
-    w.len() <= 16
+    approvals().fit(w)
 }
 
 const DAYS: [usize; 13] = [0, 31, 28, 31, 30, 31, 30, 31, 31, 30, 31, 30, 31];

@@ -7,7 +7,7 @@ use native.Mathlib.Omega.{arith}
 use native.Mathlib.Nat.{not-suc-le-zero}
 use lib.Dec.{leb, eqb, eqb-suc-suc}
 use lib.ListN.{length, drop}
-use borrow.Author.Tests.{leb-true, leb-false, le-leb, eqb-true, eqb-false, ne_eqb}
+use borrow.Author.Tests.{leb-true, le-leb, eqb-true, eqb-false, ne_eqb}
 use Rattle.alphabet.specs.Text.{bytes}
 use Rattle.alphabet.specs.Alphabet.{letter, sign, text, in_alphabet, white, one_of}
 use Rattle.text.specs.Words.{Word, all, null}
@@ -17,7 +17,6 @@ use Rattle.shape.specs.Shape.{fits, wide, letters}
 use Rattle.shape.specs.Time.{time_fits, elapsed_hours, hours_minutes}
 use Rattle.shape.proofs.Index.{fits_lengths}
 use Rattle.shape.proofs.Exact.{fits_all}
-use Rattle.codes.specs.Codes.{codes, codes_fit}
 use Rattle.places.specs.Place.{IsPlace}
 use Rattle.places.specs.Parts.{no_more, fixed_fits, fixed_place, time_place}
 use Rattle.places.proofs.Place.{place_of_language, no_place, either_place}
@@ -31,13 +30,9 @@ use Rattle.code_places.proofs.Codes.{codes_place_lem}
 use Rattle.other.specs.declared.Rule.{Rule}
 use Rattle.other.specs.declared.Rule.TheVariants.{Status, Approvals, Day, Timed, Selcal, Address, Free}
 use Rattle.other.specs.Rules.{statuses, approvals, approved, date, days_in, hexadecimal, timed, word_fits}
-use Rattle.other.proofs.Texts.{approved_none, approved_count, approved_other}
+use Rattle.other.proofs.Texts.{approved_bytes}
 use Rattle.other_places.specs.Places.{signs_time, rule_place}
 use Rattle.other_places.proofs.Dates.{date_right}
-
-and_true : (x : Bool) → (x && true) ≡ x
-and_true true = refl
-and_true false = refl
 
 -- SO MANY BYTES OF A SET, and nothing more
 
@@ -148,16 +143,8 @@ timed_right s = place_of_language (some_signs 10) timed timed_is s (signs_time 1
 
 -- CODES
 
-approved_is : (w : Word) → some_codes approvals 16 w ≡ approved w
-approved_is w = go (codes_fit approvals (codes w)) refl (leb 1 (length w)) refl
-  where
-    go : (x : Bool) → codes_fit approvals (codes w) ≡ x → (y : Bool) → leb 1 (length w) ≡ y → (y && (leb (length w) 16 && x)) ≡ approved w
-    go true e true q = and_true (leb (length w) 16) ∙ sym (approved_count w e (leb-true 1 (length w) q))
-    go true e false q = sym (approved_none w e (leb-false 1 (length w) q))
-    go false e y q = and_false y (leb (length w) 16 && false) (and_false (leb (length w) 16) false refl) ∙ sym (approved_other w e)
-
 approvals_right : (s : List ℕ) → IsPlace approved s (codes_place approvals 16 s)
-approvals_right s = place_of_language (some_codes approvals 16) approved approved_is s (codes_place approvals 16 s) (codes_place_lem approvals 16 s)
+approvals_right s = place_of_language (some_codes approvals 16) approved approved_bytes s (codes_place approvals 16 s) (codes_place_lem approvals 16 s)
 
 -- EACH RULE
 

@@ -97,12 +97,7 @@ fn status_place(w: &[u8]) -> usize
 fn approvals_place(w: &[u8]) -> usize
     ensures { result ≡ rule_place Approvals w.now }
 {
-    code_places::codes_place_by(
-        &other::APPROVALS_INDEX,
-        b"A1B1B2B3B4B5B6C1C2C3C4D1D2D3D4L1O1O2O3O4S1S2T1T2",
-        16,
-        w,
-    )
+    code_places::codes_place(&other::approvals(), w)
 }
 
 // The place of a word that may not stand under a key of this rule.

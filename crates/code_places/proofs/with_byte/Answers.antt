@@ -7,10 +7,10 @@ use Rattle.code_places.proofs.Index.{over, held}
 use native.Mathlib.Omega.{arith}
 use Rattle.code_places.proofs.with_byte.Goals as goal
 
-pub returns-then-most-p : goal.returns-then-most-p
-returns-then-most-p c =
+pub returns-then-from-p : goal.returns-then-from-p
+returns-then-from-p c =
     let a = c.args in
-    sym (over (cells 2 a.list.now) a.most a.p.now a.d c.if-most-p.true)
+    sym (over (cells 2 a.codes.now.codes.list.now) a.codes.now.most a.p.now a.d (omega (arith, c.from.ensures, c.if-from-p.true)))
 
 pub slice_bounds-scratch-end : goal.slice_bounds-scratch-end
 slice_bounds-scratch-end c =
@@ -19,6 +19,6 @@ slice_bounds-scratch-end c =
 pub returns : goal.returns
 returns c =
     let a = c.args in
-    c.some_codes.ensures
-    ∙ ap (some_codes (cells 2 a.list.now) a.most)
-    (held a.p.now _ _ c.put-n.result a.d c.put-n.ensures.0 c.put-n.ensures.1 (omega (arith, c.if-most-p.false)))
+    c.fit.ensures
+    ∙ ap (some_codes (cells 2 a.codes.now.codes.list.now) a.codes.now.most)
+    (held a.p.now _ _ c.put-n.result a.d c.put-n.ensures.0 c.put-n.ensures.1 (omega (arith, c.from.ensures, c.if-from-p.false)))

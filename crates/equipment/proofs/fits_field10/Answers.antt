@@ -10,19 +10,26 @@ returns-then-o-s c =
     let f = c.find_far-o in
     sym (no_oblique present c.args.s.now f.result f.ensures.value c.if-o-s.true)
 
-pub returns-then-not-equipment_fits : goal.returns-then-not-equipment_fits
-returns-then-not-equipment_fits c =
+pub returns-then-fits_side : goal.returns-then-fits_side
+returns-then-fits_side c =
     let f = c.find_far-o in
     rw (
       at_oblique present c.args.s.now f.result f.ensures.value c.if-o-s.false f.ensures.lower_bound.1,
-      sym c.equipment_fits.ensures ∙ c.if-not-equipment_fits.true,
+      sym c.equipment.ensures.0,
+      sym c.equipment.ensures.1,
+      sym c.fits_side.ensures ∙ c.if-fits_side.true,
+      sym c.surveillance.ensures.0,
+      sym c.surveillance.ensures.1,
     )
+    (rw rest at c.fits_side-then-fits_side.ensures)
 
-pub returns : goal.returns
-returns c =
+pub returns-else-fits_side : goal.returns-else-fits_side
+returns-else-fits_side c =
     let f = c.find_far-o in
-    rw (
+    c.if-fits_side.false
+    ∙ rw (
       at_oblique present c.args.s.now f.result f.ensures.value c.if-o-s.false f.ensures.lower_bound.1,
-      sym c.equipment_fits.ensures ∙ c.if-not-equipment_fits.false,
+      sym c.equipment.ensures.0,
+      sym c.equipment.ensures.1,
+      sym c.fits_side.ensures ∙ c.if-fits_side.false,
     )
-    (rw rest at c.surveillance_fits.ensures)

@@ -9,5 +9,5 @@ pub returns : goal.returns
 unfolding side_place
 returns c =
     let alone = c.matched_of in
-    let codes = c.codes_place_by in
+    let codes = c.codes_place in
     c.max.ensures ∙ ap (λ (p : ℕ). larger p codes.result) alone.ensures ∙ ap (larger _) codes.ensures

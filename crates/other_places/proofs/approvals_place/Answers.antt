@@ -1,8 +1,7 @@
 -- `other_places::approvals_place` meets its contract. Assumes nothing.
-use Rattle.other.specs.Rules.{approvals}
+use mathlib.Core.Path.{refl, ◌∙◌}
 use Rattle.other_places.proofs.approvals_place.Goals as goal
 
 pub returns : goal.returns
-unfolding approvals
 returns c =
-    c.codes_place_by.ensures
+    c.codes_place.ensures ∙ rw (c.approvals.ensures.0, c.approvals.ensures.1) refl

@@ -1,4 +1,4 @@
--- `codes::rank_by` meets its contract. Assumes nothing.
+-- `codes::CodeList::rank` meets its contract. Assumes nothing.
 use Prim.Native.Nat.{◌≤◌}
 use mathlib.Core.Path.{◌≡◌, refl, sym, ◌∙◌}
 use mathlib.Core.Bool.{true}
@@ -7,8 +7,8 @@ use lib.ListN.{get_or}
 use Rattle.alphabet.specs.Alphabet.{letter}
 use Rattle.codes.proofs.Pairs.{code_some, rank_space, rank-behind, letter_bounds, index_letter, letter_no_space}
 use borrow.Author.Rules.{rules}
-use Rattle.codes.proofs.rank_by.Goals.{Then-is_letter}
-use Rattle.codes.proofs.rank_by.Goals as goal
+use Rattle.codes.proofs.CodeList.rank.Goals.{Then-is_letter}
+use Rattle.codes.proofs.CodeList.rank.Goals as goal
 
 begins : (c : Then-is_letter) → letter (get_or c.args.w.now 0 0) ≡ true
 begins c =
@@ -20,15 +20,15 @@ bounds c =
 
 pub bounds-w-0 : goal.bounds-w-0
 bounds-w-0 c =
-    code_some c.args.w.now c.requires.w_value.0
+    code_some c.args.w.now c.requires.0
 
 pub overflow_sub-b : goal.overflow_sub-b
 overflow_sub-b c =
     (bounds (goal.at.overflow_sub-b c).Then-is_letter).0
 
-pub bounds-first-i : goal.bounds-first-i
-bounds-first-i c =
-    omega (arith, bounds (goal.at.bounds-first-i c).Then-is_letter)
+pub bounds-self-from : goal.bounds-self-from
+bounds-self-from c =
+    omega (arith, bounds (goal.at.bounds-self-from c).Then-is_letter)
 
 pub cell_behind-requires : goal.cell_behind-requires
 cell_behind-requires c =
@@ -36,18 +36,18 @@ cell_behind-requires c =
 
 pub returns-then-is_letter : goal.returns-then-is_letter
 returns-then-is_letter c =
-    let f = c.wide.result in
-    let passed = index_letter c.args.first.now _ c.requires.list_value _ c.wide-i.result f (begins (goal.at.returns-then-is_letter c).Then-is_letter)
-    c.wide-i.ensures.0 c.wide.ensures.0 in
+    let f = c.from-before.result in
+    let passed = index_letter c.args.self.now.first.now _ c.args.self.now.indexed _ c.from.result f (begins (goal.at.returns-then-is_letter c).Then-is_letter)
+    c.from.ensures c.from-before.ensures in
     c.cell_behind.ensures
-    ∙ rank-behind c.args.w.now c.requires.w_value.0 (letter_no_space _ (begins (goal.at.returns-then-is_letter c).Then-is_letter)) c.args.list.now f _ passed
-    c.requires.w_value.1
+    ∙ rank-behind c.args.w.now c.requires.0 (letter_no_space _ (begins (goal.at.returns-then-is_letter c).Then-is_letter)) c.args.self.now.list.now f _ passed
+    c.requires.1
 
 pub returns-then-b-eq32 : goal.returns-then-b-eq32
 returns-then-b-eq32 c =
-    sym (rank_space c.args.w.now c.requires.w_value.0 c.if-b-eq32.true c.args.list.now)
+    sym (rank_space c.args.w.now c.requires.0 c.if-b-eq32.true c.args.self.now.list.now)
 
 pub returns : goal.returns
 returns c =
     c.cell_behind-2.ensures
-    ∙ rank-behind c.args.w.now c.requires.w_value.0 c.if-b-eq32.false c.args.list.now 0 _ refl c.requires.w_value.1
+    ∙ rank-behind c.args.w.now c.requires.0 c.if-b-eq32.false c.args.self.now.list.now 0 _ refl c.requires.1

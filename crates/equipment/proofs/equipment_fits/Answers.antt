@@ -1,8 +1,0 @@
--- `equipment::equipment_fits` meets its contract. Assumes nothing.
-use Rattle.equipment.specs.Field10.{present}
-use Rattle.equipment.proofs.equipment_fits.Goals as goal
-
-pub returns : goal.returns
-unfolding present
-returns c =
-    c.side_by.ensures

@@ -1,0 +1,8 @@
+-- `equipment::fits_side` meets its contract. Assumes nothing.
+use mathlib.Core.Path.{sym, ◌∙◌}
+use Rattle.equipment.proofs.Laws.{side_bytes}
+use Rattle.equipment.proofs.fits_side.Goals as goal
+
+pub returns-else-eq : goal.returns-else-eq
+returns-else-eq c =
+    rw (side_bytes, sym c.eq.ensures ∙ c.if-eq.false) c.fit.ensures
