@@ -2,3 +2,4 @@ pub mod Rules
 pub mod Elements
 pub mod Plain
 pub mod Field18
+pub mod Stated

@@ -5,7 +5,7 @@ ghost use Rattle.std.specs.Prelude.{◌≡◌, MatchOption, true, [], ℕ, ◌+�
 ghost use Rattle.alphabet.specs.Alphabet.{one_of, text};
 ghost use Rattle.text.specs.Words.{split, after, up_to, all, free, elem, cells};
 ghost use Rattle.other.specs.Rules.{statuses, approvals, approved, days_in, date, elapsed_in, selcal, address, word_fits, single, more_fits};
-ghost use Rattle.other.specs.Rules.{rule_in, rule_of, edition, sound_keys};
+ghost use Rattle.other.specs.Rules.{rule_in, rule_of, edition, sound_keys, base};
 ghost use Rattle.other.specs.Plain.{plain, all_plain};
 ghost use Rattle.other.specs.Field18.{fit_from, fit_more, fits_in, fits18, has_key, words_under, words_from, Found};
 
@@ -169,22 +169,14 @@ fn rule_of(b: u8) -> Rule
     }
 }
 
-// The rule of the key at place k, counted from 1.
-fn rule_at(rules: &[u8], k: usize) -> Rule
-    requires { 0 < k }
-    ensures { result ≡ rule_in (edition [] rules.now) k }
-{
-    match rules.get(k - 1) {
-        Some(b) => rule_of(*b),
-        None => Rule::Free,
-    }
-}
-
-// The same for every number: place 0 has the first key's rule.
+// The rule of the key at place k, counted from 1; place 0 has the first key's rule.
 pub fn rule_in(rules: &[u8], k: usize) -> Rule
     ensures { result ≡ rule_in (edition [] rules.now) k }
 {
-    rule_at(rules, k.max(1))
+    match rules.get(k.saturating_sub(1)) {
+        Some(b) => rule_of(*b),
+        None => Rule::Free,
+    }
 }
 
 // Whether a word ends at e: a space stands there, or the content is over.
@@ -279,88 +271,110 @@ fn past_free(rule: Rule, s: &[u8], e: usize) -> usize
     e
 }
 
-// The item that begins at `at`, its key behind the one at place `last`, with all that follows it. The oblique behind its key stands at `o`.
-#[cycle(item_words)]
-fn item(keys: &[u8], rules: &[u8], s: &[u8], at: usize, o: usize, last: usize) -> bool
-    requires at_le_o { (at ≤ o) × (o < length s.now) × (get_or s.now o 0 ≡ 47) × (all text (take (o - at) (drop at s.now)) ≡ true) }
-    requires rules_value { sound_keys (edition (cells 4 keys.now) rules.now) ≡ true }
-    ensures { result ≡ fit_from (edition (cells 4 keys.now) rules.now) last (split 32 (drop at s.now)) }
-{
-    let k = text::rank_behind(&s[at..o], 4, keys, last);
-    if k == 0 {
-        return false;
-    }
-    let from = o + 1;
-    let e = text::end_of(text::Kind::Text, s, from);
-    if !word_ends(s, e) {
-        return false;
-    }
-    if !text_fits(rule_at(rules, k), &s[from..e]) {
-        return false;
-    }
-    words(keys, rules, s, e, k)
-}
-
-// What follows a word that ends at `end`, in an item of the key at place k: its further words, and the items behind it. The text bytes that a word begins with
-// are all of it, or the key of the next item; with any other byte behind them it does not fit, since no key and no rule has such a byte. A loop over places:
-// the end of a word is found while its bytes are read.
-#[cycle(item_words)]
-fn words(keys: &[u8], rules: &[u8], s: &[u8], end: usize, k: usize) -> bool
-    requires end_in_bounds { (end ≤ length s.now) × (0 < k) × (up_to 32 (drop end s.now) ≡ 0) }
-    requires rules_value { sound_keys (edition (cells 4 keys.now) rules.now) ≡ true }
-    ensures { result ≡ fit_more (edition (cells 4 keys.now) rules.now) k (after 32 (drop end s.now)) }
-{
-    let rule = rule_at(rules, k);
-    let mut e = past_free(rule, s, end);
-    while e < s.len() {
-        let at = e + 1;
-        e = text::end_of(text::Kind::Text, s, at);
-        if !word_ends(s, e) {
-            if s[e] != b'/' {
-                return false;
-            }
-            return item(keys, rules, s, at, e, k);
-        }
-        if is_single(rule) {
-            return false;
-        }
-        if !text_fits(rule, &s[at..e]) {
-            return false;
-        }
-    }
-    true
-}
-
 // The content that says that there are no items.
 const NOTHING: &[u8] = b"0";
 
-// Whether a content fits the form in an edition: its keys, in cells of four bytes, and a mark for the rule of each.
-fn fits_edition(keys: &[u8], rules: &[u8], s: &[u8]) -> bool
-    requires { sound_keys (edition (cells 4 keys.now) rules.now) ≡ true }
-    ensures { result ≡ fits_in (edition (cells 4 keys.now) rules.now) s.now }
-{
-    if s == NOTHING {
-        return true;
+// An edition of the form: its keys in their order, in cells of four bytes, and a mark for the rule of each.
+#[derive(Clone, Copy)]
+pub struct Edition<'a> {
+    pub keys: &'a [u8],
+    pub rules: &'a [u8],
+    ghost sound: { sound_keys (edition (cells 4 keys.now) rules.now) ≡ true },
+}
+
+impl<'a> Edition<'a> {
+    ghost use Rattle.other.specs.Stated.{stated};
+
+    // The edition of document 01.
+    pub fn base() -> Edition<'a>
+        ensures { stated result ≡ base }
+    {
+        Edition {
+            keys: b"STS PBN NAV COM DAT SUR DEP DESTDOF REG EET SEL TYP CODEDLE OPR ORGNPER ALTNRALTTALTRIF RMK ",
+            rules: b"SP......D.EL.HE........",
+        }
     }
-    let o = text::end_of(text::Kind::Text, s, 0);
-    if word_ends(s, o) {
-        return false;
+
+    // The rule of the key at place k, counted from 1; place 0 has the first key's rule.
+    pub fn rule(self, k: usize) -> Rule
+        ensures { result ≡ rule_in (stated self.entry) k }
+    {
+        rule_in(self.rules, k)
     }
-    if s[o] != b'/' {
-        return false;
+
+    // The item that begins at `at`, its key behind the one at place `last`, with all that follows it. The oblique behind its key stands at `o`.
+    #[cycle(item_words)]
+    fn item(self, s: &[u8], at: usize, o: usize, last: usize) -> bool
+        requires { (at ≤ o) × (o < length s.now) × (get_or s.now o 0 ≡ 47) × (all text (take (o - at) (drop at s.now)) ≡ true) }
+        ensures { result ≡ fit_from (stated self.entry) last (split 32 (drop at s.now)) }
+    {
+        let k = text::rank_behind(&s[at..o], 4, self.keys, last);
+        if k == 0 {
+            return false;
+        }
+        let from = o + 1;
+        let e = text::end_of(text::Kind::Text, s, from);
+        if !word_ends(s, e) {
+            return false;
+        }
+        if !text_fits(self.rule(k), &s[from..e]) {
+            return false;
+        }
+        self.words(s, e, k)
     }
-    item(keys, rules, s, 0, o, 0)
+
+    // What follows a word that ends at `end`, in an item of the key at place k: its further words, and the items behind it. The text bytes that a word begins
+    // with are all of it, or the key of the next item; with any other byte behind them it does not fit, since no key and no rule has such a byte. A loop over
+    // places: the end of a word is found while its bytes are read.
+    #[cycle(item_words)]
+    fn words(self, s: &[u8], end: usize, k: usize) -> bool
+        requires { (end ≤ length s.now) × (up_to 32 (drop end s.now) ≡ 0) }
+        ensures { result ≡ fit_more (stated self.entry) k (after 32 (drop end s.now)) }
+    {
+        let rule = self.rule(k);
+        let mut e = past_free(rule, s, end);
+        while e < s.len() {
+            let at = e + 1;
+            e = text::end_of(text::Kind::Text, s, at);
+            if !word_ends(s, e) {
+                if s[e] != b'/' {
+                    return false;
+                }
+                return self.item(s, at, e, k);
+            }
+            if is_single(rule) {
+                return false;
+            }
+            if !text_fits(rule, &s[at..e]) {
+                return false;
+            }
+        }
+        true
+    }
+
+    // Whether a content fits the form in this edition.
+    fn fits(self, s: &[u8]) -> bool
+        ensures { result ≡ fits_in (stated self.entry) s.now }
+    {
+        if s == NOTHING {
+            return true;
+        }
+        let o = text::end_of(text::Kind::Text, s, 0);
+        if word_ends(s, o) {
+            return false;
+        }
+        if s[o] != b'/' {
+            return false;
+        }
+        self.item(s, 0, o, 0)
+    }
 }
 
 // Whether a content fits field 18's form.
 pub fn fits_field18(s: &[u8]) -> bool
     ensures { result ≡ fits18 s.now }
 {
-    fits_edition(
-        b"STS PBN NAV COM DAT SUR DEP DESTDOF REG EET SEL TYP CODEDLE OPR ORGNPER ALTNRALTTALTRIF RMK ",
-        b"SP......D.EL.HE........",
-        s,
-    )
+    Edition::base().fits(s)
 }
 
 // Where the words of the item of a key begin, behind its oblique, if there is such an item. A loop over places: one of them is the answer.

@@ -1,17 +1,18 @@
 // The place of a content of field 18 that does not fit.
 #![tactic(auto)]
 
-ghost use Rattle.std.specs.Prelude.{◌≡◌, [], ◌++◌, true, length, drop};
+ghost use Rattle.std.specs.Prelude.{◌≡◌, [], ◌++◌, length, drop};
 ghost use Rattle.alphabet.specs.Alphabet.{one_of};
-ghost use Rattle.text.specs.Words.{before, cells, leading};
+ghost use Rattle.text.specs.Words.{before, leading};
 ghost use Rattle.places.specs.Parts.{passes};
 ghost use Rattle.entries.specs.Entries.{entry_place};
-ghost use Rattle.other.specs.Rules.{date, edition, base, sound_keys};
+ghost use Rattle.other.specs.Rules.{date, base};
+ghost use Rattle.other.specs.Stated.{stated};
 ghost use Rattle.other.specs.declared.Rule.TheVariants.{Status, Approvals, Selcal, Address, Free};
 ghost use Rattle.other_places.specs.Places.{date_go, rule_place, keyed, later_place, keys_place};
 ghost use Rattle.other_places.specs.Places.{items, signs_time, more_place, items_word, items_place, place18};
 
-use other::Rule;
+use other::{Edition, Rule};
 use text::Kind;
 
 // Whether some bytes are a date with what six others have behind as many.
@@ -116,13 +117,13 @@ fn rule_place(rule: Rule, w: &[u8]) -> usize
 }
 
 // The place of a word as one more of the key at place k.
-fn more_place(rules: &[u8], k: usize, w: &[u8]) -> usize
-    ensures { result ≡ more_place (edition [] rules.now) k w.now }
+fn more_place(edition: Edition, k: usize, w: &[u8]) -> usize
+    ensures { result ≡ more_place (stated edition.entry) k w.now }
 {
     if k == 0 {
         return 0;
     }
-    let rule = other::rule_in(rules, k);
+    let rule = edition.rule(k);
     if other::is_single(rule) {
         return 0;
     }
@@ -143,76 +144,75 @@ fn key_place(key: &[u8], rule: Rule, w: &[u8]) -> usize
 }
 
 // The same for the key at place j, which a cell holds, where it stands behind the one at place k.
-fn cell_place(rules: &[u8], k: usize, j: usize, cell: &[u8], w: &[u8]) -> usize
-    ensures { result ≡ later_place (edition [] rules.now) k j (before 32 cell.now) w.now }
+fn cell_place(edition: Edition, k: usize, j: usize, cell: &[u8], w: &[u8]) -> usize
+    ensures { result ≡ later_place (stated edition.entry) k j (before 32 cell.now) w.now }
 {
     if j <= k {
         return 0;
     }
     let e = text::find(cell, 0, b' ');
-    key_place(&cell[..e], other::rule_in(rules, j), w)
+    key_place(&cell[..e], edition.rule(j), w)
 }
 
 // The place of a word as one of the keys behind the one at place k, with its first word.
-fn keys_place(keys: &[u8], rules: &[u8], k: usize, w: &[u8]) -> usize
-    ensures { result ≡ keys_place (edition (cells 4 keys.now) rules.now) k w.now }
+fn keys_place(edition: Edition, k: usize, w: &[u8]) -> usize
+    ensures { result ≡ keys_place (stated edition.entry) k w.now }
 {
     let mut best = 0usize;
-    for i in 0..keys.len() / 4 {
+    for i in 0..edition.keys.len() / 4 {
         let at = 4 * i;
-        best = best.max(cell_place(rules, k, i + 1, &keys[at..at + 4], w));
+        best = best.max(cell_place(edition, k, i + 1, &edition.keys[at..at + 4], w));
     }
     best
 }
 
 // The place of a word behind an item of the key at place k, or of the first word, where k is 0.
-fn item_place(keys: &[u8], rules: &[u8], k: usize, w: &[u8]) -> usize
-    ensures { result ≡ items_word (edition (cells 4 keys.now) rules.now) k w.now }
+fn item_place(edition: Edition, k: usize, w: &[u8]) -> usize
+    ensures { result ≡ items_word (stated edition.entry) k w.now }
 {
-    more_place(rules, k, w).max(keys_place(keys, rules, k, w))
+    more_place(edition, k, w).max(keys_place(edition, k, w))
 }
 
 // The place of the key that a word belongs to, behind an item of the key at place k, if the word may stand there.
-fn rank_after(keys: &[u8], rules: &[u8], k: usize, w: &[u8]) -> Option<usize>
-    ensures { result ≡ (items (edition (cells 4 keys.now) rules.now)).after k w.now }
+fn rank_after(edition: Edition, k: usize, w: &[u8]) -> Option<usize>
+    ensures { result ≡ (items (stated edition.entry)).after k w.now }
 {
     let o = text::find(w, 0, b'/');
     if o == w.len() {
         if k == 0 {
             return None;
         }
-        if other::more_fits(other::rule_in(rules, k), w) {
+        if other::more_fits(edition.rule(k), w) {
             return Some(k);
         }
         return None;
     }
-    let r = text::rank_in_cells(&w[..o], 4, keys);
+    let r = text::rank_in_cells(&w[..o], 4, edition.keys);
     if r <= k {
         return None;
     }
-    if !other::word_fits(other::rule_in(rules, r), &w[o + 1..]) {
+    if !other::word_fits(edition.rule(r), &w[o + 1..]) {
         return None;
     }
     Some(r)
 }
 
 // Whether a word may stand behind an item of the key at place k.
-fn goes_on(keys: &[u8], rules: &[u8], k: usize) -> bool
-    ensures { result ≡ (items (edition (cells 4 keys.now) rules.now)).goes k }
+fn goes_on(edition: Edition, k: usize) -> bool
+    ensures { result ≡ (items (stated edition.entry)).goes k }
 {
-    (0 < k && !other::is_single(other::rule_in(rules, k))) || k < keys.len() / 4
+    (0 < k && !other::is_single(edition.rule(k))) || k < edition.keys.len() / 4
 }
 
 // The place of items that do not fit, in an edition.
-fn place_edition(keys: &[u8], rules: &[u8], s: &[u8]) -> usize
-    requires { sound_keys (edition (cells 4 keys.now) rules.now) ≡ true }
-    ensures { result ≡ items_place (edition (cells 4 keys.now) rules.now) s.now }
+fn place_edition(edition: Edition, s: &[u8]) -> usize
+    ensures { result ≡ items_place (stated edition.entry) s.now }
 {
     places::words_place(
         0,
-        |k, w| rank_after(keys, rules, k, w),
-        |k| goes_on(keys, rules, k),
-        |k, w| item_place(keys, rules, k, w),
+        |k, w| rank_after(edition, k, w),
+        |k| goes_on(edition, k),
+        |k, w| item_place(edition, k, w),
         s,
     )
 }
@@ -221,9 +221,5 @@ fn place_edition(keys: &[u8], rules: &[u8], s: &[u8]) -> usize
 pub fn place_field18(s: &[u8]) -> usize
     ensures { result ≡ place18 base s.now }
 {
-    entries::matched_of(b"0", s).max(place_edition(
-        b"STS PBN NAV COM DAT SUR DEP DESTDOF REG EET SEL TYP CODEDLE OPR ORGNPER ALTNRALTTALTRIF RMK ",
-        b"SP......D.EL.HE........",
-        s,
-    ))
+    entries::matched_of(b"0", s).max(place_edition(Edition::base(), s))
 }

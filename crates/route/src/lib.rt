@@ -60,21 +60,6 @@ fn in_minutes(w: &[u8]) -> bool
     within(180, shape::three(w, 5), shape::two(w, 8))
 }
 
-// 2 to 5 signs, a bearing of at most 360 and a distance, of a word of signs.
-fn with_bearing(w: &[u8]) -> bool
-    requires { (7 < length w.now) × (all sign w.now ≡ true) }
-    ensures { result ≡ radial_fits w.now }
-{
-    if 11 < w.len() {
-        return false;
-    }
-    let k = w.len() - 6;
-    if !text::all_of(text::Kind::Digit, &w[k..]) {
-        return false;
-    }
-    shape::three(w, k) <= 360
-}
-
 const DIRECT: &[u8] = b"DCT";
 
 const VISUAL: &[u8] = b"VFR";
@@ -86,20 +71,6 @@ fn is_indicator(w: &[u8]) -> bool
     ensures { result ≡ elem w.now indicators }
 {
     w == DIRECT || w == VISUAL || w == INSTRUMENT
-}
-
-// 2 or more signs, and no indicator, of a word of signs.
-fn name(most: usize, w: &[u8]) -> bool
-    requires { all sign w.now ≡ true }
-    ensures { result ≡ name_fits most w.now }
-{
-    if w.len() < 2 {
-        return false;
-    }
-    if most < w.len() {
-        return false;
-    }
-    !is_indicator(w)
 }
 
 // Whether a word is digits and, last, one of two letters.
@@ -139,24 +110,79 @@ pub fn out_of_range(w: &[u8]) -> bool
     !in_degrees(w)
 }
 
-// The same as `point`, of a word of signs. Most are short and can only be names.
-fn point_of_signs(most: usize, w: &[u8]) -> bool
-    requires { all sign w.now ≡ true }
-    ensures { result ≡ point_fits most w.now }
-{
-    if w.len() < 7 {
-        return name(most, w);
+// That the route is cut off.
+const TRUNCATED: &[u8] = b"T";
+
+// A word of signs.
+#[derive(Clone, Copy)]
+struct SignWord<'a> {
+    bytes: &'a [u8],
+    ghost signs: { all sign bytes.now ≡ true },
+}
+
+impl<'a> SignWord<'a> {
+    // 2 to 5 signs, a bearing of at most 360 and a distance.
+    fn with_bearing(self) -> bool
+        requires { 7 < length self.bytes.now }
+        ensures { result ≡ radial_fits self.entry.bytes.now }
+    {
+        let w = self.bytes;
+        if 11 < w.len() {
+            return false;
+        }
+        let k = w.len() - 6;
+        if !text::all_of(text::Kind::Digit, &w[k..]) {
+            return false;
+        }
+        shape::three(w, k) <= 360
     }
-    if is_coordinate(2, 3, w) {
-        return in_degrees(w);
+
+    // 2 or more signs, and no indicator.
+    fn name(self, most: usize) -> bool
+        ensures { result ≡ name_fits most self.entry.bytes.now }
+    {
+        let w = self.bytes;
+        if w.len() < 2 {
+            return false;
+        }
+        if most < w.len() {
+            return false;
+        }
+        !is_indicator(w)
     }
-    if is_coordinate(4, 5, w) {
-        return in_minutes(w);
+
+    // The same as the function `point`. Most are short and can only be names.
+    fn point(self, most: usize) -> bool
+        ensures { result ≡ point_fits most self.entry.bytes.now }
+    {
+        let w = self.bytes;
+        if w.len() < 7 {
+            return self.name(most);
+        }
+        if is_coordinate(2, 3, w) {
+            return in_degrees(w);
+        }
+        if is_coordinate(4, 5, w) {
+            return in_minutes(w);
+        }
+        if 7 < w.len() {
+            return self.with_bearing();
+        }
+        self.name(most)
     }
-    if 7 < w.len() {
-        return with_bearing(w);
+
+    // T may stand only last.
+    fn word(self, last: bool) -> bool
+        ensures { result ≡ word_fits last self.entry.bytes.now }
+    {
+        if self.bytes == TRUNCATED {
+            return last;
+        }
+        if is_indicator(self.bytes) {
+            return true;
+        }
+        self.point(7)
     }
-    name(most, w)
 }
 
 // A coordinate, a point with bearing and distance, or a name of at most so many signs.
@@ -166,24 +192,7 @@ pub fn point(most: usize, w: &[u8]) -> bool
     if !text::all_of(text::Kind::Sign, w) {
         return false;
     }
-    point_of_signs(most, w)
-}
-
-// That the route is cut off.
-const TRUNCATED: &[u8] = b"T";
-
-// A word of signs. T may stand only last.
-fn word(last: bool, w: &[u8]) -> bool
-    requires { all sign w.now ≡ true }
-    ensures { result ≡ word_fits last w.now }
-{
-    if w == TRUNCATED {
-        return last;
-    }
-    if is_indicator(w) {
-        return true;
-    }
-    point_of_signs(7, w)
+    SignWord { bytes: w }.point(most)
 }
 
 // What stands behind a byte and n digits, if w begins with them.
@@ -269,7 +278,8 @@ fn climb(w: &[u8]) -> bool
     if w[o] != b'/' {
         return false;
     }
-    if !point_of_signs(5, &w[..o]) {
+    let p = SignWord { bytes: &w[..o] };
+    if !p.point(5) {
         return false;
     }
     climbed(&w[o + 1..])
@@ -291,7 +301,7 @@ fn joined(o: usize, w: &[u8]) -> bool
     if p == CLIMB {
         return climb(t);
     }
-    if !point_of_signs(5, p) {
+    if !(SignWord { bytes: p }).point(5) {
         return false;
     }
     changed(t)
@@ -303,7 +313,7 @@ pub fn element(last: bool, w: &[u8]) -> bool
 {
     let o = text::end_of(text::Kind::Sign, w, 0);
     if o == w.len() {
-        return word(last, w);
+        return SignWord { bytes: w }.word(last);
     }
     joined(o, w)
 }
@@ -316,12 +326,12 @@ fn elements(s: &[u8], from: usize) -> bool
     let mut at = from;
     loop {
         let o = text::end_of(text::Kind::Sign, s, at);
-        let w = &s[at..o];
+        let w = SignWord { bytes: &s[at..o] };
         if o == s.len() {
-            return word(true, w);
+            return w.word(true);
         }
         if s[o] == b' ' {
-            if !word(false, w) {
+            if !w.word(false) {
                 return false;
             }
             at = o + 1;

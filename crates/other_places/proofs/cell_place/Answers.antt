@@ -1,7 +1,7 @@
 -- `other_places::cell_place` meets its contract. Assumes nothing.
 use lib.ListN.{take}
-use mathlib.Core.List.{[]}
-use Rattle.other.specs.Rules.{edition, rule_in}
+use Rattle.other.specs.Stated.{stated}
+use Rattle.other.specs.Rules.{rule_in}
 use mathlib.Core.Path.{sym, ap, ◌∙◌}
 use lib.Seq.{length-take-le}
 use borrow.Author.Tests.{lt-ltb, le-ltb}
@@ -23,6 +23,6 @@ returns c =
     let a = c.args in
     let key = found_before 32 a.cell.now c.find-e.result c.find-e.ensures.value in
     let placed = c.key_place.ensures
-    ∙ ap (λ r. entry_place (keyed (take c.find-e.result a.cell.now) r) a.w.now) c.rule_in.ensures
-    ∙ ap (λ v. entry_place (keyed v (rule_in (edition [] a.rules.now) a.j)) a.w.now) key in
+    ∙ ap (λ r. entry_place (keyed (take c.find-e.result a.cell.now) r) a.w.now) c.rule.ensures
+    ∙ ap (λ v. entry_place (keyed v (rule_in (stated a.edition) a.j)) a.w.now) key in
     sym (rw (lt-ltb a.k a.j c.if-j-k.false) (sym placed))

@@ -11,7 +11,7 @@ returns-else-not-is_single c =
     let a = c.args in
     elim c.if-k-gt0.branch [
       | then-k-gt0 w ↦
-          let e = sym (ap single w.rule_in.ensures) ∙ sym w.is_single.ensures ∙ not-false _ (sym w.value-is ∙ c.if-not-is_single.false) in
-          sym (rw (e, lt-ltb 0 a.k w.if-k-gt0.true, count_cells a.keys.now))
-      | else-k-gt0 w ↦ sym (rw (le-ltb 0 a.k w.if-k-gt0.false, count_cells a.keys.now))
+          let e = sym (ap single w.rule.ensures) ∙ sym w.is_single.ensures ∙ not-false _ (sym w.value-is ∙ c.if-not-is_single.false) in
+          sym (rw (e, lt-ltb 0 a.k w.if-k-gt0.true, count_cells a.edition.keys.now))
+      | else-k-gt0 w ↦ sym (rw (le-ltb 0 a.k w.if-k-gt0.false, count_cells a.edition.keys.now))
     ]

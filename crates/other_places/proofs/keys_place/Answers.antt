@@ -2,11 +2,10 @@
 use Prim.Native.Nat.{ℕ, ◌+◌, ◌*◌}
 use mathlib.Core.Path.{◌≡◌, sym, ap, ◌∙◌}
 use native.Mathlib.Omega.{arith}
-use Rattle.text.specs.Words.{cells}
 use Rattle.text.proofs.Index.{cells_from}
 use Rattle.places.specs.Parts.{larger}
 use Rattle.entries.specs.Entries.{entries_place}
-use Rattle.other.specs.Rules.{edition}
+use Rattle.other.specs.Stated.{stated}
 use Rattle.other_places.specs.Places.{later_keys}
 use Rattle.other_places.proofs.Index.{keys_next, keys_end}
 use Rattle.other_places.proofs.keys_place.Goals as goal
@@ -15,8 +14,8 @@ pub loop-i-preserved : goal.loop-i-preserved
 loop-i-preserved c =
     let a = c.args in
     let i = c.loop-i.i in
-    let keys = a.keys.now in
-    let ed = edition (cells 4 keys) a.rules.now in
+    let keys = a.edition.keys.now in
+    let ed = stated a.edition in
     let best = c.max-best.ensures ∙ ap (larger c.loop-i.best) c.cell_place.ensures in
     let z : 4 * (i + 1) ≡ 4 * i + 4 = omega arith in
     c.loop-i.invariant ∙ keys_next ed a.k (i + 1) (4 * i) c.loop-i.best a.w.now keys (omega arith) (omega arith)
@@ -27,5 +26,5 @@ pub returns : goal.returns
 returns c =
     let a = c.args in
     let i = c.loop-i.i in
-    let keys = a.keys.now in
-    sym (c.loop-i.invariant ∙ keys_end (edition (cells 4 keys) a.rules.now) a.k (i + 1) (4 * i) c.loop-i.best a.w.now keys (omega (arith, c.loop-i-test.false)))
+    let keys = a.edition.keys.now in
+    sym (c.loop-i.invariant ∙ keys_end (stated a.edition) a.k (i + 1) (4 * i) c.loop-i.best a.w.now keys (omega (arith, c.loop-i-test.false)))

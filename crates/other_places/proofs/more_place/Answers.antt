@@ -13,12 +13,12 @@ returns-then-k-eq0 c =
 pub returns-then-is_single : goal.returns-then-is_single
 returns-then-is_single c =
     let k = c.args.k in
-    let e = sym (ap single c.rule_in-rule.ensures) ∙ sym c.is_single.ensures ∙ c.if-is_single.true in
+    let e = sym (ap single c.rule-rule.ensures) ∙ sym c.is_single.ensures ∙ c.if-is_single.true in
     sym (rw (lt-ltb 0 k (omega arith), e))
 
 pub returns : goal.returns
 returns c =
     let a = c.args in
-    let e = sym (ap single c.rule_in-rule.ensures) ∙ sym c.is_single.ensures ∙ c.if-is_single.false in
-    let placed = c.rule_place.ensures ∙ ap (λ r. rule_place r a.w.now) c.rule_in-rule.ensures in
+    let e = sym (ap single c.rule-rule.ensures) ∙ sym c.is_single.ensures ∙ c.if-is_single.false in
+    let placed = c.rule_place.ensures ∙ ap (λ r. rule_place r a.w.now) c.rule-rule.ensures in
     sym (rw (lt-ltb 0 a.k (omega arith), e) (sym placed))

@@ -43,15 +43,15 @@ returns-then-w-o-ne47 c =
     sym (no_pair c.args.w.now c.end_of-o.result (signs (goal.at.returns-then-w-o-ne47 c).After-end_of-o) (wides climbs)
     (inside (goal.at.returns-then-w-o-ne47 c).After-end_of-o c.if-o-w.false) c.if-w-o-ne47.true)
 
-pub point_of_signs-requires : goal.point_of_signs-requires
-point_of_signs-requires c =
-    front_signs c.args.w.now c.end_of-o.result (signs (goal.at.point_of_signs-requires c).After-end_of-o)
+pub invariant_of-p : goal.invariant_of-p
+invariant_of-p c =
+    record { signs = front_signs c.args.w.now c.end_of-o.result (signs (goal.at.invariant_of-p c).After-end_of-o) }
 
-pub returns-then-not-point_of_signs : goal.returns-then-not-point_of_signs
-returns-then-not-point_of_signs c =
-    rw (told (goal.at.returns-then-not-point_of_signs c).Else-w-o-ne47, sym c.point_of_signs.ensures ∙ c.if-not-point_of_signs.true)
+pub returns-then-not-point : goal.returns-then-not-point
+returns-then-not-point c =
+    rw (told (goal.at.returns-then-not-point c).Else-w-o-ne47, sym c.point.ensures ∙ c.if-not-point.true)
 
 pub returns : goal.returns
 returns c =
-    rw (told (goal.at.returns c).Else-w-o-ne47, sym c.point_of_signs.ensures ∙ c.if-not-point_of_signs.false)
+    rw (told (goal.at.returns c).Else-w-o-ne47, sym c.point.ensures ∙ c.if-not-point.false)
     (c.climbed.ensures ∙ ap (any (wides climbs)) (rest c.args.w.now (c.end_of-o.result + 1)))

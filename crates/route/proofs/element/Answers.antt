@@ -17,9 +17,9 @@ inside : (c : After-end_of-o) → (c.end_of-o.result ≡ length c.args.w.now →
 inside c n =
     omega (arith, c.end_of-o.ensures.lower_bound.1)
 
-pub word-requires : goal.word-requires
-word-requires c =
-    whole_signs c.args.w.now c.end_of-o.result (signs (goal.at.word-requires c).After-end_of-o) c.if-o-w.true
+pub invariant_of-word : goal.invariant_of-word
+invariant_of-word c =
+    record { signs = whole_signs c.args.w.now c.end_of-o.result (signs (goal.at.invariant_of-word c).After-end_of-o) c.if-o-w.true }
 
 pub returns-then-o-w : goal.returns-then-o-w
 returns-then-o-w c =

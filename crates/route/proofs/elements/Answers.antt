@@ -55,9 +55,9 @@ wherever : (c : After-find-e) → (last : Bool) → element_fits last ((take (c.
 wherever c =
     anywhere ((take (c.find-e.result - c.loop-w.at) (drop c.loop-w.at c.args.s.now))) (c.end_of-o.result - c.loop-w.at) (there c) (further c)
 
-pub word-requires : goal.word-requires
-word-requires c =
-    signs (goal.at.word-requires c).After-end_of-o
+pub invariant_of-w : goal.invariant_of-w
+invariant_of-w c =
+    record { signs = signs (goal.at.invariant_of-w c).After-end_of-o }
 
 pub returns-then-o-s : goal.returns-then-o-s
 returns-then-o-s c =
@@ -65,9 +65,9 @@ returns-then-o-s c =
     c.word.ensures ∙ sym (c.loop-w.invariant.1 ∙ route_last c.args.s.now c.loop-w.at c.end_of-o.result n (omega arith)
     ∙ signs_plain true (take (c.end_of-o.result - c.loop-w.at) (drop c.loop-w.at c.args.s.now)) (signs (goal.at.returns-then-o-s c).After-end_of-o))
 
-pub word-requires-then-s-o-eq32 : goal.word-requires-then-s-o-eq32
-word-requires-then-s-o-eq32 c =
-    signs (goal.at.word-requires-then-s-o-eq32 c).After-end_of-o
+pub invariant_of-w-then-s-o-eq32 : goal.invariant_of-w-then-s-o-eq32
+invariant_of-w-then-s-o-eq32 c =
+    record { signs = signs (goal.at.invariant_of-w-then-s-o-eq32 c).After-end_of-o }
 
 pub returns-then-not-word : goal.returns-then-not-word
 returns-then-not-word c =

@@ -54,15 +54,15 @@ returns-then-eq c =
     rw (told (goal.at.returns-then-eq c).Else-w-o-ne47, sym c.eq.ensures ∙ c.if-eq.true)
     (c.climb.ensures ∙ climbs_rest c.args.w.now (c.args.o + 1))
 
-pub point_of_signs-requires : goal.point_of_signs-requires
-point_of_signs-requires c =
-    front_signs c.args.w.now c.args.o c.requires.1
+pub invariant_of-point : goal.invariant_of-point
+invariant_of-point c =
+    record { signs = front_signs c.args.w.now c.args.o c.requires.1 }
 
-pub returns-then-not-point_of_signs : goal.returns-then-not-point_of_signs
-returns-then-not-point_of_signs c =
-    rw (changing (goal.at.returns-then-not-point_of_signs c).Else-eq, sym c.point_of_signs.ensures ∙ c.if-not-point_of_signs.true)
+pub returns-then-not-point : goal.returns-then-not-point
+returns-then-not-point c =
+    rw (changing (goal.at.returns-then-not-point c).Else-eq, sym c.point.ensures ∙ c.if-not-point.true)
 
 pub returns : goal.returns
 returns c =
-    rw (changing (goal.at.returns c).Else-eq, sym c.point_of_signs.ensures ∙ c.if-not-point_of_signs.false)
+    rw (changing (goal.at.returns c).Else-eq, sym c.point.ensures ∙ c.if-not-point.false)
     (c.changed.ensures ∙ ap (any (wides changes)) (rest c.args.w.now (c.args.o + 1)))

@@ -6,7 +6,3 @@ use Rattle.route.proofs.point.Goals as goal
 pub returns-then-not-all_of : goal.returns-then-not-all_of
 returns-then-not-all_of c =
     sym (no_point _ _ (sym c.all_of.ensures ∙ c.if-not-all_of.true))
-
-pub point_of_signs-requires : goal.point_of_signs-requires
-point_of_signs-requires c =
-    sym c.all_of.ensures ∙ c.if-not-all_of.false

@@ -1,4 +1,4 @@
--- `route::point_of_signs` meets its contract. Assumes nothing.
+-- `route::SignWord::point` meets its contract. Assumes nothing.
 use mathlib.Core.Path.{◌≡◌, sym, ◌∙◌}
 use mathlib.Core.Bool.{false}
 use borrow.Author.Tests.{lt-ltb, le-ltb}
@@ -6,15 +6,15 @@ use Rattle.shape.specs.Shape.{fits, wide}
 use Rattle.shape.proofs.Index.{fits_lengths}
 use Rattle.route.specs.Points.{short, long, point_fits}
 use Rattle.route.proofs.Signs.{short_name}
-use Rattle.route.proofs.point_of_signs.Goals.{After-is_coordinate-2, Else-is_coordinate-2}
-use Rattle.route.proofs.point_of_signs.Goals as goal
+use Rattle.route.proofs.SignWord.point.Goals.{After-is_coordinate-2, Else-is_coordinate-2}
+use Rattle.route.proofs.SignWord.point.Goals as goal
 
-no-degrees : (c : After-is_coordinate-2) → fits (wide short) c.args.w.now ≡ false
+no-degrees : (c : After-is_coordinate-2) → fits (wide short) c.args.self.bytes.now ≡ false
 no-degrees c =
     sym c.is_coordinate.ensures ∙ c.if-is_coordinate.false
 
 -- where it is none
-no-minutes : (c : Else-is_coordinate-2) → fits (wide long) c.args.w.now ≡ false
+no-minutes : (c : Else-is_coordinate-2) → fits (wide long) c.args.self.bytes.now ≡ false
 no-minutes c =
     sym c.is_coordinate-2.ensures ∙ c.if-is_coordinate-2.false
 
@@ -24,7 +24,7 @@ returns-then-w-lt7 c =
 
 pub in_degrees-requires : goal.in_degrees-requires
 in_degrees-requires c =
-    fits_lengths (wide short) c.args.w.now (sym c.is_coordinate.ensures ∙ c.if-is_coordinate.true)
+    fits_lengths (wide short) c.args.self.bytes.now (sym c.is_coordinate.ensures ∙ c.if-is_coordinate.true)
 
 pub returns-then-is_coordinate : goal.returns-then-is_coordinate
 unfolding point_fits
@@ -33,7 +33,7 @@ returns-then-is_coordinate c =
 
 pub in_minutes-requires : goal.in_minutes-requires
 in_minutes-requires c =
-    fits_lengths (wide long) c.args.w.now (sym c.is_coordinate-2.ensures ∙ c.if-is_coordinate-2.true)
+    fits_lengths (wide long) c.args.self.bytes.now (sym c.is_coordinate-2.ensures ∙ c.if-is_coordinate-2.true)
 
 pub returns-then-is_coordinate-2 : goal.returns-then-is_coordinate-2
 unfolding point_fits

@@ -1,6 +1,6 @@
--- `route::word` meets its contract. Assumes nothing.
+-- `route::SignWord::word` meets its contract. Assumes nothing.
 use mathlib.Core.Path.{sym, ◌∙◌}
-use Rattle.route.proofs.word.Goals as goal
+use Rattle.route.proofs.SignWord.word.Goals as goal
 
 pub returns-then-eq : goal.returns-then-eq
 returns-then-eq c =
@@ -13,4 +13,4 @@ returns-then-is_indicator c =
 pub returns : goal.returns
 returns c =
     rw (sym c.eq.ensures ∙ c.if-eq.false, sym c.is_indicator.ensures ∙ c.if-is_indicator.false)
-    c.point_of_signs.ensures
+    c.point.ensures
