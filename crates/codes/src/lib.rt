@@ -2,48 +2,33 @@
 #![tactic(auto)]
 
 ghost use Rattle.std.specs.Prelude.{◌≡◌, ℕ, ◌+◌, ◌-◌, ◌*◌, ◌≤◌, ◌<◌, true, [], ◌∷◌, length, leb, ◌&&◌, take, drop, get_or};
+ghost use Rattle.std.specs.Iterator.{YieldsFirstRef, item_count};
 ghost use Rattle.text.specs.Words.{before, elem, rank, rank_from, cells};
 ghost use Rattle.codes.specs.Codes.{codes, codes_fit, is_index};
 
-// Where a code ends, and its digit: a space where it has none, as in a list's cell.
-#[derive(Clone, Copy)]
-struct Code {
-    end: usize,
-    digit: u8,
+// The codes of a text, from the first byte of `rest` on.
+#[derive(Drop)]
+struct Codes<'a> {
+    rest: &'a [u8],
 }
 
-// The code that begins at `at`: it ends behind the digit that follows it, if there is one.
-fn code_at(s: &[u8], at: usize) -> Code
-    requires { at < length s.now }
-    ensures s_value { codes (drop at s.now) ≡ take (result.end - at) (drop at s.now) ∷ codes (drop result.end s.now) }
-    ensures at_lt_end { (at < result.end) × (result.end ≤ length s.now) }
-    ensures digit_value { result.digit ≡ get_or (take (result.end - at) (drop at s.now)) 1 32 }
-{
-    match s.get(at + 1) {
-        Some(&digit) if alphabet::is_digit(digit) => Code { end: at + 2, digit },
-        _ => Code {
-            end: at + 1,
-            digit: b' ',
-        },
-    }
-}
+impl<'a> Iterator for Codes<'a> {
+    type Item = &'a [u8];
 
-// Whether w is one of the codes from `from` on.
-fn comes(w: &[u8], s: &[u8], from: usize) -> bool
-    requires { from ≤ length s.now }
-    ensures { result ≡ elem w.now (codes (drop from s.now)) }
-{
-    let mut at = from;
-    // A loop: how far a code reaches is known only where it stands.
-    while at < s.len() {
-        let c = code_at(s, at);
-        let e = c.end;
-        if text::same_bytes(w, &s[at..e]) {
-            return true;
-        }
-        at = e;
+    ghost next_gives = { YieldsFirstRef (λ s. codes s.rest.now) };
+
+    ghost remaining = { item_count (λ s. codes s.rest.now) };
+
+    fn next(&mut self) -> Option<&'a [u8]> {
+        let length = match self.rest {
+            [] => return None,
+            [_, digit, ..] if alphabet::is_digit(*digit) => 2,
+            _ => 1,
+        };
+        let (code, rest) = self.rest.split_at(length);
+        self.rest = rest;
+        Some(code)
     }
-    false
 }
 
 // The place of the cell b c in a list, counted from 1 and looked for behind the first f cells; 0 where it has none.
@@ -59,6 +44,13 @@ fn cell_behind(f: usize, b: u8, c: u8, list: &[u8]) -> usize
     0
 }
 
+// Whether w is one of the codes of s.
+fn comes(w: &[u8], s: &[u8]) -> bool
+    ensures { result ≡ elem w.now (codes s.now) }
+{
+    Codes { rest: s }.any(|v| w == v)
+}
+
 // A list of codes in cells of two bytes, with its index: how many codes stand before the first that begins with A, B, C, .. Z, a byte for each; where none
 // begins with it, all of them.
 #[derive(Clone, Copy)]
@@ -71,11 +63,12 @@ pub struct CodeList<'a> {
 impl<'a> CodeList<'a> {
     // The place of a code, counted from 1; 0 where it has none. A code that begins with a letter is looked for by the index; none begins with a space, since
     // the word of a cell has none.
-    fn rank(&self, w: &[u8], d: u8) -> usize
-        requires { (codes w.now ≡ w.now ∷ []) × (d ≡ get_or w.now 1 32) }
+    fn rank(&self, w: &[u8]) -> usize
+        requires { codes w.now ≡ w.now ∷ [] }
         ensures { result ≡ rank w.now (cells 2 self.now.list.now) }
     {
         let b = w[0];
+        let d = w.get(1).copied().unwrap_or(b' ');
         if alphabet::is_letter(b) {
             let before = usize::from(self.first[usize::from(b - b'A')]);
             return cell_behind(before, b, d, self.list);
@@ -92,14 +85,9 @@ impl<'a> CodeList<'a> {
         ensures { result ≡ codes_fit (cells 2 self.now.list.now) (codes s.now) }
     {
         let mut seen = [false; 64];
-        let mut at = 0;
-        // A loop, as in `comes`.
-        while at < s.len() {
-            let c = code_at(s, at);
-            let e = c.end;
-            let w = &s[at..e];
-            at = e;
-            let rank = self.rank(w, c.digit);
+        let mut codes = Codes { rest: s };
+        while let Some(w) = codes.next() {
+            let rank = self.rank(w);
             if rank == 0 {
                 return false;
             }
@@ -108,7 +96,7 @@ impl<'a> CodeList<'a> {
                     return false;
                 }
                 seen[rank] = true;
-            } else if comes(w, s, e) {
+            } else if comes(w, codes.rest) {
                 return false;
             }
         }

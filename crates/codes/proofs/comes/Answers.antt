@@ -1,17 +1,17 @@
 -- `codes::comes` meets its contract. Assumes nothing.
-use mathlib.Core.Path.{sym, ◌∙◌}
-use Rattle.text.proofs.Index.{drop_end}
-use borrow.Author.Rules.{rules}
+use Rattle.std.proofs.Common.{rules}
+use mathlib.Core.Path.{refl, ◌∙◌}
+use borrow.Author.Tests.{tests}
+use Rattle.std.proofs.lemmas.Iterator.Consumers.{YieldsList-from_first}
+use Rattle.std.proofs.lemmas.Iterator.Search.{any_from_yields_List}
+use Rattle.text.specs.Words.{same}
+use Rattle.text.proofs.Iterated.{same_listed, elem_listed}
+use Rattle.codes.specs.Codes.{codes}
 use Rattle.codes.proofs.comes.Goals as goal
-
-pub returns-then-same_bytes : goal.returns-then-same_bytes
-returns-then-same_bytes c =
-    sym (c.loop-at.invariant.1 ∙ rw (c.code_at-c.ensures.s_value, sym c.same_bytes.ensures ∙ c.if-same_bytes.true))
-
-pub loop-at-preserved : goal.loop-at-preserved
-loop-at-preserved c =
-    (search rules, c.loop-at.invariant.1 ∙ rw (c.code_at-c.ensures.s_value, sym c.same_bytes.ensures ∙ c.if-same_bytes.false))
 
 pub returns : goal.returns
 returns c =
-    sym (c.loop-at.invariant.1 ∙ rw (drop_end _ c.loop-at.at c.loop-at-test.false))
+    let a = c.args in
+    any_from_yields_List (λ v. same a.w.now v) c.any.new.self _ _ c.any.ensures.ran (YieldsList-from_first (λ x. x.now) (λ s. codes s.rest.now) (codes a.s.now) refl)
+    (λ x b q k. search (rules, tests, same_listed))
+    ∙ elem_listed a.w.now _

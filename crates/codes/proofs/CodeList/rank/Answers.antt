@@ -20,7 +20,7 @@ bounds c =
 
 pub bounds-w-0 : goal.bounds-w-0
 bounds-w-0 c =
-    code_some c.args.w.now c.requires.0
+    code_some c.args.w.now c.requires
 
 pub overflow_sub-b : goal.overflow_sub-b
 overflow_sub-b c =
@@ -40,14 +40,14 @@ returns-then-is_letter c =
     let passed = index_letter c.args.self.now.first.now _ c.args.self.now.indexed _ c.from.result f (begins (goal.at.returns-then-is_letter c).Then-is_letter)
     c.from.ensures c.from-before.ensures in
     c.cell_behind.ensures
-    ∙ rank-behind c.args.w.now c.requires.0 (letter_no_space _ (begins (goal.at.returns-then-is_letter c).Then-is_letter)) c.args.self.now.list.now f _ passed
-    c.requires.1
+    ∙ rank-behind c.args.w.now c.requires (letter_no_space _ (begins (goal.at.returns-then-is_letter c).Then-is_letter)) c.args.self.now.list.now f _ passed
+    (search rules)
 
 pub returns-then-b-eq32 : goal.returns-then-b-eq32
 returns-then-b-eq32 c =
-    sym (rank_space c.args.w.now c.requires.0 c.if-b-eq32.true c.args.self.now.list.now)
+    sym (rank_space c.args.w.now c.requires c.if-b-eq32.true c.args.self.now.list.now)
 
 pub returns : goal.returns
 returns c =
     c.cell_behind-2.ensures
-    ∙ rank-behind c.args.w.now c.requires.0 c.if-b-eq32.false c.args.self.now.list.now 0 _ refl c.requires.1
+    ∙ rank-behind c.args.w.now c.requires c.if-b-eq32.false c.args.self.now.list.now 0 _ refl (search rules)
