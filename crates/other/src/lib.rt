@@ -102,10 +102,7 @@ fn elapsed_in(w: &[u8]) -> Option<shape::Elapsed>
 fn is_selcal(w: &[u8]) -> bool
     ensures { result ≡ selcal w.now }
 {
-    if w.len() != 4 {
-        return false;
-    }
-    text::all_of(text::Kind::Letter, w)
+    text::some_of(text::Kind::Letter, 4, 4, w)
 }
 
 // CODE: six of 0..9 A..F.
@@ -240,21 +237,15 @@ fn plain_to(s: &[u8], from: usize) -> usize
     i
 }
 
-// The place of the last space behind `from` and not behind `to`; `from` where there is none. A loop over places: no part of s begins behind `from` where
-// both are its end.
+// The place of the last space from `from` on and before `to`; `from` where there is none.
 fn last_space(s: &[u8], from: usize, to: usize) -> usize
-    requires { (from ≤ to) × (from < to → to < length s.now) }
-    ensures lower_bound { (from ≤ result) × (result ≤ to) × (from < result → get_or s.now result 0 ≡ 32) }
-    ensures s_value { free 32 (take (to - result) (drop (result + 1) s.now)) ≡ true }
+    requires { (from ≤ to) × (to ≤ length s.now) }
+    ensures { (from ≤ result) × (result ≤ to) × (from < result → (result < to) × (get_or s.now result 0 ≡ 32)) }
 {
-    let mut i = to;
-    while from < i {
-        if s[i] == b' ' {
-            return i;
-        }
-        i -= 1;
+    match s[from..to].iter().rev().position(|&b| b == b' ') {
+        Some(k) => to - 1 - k,
+        None => from,
     }
-    i
 }
 
 // From e, where a word ends, over words that may follow it under a key of this rule, to where another ends: of a free rule, over as many as blocks of bytes

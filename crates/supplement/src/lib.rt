@@ -77,13 +77,7 @@ fn complete(stage: Stage) -> bool
 fn is_count(most: usize, w: &[u8]) -> bool
     ensures { result ≡ count most w.now }
 {
-    if w.len() < 1 {
-        return false;
-    }
-    if most < w.len() {
-        return false;
-    }
-    text::all_of(text::Kind::Digit, w)
+    text::some_of(text::Kind::Digit, 1, most, w)
 }
 
 // Whether w is letters of a set, at least one and none twice.
