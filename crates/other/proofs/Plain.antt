@@ -247,6 +247,7 @@ found_back s from to k l m r h e = go (ltb p (length back)) refl (sym e ∙ h)
         let at : get_or part (length part - 1 - p) 0 ≡ 32 = sym (get_or-reverse part p 0 g) ∙ passed in
         let i : length part - 1 - p < to - from = omega (arith, n, g) in
         let j : from + (length part - 1 - p) ≡ to - 1 - k = omega (arith, n, g, z) in
-        let there : get_or s (from + (length part - 1 - p)) 0 ≡ 32 = sym (get_or-drop from s (length part - 1 - p) 0) ∙ sym (get_or-take (to - from) (drop from s) (length part - 1 - p) 0 i) ∙ at in
+        let there : get_or s (from + (length part - 1 - p)) 0 ≡ 32 =
+        sym (get_or-drop from s (length part - 1 - p) 0) ∙ sym (get_or-take (to - from) (drop from s) (length part - 1 - p) 0 i) ∙ at in
         (omega (arith, n, g, z), ap (λ (x : ℕ). get_or s x 0) (sym j) ∙ there)
     go false f q = absurd (search rules)
