@@ -4,16 +4,15 @@ use mathlib.Core.Path.{◌≡◌, refl, sym, ap, ◌∙◌}
 use mathlib.Core.Bool.{Bool, true, false, ◌&&◌}
 use mathlib.Core.List.{List, [], ◌∷◌}
 use native.Mathlib.Omega.{arith}
-use lib.Dec.{leb, eqb, leb-suc-zero, leb-suc-suc}
+use lib.Dec.{eqb}
 use lib.ListN.{length, take, drop, length-take, length-drop}
 use lib.Seq.{take_all}
-use borrow.Author.Tests.{le-leb, eqb-true, eqb-false}
+use borrow.Author.Tests.{eqb-true, eqb-false}
 use Rattle.std.specs.Prelude.{Option, None}
 use Rattle.std.specs.Bool.{then_some}
 use Rattle.std.specs.Option.{option_and_then}
 use Rattle.text.specs.Words.{Word, all, null, same, split, up_to, text_word}
 use Rattle.text.proofs.Index.{split_at, after_here, after_end, drop_end, null-split}
-use Rattle.text.proofs.Tests.{and_false}
 use Rattle.shape.specs.Time.{time_fits, clock_hours, clock_fits, clock_of, clock_read, elapsed_hours, elapsed_fits, elapsed_of, elapsed_read}
 use Rattle.shape.proofs.Times.{time_length}
 use Rattle.aerodromes.specs.Aerodromes.{four_letters, joined, at_clock, at_elapsed, first, others}

@@ -17,10 +17,7 @@ use shape::{Clock, Elapsed};
 pub fn four_letters(w: &[u8]) -> bool
     ensures { result ≡ four_letters w.now }
 {
-    if w.len() != 4 {
-        return false;
-    }
-    text::all_of(text::Kind::Letter, w)
+    text::some_of(text::Kind::Letter, 4, 4, w)
 }
 
 // What is joined to an aerodrome: the bytes behind the four letters that w begins with, if it does.

@@ -1,12 +1,16 @@
 -- Counts in the fewest digits stay valid and are no longer; and the word without leading zeros is the word of the count in the fewest digits.
 -- Assumes nothing.
-use Prim.Native.Nat.{ℕ, zero, suc, ◌^◌, ◌<◌, ◌≤◌}
+use Prim.Native.Nat.{ℕ, zero, suc, ◌+◌, ◌-◌, ◌^◌, ◌<◌, ◌≤◌}
 use mathlib.Core.Path.{◌≡◌, refl, sym, ap, ap₂, ◌∙◌}
-use mathlib.Core.Bool.{Bool, true, false, cond}
+use mathlib.Core.Bool.{Bool, true, false, cond, not}
 use mathlib.Core.List.{[], ◌∷◌}
 use native.Mathlib.Omega.{arith}
+use borrow.Author.Rules.{rules}
+use Rattle.std.specs.Prelude.{Option, Some, None}
+use Rattle.std.specs.List.{position_or_len}
+use Rattle.std.proofs.lemmas.List.Sums.{prefix_len-le-length}
 use lib.Dec.{leb, ltb, eqb}
-use lib.ListN.{length}
+use lib.ListN.{length, drop}
 use borrow.Author.Tests.{ltb-true, ltb-false, lt-ltb, le-ltb, leb-true, le-leb, eqb-true, eqb-false}
 use Rattle.alphabet.specs.Alphabet.{digit}
 use Rattle.text.specs.Words.{Word, all}
@@ -70,6 +74,61 @@ module _ (most : ℕ) (c : Count) (v : valid_count most c ≡ true) where
   shortest_shorter = omega (arith, fewer, digits_length (fewest c.number) c.number, digits_length c.width c.number)
 
 -- LEADING ZEROS
+
+-- WHAT `position` FINDS: the first byte that is no zero
+
+abbrev pub first_kept : Word → ℕ
+first_kept w = position_or_len (λ b. not (eqb b 48)) w
+
+kept : (w : Word) → first_kept w < length w → stripped w ≡ drop (first_kept w) w
+kept [] l = absurd (omega (arith, l))
+kept (b ∷ []) l = go (eqb b 48) l
+  where
+    go : (q : Bool) → cond (not (not q)) (1 + 0) 0 < 1 → b ∷ [] ≡ drop (cond (not (not q)) (1 + 0) 0) (b ∷ [])
+    go true l = absurd (omega (arith, l))
+    go false l = refl
+kept (b ∷ (c ∷ w)) l = go (eqb b 48) l (λ k. kept (c ∷ w) k)
+  where
+    go : (q : Bool) → cond (not (not q)) (1 + first_kept (c ∷ w)) 0 < length (b ∷ (c ∷ w))
+        → (first_kept (c ∷ w) < length (c ∷ w) → stripped (c ∷ w) ≡ drop (first_kept (c ∷ w)) (c ∷ w))
+        → cond q (stripped (c ∷ w)) (b ∷ (c ∷ w)) ≡ drop (cond (not (not q)) (1 + first_kept (c ∷ w)) 0) (b ∷ (c ∷ w))
+    go true l f =
+        let n : suc (first_kept (c ∷ w)) ≡ 1 + first_kept (c ∷ w) = omega arith in
+        f (omega (arith, l)) ∙ ap (λ (m : ℕ). drop m (b ∷ (c ∷ w))) n
+    go false l f = refl
+
+zeros : (w : Word) → first_kept w ≡ length w → stripped w ≡ drop (length w - 1) w
+zeros [] e = refl
+zeros (b ∷ []) e = refl
+zeros (b ∷ (c ∷ w)) e = go (eqb b 48) e (λ k. zeros (c ∷ w) k)
+  where
+    go : (q : Bool) → cond (not (not q)) (1 + first_kept (c ∷ w)) 0 ≡ length (b ∷ (c ∷ w))
+        → (first_kept (c ∷ w) ≡ length (c ∷ w) → stripped (c ∷ w) ≡ drop (length (c ∷ w) - 1) (c ∷ w))
+        → cond q (stripped (c ∷ w)) (b ∷ (c ∷ w)) ≡ drop (length (b ∷ (c ∷ w)) - 1) (b ∷ (c ∷ w))
+    go true e f =
+        let n : suc (length (c ∷ w) - 1) ≡ length (b ∷ (c ∷ w)) - 1 = omega arith in
+        f (omega (arith, e)) ∙ ap (λ (m : ℕ). drop m (b ∷ (c ∷ w))) n
+    go false e f = absurd (omega (arith, e))
+
+module _ (w : Word) (r : Option ℕ) (found : r ≡ cond (ltb (first_kept w) (length w)) (Some (first_kept w)) None) where
+  pub stripped_some : (k : ℕ) → r ≡ Some k → (k ≤ length w) × (stripped w ≡ drop k w)
+  stripped_some k e = go (ltb (first_kept w) (length w)) refl (sym e ∙ found)
+    where
+      go : (t : Bool) → ltb (first_kept w) (length w) ≡ t → Some k ≡ cond t (Some (first_kept w)) None → (k ≤ length w) × (stripped w ≡ drop k w)
+      go true h q =
+          let l = ltb-true (first_kept w) (length w) h in
+          let z : k ≡ first_kept w = search rules in
+          (omega (arith, l, z), kept w l ∙ ap (λ (m : ℕ). drop m w) (sym z))
+      go false h q = absurd (search rules)
+
+  pub stripped_none : r ≡ None → stripped w ≡ drop (length w - 1) w
+  stripped_none e = go (ltb (first_kept w) (length w)) refl (sym e ∙ found)
+    where
+      go : (t : Bool) → ltb (first_kept w) (length w) ≡ t → None ≡ cond t (Some (first_kept w)) None → stripped w ≡ drop (length w - 1) w
+      go true h q = absurd (search rules)
+      go false h q =
+          let m : first_kept w ≤ length w = prefix_len-le-length _ w in
+          zeros w (omega (arith, m, ltb-false (first_kept w) (length w) h))
 
 pub stripped_shorter : (w : Word) → length (stripped w) ≤ length w
 stripped_shorter [] = omega arith

@@ -15,14 +15,10 @@ use supplement::Stage;
 fn stripped<'a>(w: &'a [u8]) -> &'a [u8]
     ensures { result.now ≡ stripped w.now }
 {
-    let mut rest = w;
-    while let [first, behind @ ..] = rest {
-        if behind.is_empty() || *first != b'0' {
-            return rest;
-        }
-        rest = behind;
+    match w.iter().position(|&b| b != b'0') {
+        Some(k) => &w[k..],
+        None => &w[w.len().saturating_sub(1)..],
     }
-    rest
 }
 
 // How many letters of a set stand in w.

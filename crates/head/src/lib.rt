@@ -22,24 +22,11 @@ pub fn run(digits: bool, s: &[u8]) -> usize
         .unwrap_or(s.len())
 }
 
-// Bytes of a kind, at least and at most so many.
-fn some_of(kind: Kind, least: usize, most: usize, w: &[u8]) -> bool
-    ensures { result ≡ (leb least (length w.now) && (leb (length w.now) most && all (of_kind kind) w.now)) }
-{
-    if w.len() < least {
-        return false;
-    }
-    if most < w.len() {
-        return false;
-    }
-    text::all_of(kind, w)
-}
-
 // 1 to 4 letters.
 pub fn is_unit(w: &[u8]) -> bool
     ensures { result ≡ unit w.now }
 {
-    some_of(Kind::Letter, 1, 4, w)
+    text::some_of(Kind::Letter, 1, 4, w)
 }
 
 // A message's number: a unit, the oblique, a unit and 3 digits.
@@ -109,7 +96,7 @@ pub fn fits_field3(s: &[u8]) -> bool
 pub fn is_identification(w: &[u8]) -> bool
     ensures { result ≡ identification_fits w.now }
 {
-    some_of(Kind::Sign, 2, 7, w)
+    text::some_of(Kind::Sign, 2, 7, w)
 }
 
 // Whether a content fits field 7's form.
@@ -169,7 +156,7 @@ pub fn is_type(w: &[u8]) -> bool
     ensures { result ≡ type_fits w.now }
 {
     match w.first() {
-        Some(b) => alphabet::is_letter(*b) && some_of(Kind::Sign, 2, 4, w),
+        Some(b) => alphabet::is_letter(*b) && text::some_of(Kind::Sign, 2, 4, w),
         None => false,
     }
 }

@@ -4,15 +4,19 @@ use mathlib.Core.Path.{◌≡◌, refl, sym, ap, ◌∙◌}
 use mathlib.Core.Bool.{Bool, true, false, cond, ◌&&◌, ◌||◌, not, false≢true}
 use mathlib.Core.List.{List, [], ◌∷◌, ◌++◌}
 use native.Mathlib.Omega.{arith}
+use Rattle.std.specs.Prelude.{Option, Some, None, reverse}
+use Rattle.std.specs.List.{position_or_len}
+use Rattle.std.proofs.lemmas.List.{length-reverse, get_or-reverse, get_or-take}
+use borrow.Author.Rules.{rules}
 use lib.Dec.{leb, ltb, eqb}
 use lib.ListN.{length, take, drop, get_or, length-drop}
-use lib.Seq.{drop-drop, get_or-drop}
-use borrow.Author.Tests.{eq-eqb, ne_eqb, eqb-true, eqb-false, ltb-true, ltb-false, not-true}
+use lib.Seq.{drop-drop, get_or-drop, length-take-le}
+use borrow.Author.Tests.{eq-eqb, eqb-true, eqb-false, ltb-true, ltb-false, not-true}
 use Rattle.alphabet.specs.Alphabet.{text, in_alphabet, white}
 use Rattle.alphabet.proofs.Every.{agree}
-use Rattle.text.specs.Words.{Word, split, onto, after, up_to, all, free, null, text_word}
+use Rattle.text.specs.Words.{Word, split, onto, after, up_to, all, null, text_word}
 use Rattle.text.specs.Pairs.{all_pairs}
-use Rattle.text.proofs.Index.{drop_here, find_here, split_cut, null-split}
+use Rattle.text.proofs.Index.{find_here, split_cut, null-split}
 use Rattle.text.proofs.Tests.{both, and_both}
 use Rattle.other.specs.Rules.{Edition18, rule_in, word_fits, single, more_fits}
 use Rattle.other.specs.Field18.{fit_more}
@@ -203,15 +207,47 @@ module _ (s : List ℕ) (from : ℕ) where
       ap (fit_more ed k) (after-append (r - from) (drop from s) (rw g z) ∙ ap (λ (t : List ℕ). after 32 (take (r - from) (drop from s)) ++ after 32 t) g)
       ∙ fit_over ed k (after 32 (take (r - from) (drop from s))) (after 32 (drop r s)) e
 
--- WALKING BACK from `to`, with no space behind i
+-- WHAT `position` FINDS passes the test
 
-module _ (s : List ℕ) (to : ℕ) where
-  pub back_start : free 32 (take (to - to) (drop (to + 1) s)) ≡ true
-  back_start = let n : to - to ≡ 0 = omega arith in rw n
+pub found_passes : (p : ℕ → Bool) (xs : List ℕ) → position_or_len p xs < length xs → p (get_or xs (position_or_len p xs) 0) ≡ true
+found_passes p [] l = absurd (omega (arith, l))
+found_passes p (x ∷ xs) l = go (p x) refl l (λ k. found_passes p xs k)
+  where
+    go : (b : Bool) → p x ≡ b → cond (not b) (1 + position_or_len p xs) 0 < length (x ∷ xs)
+        → (position_or_len p xs < length xs → p (get_or xs (position_or_len p xs) 0) ≡ true)
+        → p (get_or (x ∷ xs) (cond (not b) (1 + position_or_len p xs) 0) 0) ≡ true
+    go true e l f = e
+    go false e l f =
+        let n : 1 + position_or_len p xs ≡ suc (position_or_len p xs) = omega arith in
+        ap (λ (m : ℕ). p (get_or (x ∷ xs) m 0)) n ∙ f (omega (arith, l))
 
-  pub back_next : (i : ℕ) → 0 < i → i ≤ to → i < length s → (get_or s i 0 ≡ 32 → ⊥) → free 32 (take (to - i) (drop (i + 1) s)) ≡ true
-      → free 32 (take (to - (i - 1)) (drop (i - 1 + 1) s)) ≡ true
-  back_next i z l h n e =
-      let a : to - (i - 1) ≡ suc (to - i) = omega arith in
-      let b : i - 1 + 1 ≡ i = omega arith in
-      rw (a, b, drop_here s i h, ne_eqb (get_or s i 0) 32 n) e
+-- from the end of a part of s
+pub found_back : (s : List ℕ) (from to k : ℕ) → from ≤ to → to ≤ length s → (r : Option ℕ)
+    → let back = reverse (take (to - from) (drop from s)) in
+    r ≡ cond (ltb (position_or_len (λ b. eqb b 32) back) (length back)) (Some (position_or_len (λ b. eqb b 32) back)) None
+    → r ≡ Some k → (k < to - from) × (get_or s (to - 1 - k) 0 ≡ 32)
+found_back s from to k l m r h e = go (ltb p (length back)) refl (sym e ∙ h)
+  where
+    part : List ℕ
+    part = take (to - from) (drop from s)
+
+    back : List ℕ
+    back = reverse part
+
+    p : ℕ
+    p = position_or_len (λ b. eqb b 32) back
+
+    go : (t : Bool) → ltb p (length back) ≡ t → Some k ≡ cond t (Some p) None → (k < to - from) × (get_or s (to - 1 - k) 0 ≡ 32)
+    go true f q =
+        let n : length part ≡ to - from = length-take-le (to - from) (drop from s) (omega (arith, length-drop from s)) in
+        let b : p < length back = ltb-true p (length back) f in
+        let g : p < length part = omega (arith, b, length-reverse part) in
+        let z : k ≡ p = search rules in
+        let passed = eqb-true (get_or back p 0) 32 (found_passes (λ b. eqb b 32) back b) in
+        let at : get_or part (length part - 1 - p) 0 ≡ 32 = sym (get_or-reverse part p 0 g) ∙ passed in
+        let i : length part - 1 - p < to - from = omega (arith, n, g) in
+        let j : from + (length part - 1 - p) ≡ to - 1 - k = omega (arith, n, g, z) in
+        let there : get_or s (from + (length part - 1 - p)) 0 ≡ 32 =
+        sym (get_or-drop from s (length part - 1 - p) 0) ∙ sym (get_or-take (to - from) (drop from s) (length part - 1 - p) 0 i) ∙ at in
+        (omega (arith, n, g, z), ap (λ (x : ℕ). get_or s x 0) (sym j) ∙ there)
+    go false f q = absurd (search rules)

@@ -318,7 +318,8 @@ pub fn element(last: bool, w: &[u8]) -> bool
     joined(o, w)
 }
 
-// The words from `from` on. A loop over places: most words are of signs alone, and their end is found while their signs are read, so they are walked once.
+// The words from `from` on. A loop over places: most words are of signs alone, and their end is found while their signs are read, so they are walked once;
+// by `split` they are walked twice, in a quarter more instructions.
 fn elements(s: &[u8], from: usize) -> bool
     requires { from ≤ length s.now }
     ensures { result ≡ route_fits (split 32 (drop from s.now)) }

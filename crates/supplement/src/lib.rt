@@ -6,7 +6,7 @@ ghost use Rattle.supplement.specs.declared.Stage.TheVariants.{Refused};
 ghost use Rattle.supplement.specs.Field19.{D, by_letter, place as place_of, count, some_of, colour, fits19};
 ghost use Rattle.supplement.specs.Walk.{past as past_of, complete as complete_at, shaded, first as first_of, further as further_of, step as step_of};
 
-// What the last word was read as.
+// What the last word was read as. Refused is a stage, as `Walk.step` has it: behind a word that does not fit none does, so the stages of all words are a fold.
 #[derive(Clone, Copy)]
 pub enum Stage {
     Start,
@@ -77,16 +77,10 @@ fn complete(stage: Stage) -> bool
 fn is_count(most: usize, w: &[u8]) -> bool
     ensures { result ≡ count most w.now }
 {
-    if w.len() < 1 {
-        return false;
-    }
-    if most < w.len() {
-        return false;
-    }
-    text::all_of(text::Kind::Digit, w)
+    text::some_of(text::Kind::Digit, 1, most, w)
 }
 
-// Whether w is letters of a set, at least one and none twice.
+// Whether w is letters of a set, at least one and none twice. A loop: the pattern gives a letter and what is behind it, for which an iterator needs places.
 pub fn is_some_of(set: &[u8], w: &[u8]) -> bool
     ensures { result ≡ some_of set.now w.now }
 {

@@ -4,9 +4,9 @@ use mathlib.Core.Path.{◌≡◌, refl, sym, ap, ◌∙◌}
 use mathlib.Core.Bool.{Bool, true, false, cond, ◌&&◌, not, false≢true}
 use mathlib.Core.List.{List, [], ◌∷◌, ◌++◌}
 use native.Mathlib.Omega.{arith}
-use lib.Dec.{eqb}
+use lib.Dec.{eqb, leb}
 use lib.ListN.{length, drop}
-use borrow.Author.Tests.{eq-eqb, ne_eqb, eqb-true}
+use borrow.Author.Tests.{eq-eqb, ne_eqb, eqb-true, leb-true, leb-false}
 use Rattle.alphabet.specs.Alphabet.{one_of}
 use Rattle.text.specs.Words.{Word, all, null, free, same, elem, rank_from}
 
@@ -22,6 +22,15 @@ and_both a b p q = rw (p, q)
 pub and_false : (a b : Bool) → b ≡ false → (a && b) ≡ false
 and_false true b e = e
 and_false false b e = refl
+
+-- exactly so many, as at least and at most as many
+pub exactly : (k n : ℕ) (b : Bool) → (leb k n && (leb n k && b)) ≡ (eqb n k && b)
+exactly k n b = go (leb k n) refl (leb n k) refl
+  where
+    go : (l : Bool) → leb k n ≡ l → (m : Bool) → leb n k ≡ m → (l && (m && b)) ≡ (eqb n k && b)
+    go true e true f = let z : n ≡ k = omega (arith, leb-true k n e, leb-true n k f) in rw (eq-eqb n k z)
+    go true e false f = let l : k < n = leb-false n k f in rw (ne_eqb n k (omega arith))
+    go false e m f = let l : n < k = leb-false k n e in rw (ne_eqb n k (omega arith))
 
 -- AT EVERY ELEMENT
 

@@ -1,7 +1,7 @@
 // Cutting, comparing and copying bytes.
 #![tactic(auto)]
 
-ghost use Rattle.std.specs.Prelude.{◌≡◌, ℕ, ◌+◌, ◌≤◌, ◌<◌, length, drop, get_or};
+ghost use Rattle.std.specs.Prelude.{◌≡◌, ℕ, ◌+◌, ◌≤◌, ◌<◌, ◌&&◌, leb, length, drop, get_or};
 ghost use Rattle.text.specs.Words.{split, up_to, before, leading, all, free, text_word, same, elem, rank, rank_from, cells};
 ghost use Rattle.text.specs.Kinds.{of_kind};
 ghost use Rattle.text.specs.Places.{Stepped};
@@ -67,6 +67,19 @@ pub fn all_of(k: Kind, w: &[u8]) -> bool
     ensures { result ≡ all (of_kind k) w.now }
 {
     w.iter().all(|&b| is_kind(k, b))
+}
+
+// Whether w is bytes of a kind, at least and at most so many.
+pub fn some_of(k: Kind, least: usize, most: usize, w: &[u8]) -> bool
+    ensures { result ≡ (leb least (length w.now) && (leb (length w.now) most && all (of_kind k) w.now)) }
+{
+    if w.len() < least {
+        return false;
+    }
+    if most < w.len() {
+        return false;
+    }
+    all_of(k, w)
 }
 
 // Where the bytes of a kind end that begin at `from`: the place of the first that is none, or the length.

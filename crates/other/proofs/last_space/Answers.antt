@@ -1,29 +1,30 @@
 -- `other::last_space` meets its contract. Assumes nothing.
-use Prim.Native.Nat.{◌<◌}
+use Rattle.std.proofs.Common.{rules}
 use native.Mathlib.Omega.{arith}
-use Rattle.other.proofs.Plain.{back_start, back_next}
+use lib.Dec.{eqb}
+use lib.ListN.{take, drop, get_or}
+use borrow.Author.Tests.{tests}
+use Prim.Native.Nat.{◌-◌, ◌<◌}
+use mathlib.Core.Path.{◌≡◌}
+use Rattle.std.proofs.lemmas.Iterator.Search.{position_from_yields_List}
+use Rattle.std.proofs.lemmas.Iterator.Adapters.{YieldsList-from_rev_slice}
+use Rattle.other.proofs.Plain.{found_back}
+use Rattle.other.proofs.last_space.Goals.{In-Some}
 use Rattle.other.proofs.last_space.Goals as goal
 
-pub loop-i-init : goal.loop-i-init
-loop-i-init c =
-    (c.requires.0, omega arith, c.requires.1, back_start c.args.s.now c.args.to)
-
-pub bounds-s-i : goal.bounds-s-i
-bounds-s-i c =
-    c.loop-i.invariant.2 c.loop-i-test.true
-
-pub returns-then-s-i-eq32 : goal.returns-then-s-i-eq32
-returns-then-s-i-eq32 c =
-    let i = c.loop-i.invariant in record { lower_bound = (i.0, i.1, λ h. c.if-s-i-eq32.true); s_value = i.3 }
-
-pub loop-i-preserved : goal.loop-i-preserved
-loop-i-preserved c =
+-- where the last space stands, counted from the end
+found : (c : In-Some) → (c.in-Some.k < c.args.to - c.args.from) × (get_or c.args.s.now (c.args.to - 1 - c.in-Some.k) 0 ≡ 32)
+found c =
     let a = c.args in
-    let i = c.loop-i.invariant in
-    let h = i.2 c.loop-i-test.true in
-    let z : 0 < c.loop-i.i = omega arith in
-    (omega arith, omega arith, λ k. omega arith, back_next a.s.now a.to c.loop-i.i z i.1 h c.if-s-i-eq32.false i.3)
+    let back = position_from_yields_List (λ b. eqb b 32) _ _ c.position.result c.position.ensures.ran
+    (YieldsList-from_rev_slice (take (a.to - a.from) (drop a.from a.s.now)) (search rules)) (λ x b q k. search (rules, tests)) in
+    found_back a.s.now a.from a.to c.in-Some.k c.requires.0 c.requires.1 c.position.result back c.in-Some.is
 
-pub returns : goal.returns
-returns c =
-    let i = c.loop-i.invariant in record { lower_bound = (i.0, i.1, λ h. absurd (omega arith)); s_value = i.3 }
+pub overflow_sub-result : goal.overflow_sub-result
+overflow_sub-result c =
+    omega (arith, (found (goal.at.overflow_sub-result c).In-Some).0)
+
+pub returns-in-Some : goal.returns-in-Some
+returns-in-Some c =
+    let f = found (goal.at.returns-in-Some c).In-Some in
+    (omega (arith, f.0), omega (arith, f.0), λ h. (omega (arith, f.0), f.1))
