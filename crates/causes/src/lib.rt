@@ -58,11 +58,10 @@ fn amended_cause<'a>(role: Role, plan: &'a [u8], said: &'a [u8]) -> Cause
     let mut new = [0u8; strip::ROOM];
     let n = amending::write_amended(role, plan, said, &mut new);
     let e = n - 1;
-    let field = message::unexplained_in(&new[1..e]);
-    if field == 0 {
-        return Cause::NothingMore;
+    match message::unexplained_in(&new[1..e]) {
+        None => Cause::NothingMore,
+        Some(field) => Cause::Missing(key_for(field, &new[1..e])),
     }
-    Cause::Missing(key_for(field, &new[1..e]))
 }
 
 // Numbers 12 and 13, and what the amended plan gives.

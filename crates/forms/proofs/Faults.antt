@@ -5,11 +5,13 @@ use mathlib.Core.Bool.{Bool, true, false, cond, ◌&&◌}
 use mathlib.Core.List.{List, [], ◌∷◌}
 use native.Mathlib.Omega.{arith}
 use lib.Dec.{ltb, eqb}
-use borrow.Author.Tests.{eqb-false, eq-eqb, ne_eqb, lt-ltb}
+use borrow.Author.Tests.{eqb-true, eqb-false, eq-eqb, ne_eqb, lt-ltb}
 use Rattle.alphabet.specs.Alphabet.{one_of}
 use Rattle.text.specs.Words.{holds, before, behind}
 use Rattle.text.proofs.Tests.{both, and_both}
 use Rattle.forms.specs.Field22.{field_named, which_of, fits22, numbered, fault22}
+use Rattle.forms.specs.Forms.{judged}
+use Rattle.std.specs.Prelude.{Result, Ok, Err}
 use Rattle.forms.proofs.Labels.{ranked_label}
 use Rattle.forms.proofs.Field22.{fitting}
 
@@ -93,3 +95,23 @@ module _ (again : Bool) (s : List ℕ) where
       pub wrong : again ≡ false → fits22 s ≡ false → 7 ≡ fault22 again s
       unfolding fault22
       wrong a f = rw (e, ne_eqb (which_of s) 0 h, a, unfit f)
+
+-- BY THE NUMBER GIVEN BACK: what is right has none, and what is wrong has one
+
+abbrev number_in : Result Unit ℕ → ℕ
+number_in (Err n) = n
+number_in (Ok u) = 0
+
+pub judged_right : (n : ℕ) → judged n ≡ Ok tt → n ≡ 0
+judged_right n e = go (eqb n 0) refl e
+  where
+    go : (b : Bool) → eqb n 0 ≡ b → ◌≡◌ {A = Result Unit ℕ} (cond b (Ok tt) (Err n)) (Ok tt) → n ≡ 0
+    go true p e = eqb-true n 0 p
+    go false p e = cc
+
+pub judged_wrong : (n k : ℕ) → judged n ≡ Err k → (k ≡ n) × (k ≡ 0 → ⊥)
+judged_wrong n k e = go (eqb n 0) refl e
+  where
+    go : (b : Bool) → eqb n 0 ≡ b → ◌≡◌ {A = Result Unit ℕ} (cond b (Ok tt) (Err n)) (Err k) → (k ≡ n) × (k ≡ 0 → ⊥)
+    go true p e = cc
+    go false p e = let same : n ≡ k = ap number_in e in (cc, λ z. eqb-false n 0 p (same ∙ z))

@@ -21,7 +21,6 @@ use Rattle.aerodromes.specs.Field16.{field16, field16plan}
 use Rattle.aerodromes.specs.Field17.{field17}
 use Rattle.route.specs.Field15.{field15}
 use Rattle.other.specs.Field18.{field18}
-use Rattle.supplement.specs.Field19.{fits19}
 use Rattle.canonical.specs.Canonical.{written19}
 use Rattle.head.proofs.Field3.{field3_laws}
 use Rattle.head.proofs.Field7.{field7_laws}
@@ -151,23 +150,6 @@ written_read f s e =
 
 -- BY THE NUMBER OF A FORM
 
--- one form has the number 19
-nineteen_is : (f : Form) → eqb (number_of f) 19 ≡ true → f ≡ Field19
-nineteen_is Field3 e = absurd (false≢true e)
-nineteen_is Field7 e = absurd (false≢true e)
-nineteen_is Field8 e = absurd (false≢true e)
-nineteen_is Field9 e = absurd (false≢true e)
-nineteen_is Field10 e = absurd (false≢true e)
-nineteen_is Field13 e = absurd (false≢true e)
-nineteen_is Field13Open e = absurd (false≢true e)
-nineteen_is Field15 e = absurd (false≢true e)
-nineteen_is Field16 e = absurd (false≢true e)
-nineteen_is Field16Plan e = absurd (false≢true e)
-nineteen_is Field17 e = absurd (false≢true e)
-nineteen_is Field18 e = absurd (false≢true e)
-nineteen_is Field19 e = refl
-nineteen_is Field22 e = absurd (false≢true e)
-
 module _ (f : Form) (s : List ℕ) (n : ℕ) (e : n ≡ number_of f) where
   pub is_entry_lem : n ≡ 22 → is_entry f ≡ true
   is_entry_lem h = eq-eqb (number_of f) 22 (sym e ∙ h)
@@ -175,23 +157,8 @@ module _ (f : Form) (s : List ℕ) (n : ℕ) (e : n ≡ number_of f) where
   pub no_entry : (n ≡ 22 → ⊥) → is_entry f ≡ false
   no_entry h = ne_eqb (number_of f) 22 (λ q. h (e ∙ q))
 
-  pub is_rewritten : n ≡ 19 → written_of f s ≡ written19 s
-  is_rewritten h = rw (eq-eqb (number_of f) 19 (sym e ∙ h))
-
-  pub fits_nineteen : n ≡ 19 → (field_of f).fits s ≡ true → fits19 s ≡ true
-  fits_nineteen h k = ap (λ (g : Form). (field_of g).fits s) (sym (nineteen_is f (eq-eqb (number_of f) 19 (sym e ∙ h)))) ∙ k
-
-  pub no_rewritten : (n ≡ 19 → ⊥) → written_of f s ≡ s
-  no_rewritten h = rw (ne_eqb (number_of f) 19 (λ q. h (e ∙ q)))
-
   pub entry_rank : n ≡ 22 → which_of s ≡ rank_in f s
   entry_rank h = rw (is_entry_lem h)
 
   pub other_rank : (n ≡ 22 → ⊥) → 0 ≡ rank_in f s
   other_rank h = rw (no_entry h)
-
-  pub entry_fault : (again : Bool) → n ≡ 22 → fault22 again s ≡ fault_of again f s
-  entry_fault again h = rw (is_entry_lem h)
-
-  pub other_fault : (again b : Bool) → b ≡ (field_of f).fits s → (n ≡ 22 → ⊥) → cond b 0 7 ≡ fault_of again f s
-  other_fault again b q h = rw (no_entry h) (ap (λ (d : Bool). cond d 0 7) q)

@@ -1,5 +1,5 @@
 -- Each form of a field: what it is, what is wrong with a content, and what is written of it. Assumes nothing.
-use Rattle.std.specs.Prelude.{ℕ, ◌≡◌, refl, Bool, true, false, cond, List, eqb}
+use Rattle.std.specs.Prelude.{ℕ, ◌≡◌, refl, Bool, true, false, cond, List, eqb, Result, Ok, Err}
 use Rattle.alphabet.specs.Text.{bytes}
 use Rattle.shape.specs.Field.{Field}
 use Rattle.shape.specs.Time.{time_fits}
@@ -49,6 +49,10 @@ rank_in f s = cond (is_entry f) (which_of s) 0
 -- the number given back for a content, 0 for none; `again`: an earlier entry names the same field
 abbrev pub fault_of : Bool → Form → List ℕ → ℕ
 fault_of again f s = cond (is_entry f) (fault22 again s) (cond ((field_of f).fits s) 0 7)
+
+-- by the number given back, 0 for none: it is right, or it has the number
+abbrev pub judged : ℕ → Result Unit ℕ
+judged number = cond (eqb number 0) (Ok tt) (Err number)
 
 -- what is written of a content that fits: the content itself, but for field 19
 abbrev pub written_of : Form → List ℕ → List ℕ

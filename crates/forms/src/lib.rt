@@ -4,7 +4,7 @@
 ghost use Rattle.std.specs.Prelude.{◌≡◌, ◌≤◌, true, ◌&&◌, ltb, length};
 ghost use Rattle.text.specs.Lent.{front};
 ghost use Rattle.forms.specs.Field22.{field_named, which_of, fits22, numbered, fault22};
-ghost use Rattle.forms.specs.Forms.{field_of, rank_in, fault_of, written_of};
+ghost use Rattle.forms.specs.Forms.{field_of, rank_in, fault_of, judged, written_of};
 
 use kinds::Form;
 
@@ -61,26 +61,27 @@ fn is_numbered(s: &[u8]) -> bool
     text::all_of(text::Kind::Digit, &s[..o])
 }
 
-// What is wrong with an entry; `again`: an earlier one has its number.
-fn fault_of_entry(again: bool, s: &[u8]) -> u8
-    ensures { result ≡ fault22 again s.now }
+// What is wrong with an entry, by the number given back; `again`: an earlier one has its number.
+#[tactic(auto, unfolding(crate::specs::Field22::fault22))]
+fn fault_of_entry(again: bool, s: &[u8]) -> Result<(), u8>
+    ensures { result ≡ judged (fault22 again s.now) }
 {
     if !is_numbered(s) {
-        return 7;
+        return Err(7);
     }
     if rank_of_entry(s) == 0 {
-        return 8;
+        return Err(8);
     }
     if again {
-        return 9;
+        return Err(9);
     }
     if fits_entry(s) {
-        return 0;
+        return Ok(());
     }
-    7
+    Err(7)
 }
 
-// Whether a content fits a form.
+// Whether a content fits a form. One arm for each form: a match on an enum is the plain dispatch, with no table of functions.
 pub fn fits_form(f: Form, s: &[u8]) -> bool
     ensures { result ≡ (field_of f).fits s.now }
 {
@@ -112,27 +113,29 @@ pub fn rank_in(f: Form, s: &[u8]) -> usize
     0
 }
 
-// The number given back for a content, 0 for none; `again`: an earlier entry names the same field.
-pub fn fault_of(again: bool, f: Form, s: &[u8]) -> u8
-    ensures { result ≡ fault_of again f s.now }
+// What is wrong with a content, by the number given back; `again`: an earlier entry names the same field.
+pub fn fault_of(again: bool, f: Form, s: &[u8]) -> Result<(), u8>
+    ensures { result ≡ judged (fault_of again f s.now) }
 {
-    if f.number() == 22 {
-        return fault_of_entry(again, s);
+    match f {
+        Form::Field22 => fault_of_entry(again, s),
+        _ => {
+            if fits_form(f, s) {
+                return Ok(());
+            }
+            Err(7)
+        }
     }
-    if fits_form(f, s) {
-        return 0;
-    }
-    7
 }
 
 // How many bytes are written of a content.
 pub fn spelled_length(f: Form, s: &[u8]) -> usize
     ensures { result ≡ length (written_of f s.now) }
 {
-    if f.number() == 19 {
-        return canonical::spelled_length(s);
+    match f {
+        Form::Field19 => canonical::spelled_length(s),
+        _ => s.len(),
     }
-    s.len()
 }
 
 // Writes a content that fits its form at the front of `out`, in its canonical spelling; the bytes behind it stay.
@@ -140,8 +143,8 @@ pub fn write_fitting(f: Form, s: &[u8], out: &mut [u8]) -> usize
     requires { ((field_of f).fits s.now ≡ true) × (length (written_of f s.now) ≤ length out.old) }
     ensures { (result ≡ length (written_of f s.now)) × (out.new ≡ front (written_of f s.now) out.old) }
 {
-    if f.number() != 19 {
-        return text::put(s, out);
+    match f {
+        Form::Field19 => canonical::write_fitting19(s, out),
+        _ => text::put(s, out),
     }
-    canonical::write_fitting19(s, out)
 }

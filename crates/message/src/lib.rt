@@ -11,6 +11,7 @@ ghost use Rattle.outer.specs.Outer.{most, outer};
 ghost use Rattle.kinds.specs.Kinds.{forms_of, most_fields, least_of, greatest_of};
 ghost use Rattle.forms.specs.Forms.{field_of, written_of};
 ghost use Rattle.form_places.specs.Places.{place_in};
+ghost use Rattle.plan.specs.Unexplained.{numbered};
 ghost use Rattle.message.specs.Ends.{Ends, Noted};
 ghost use Rattle.message.specs.Reading.{
   fault_in,
@@ -135,8 +136,7 @@ fn fields_fault(t: MessageType, count: usize, s: &[u8], ends: &FieldEnds) -> Res
         let e = ends[j];
         let form = row[j];
         let rank = forms::rank_in(form, &s[at..e]);
-        let number = forms::fault_of(seen[rank], form, &s[at..e]);
-        if number != 0 {
+        if let Err(number) = forms::fault_of(seen[rank], form, &s[at..e]) {
             return Err(FieldFault { number, field: j });
         }
         if e == s.len() {
@@ -211,9 +211,9 @@ pub fn onward(s: &[u8], from: Cursor, n: usize) -> Cursor
     c
 }
 
-// The field of a plan that is left unexplained, by its number; 0 for none.
-pub fn unexplained_in(plan: &[u8]) -> u8
-    ensures { result ≡ unexplained_in (split 45 plan.now) }
+// The number of the leftmost field of a plan that is left unexplained.
+pub fn unexplained_in(plan: &[u8]) -> Option<u8>
+    ensures { result ≡ numbered (unexplained_in (split 45 plan.now)) }
 {
     let nine = onward(plan, Cursor { at: 0 }, kinds::PLAN_9);
     let thirteen = onward(plan, nine, kinds::PLAN_13 - kinds::PLAN_9);
@@ -228,9 +228,9 @@ pub fn unexplained_in(plan: &[u8]) -> u8
 }
 
 // The same, of a plan whose fields' ends are known.
-fn unexplained_by(plan: &[u8], ends: &FieldEnds) -> u8
+fn unexplained_by(plan: &[u8], ends: &FieldEnds) -> Option<u8>
     requires { Ends plan.now ends.now × (length (split 45 plan.now) ≡ 9) }
-    ensures { result ≡ unexplained_in (split 45 plan.now) }
+    ensures { result ≡ numbered (unexplained_in (split 45 plan.now)) }
 {
     plan::unexplained_field(
         content_at(plan, ends, kinds::PLAN_9),
@@ -305,8 +305,7 @@ fn read_explained(
         × (out.new ≡ written_as (fault_as (Ok tt) t msg.now (length out.old)) msg.now out.old) }
 {
     if is_plan(t) {
-        let field = unexplained_by(s, ends);
-        if field != 0 {
+        if let Some(field) = unexplained_by(s, ends) {
             return Err(Refusal {
                 number: 10,
                 field,
@@ -425,7 +424,7 @@ fn is_plan_text(t: MessageType, count: usize, s: &[u8]) -> bool
     ensures { result ≡ (is_ok (fault_in t count (split 45 s.now)) && eqb (unexplained_in (split 45 s.now)) 0) }
 {
     let ends = field_ends(s);
-    fields_fault(t, count, s, &ends).is_ok() && unexplained_by(s, &ends) == 0
+    fields_fault(t, count, s, &ends).is_ok() && unexplained_by(s, &ends).is_none()
 }
 
 // Whether a message of a type is a plan and its own reduction, and numbers 6 to 11 let it pass.

@@ -163,8 +163,7 @@ fn amend<'a>(role: Role, next: Strip, plan: &'a [u8], said: &'a [u8], out: &mut 
     let mut new = [0u8; ROOM];
     let n = amending::write_amended(role, plan, said, &mut new);
     let e = n - 1;
-    let field = message::unexplained_in(&new[1..e]);
-    if field != 0 {
+    if let Some(field) = message::unexplained_in(&new[1..e]) {
         return Err(Refusal {
             number: 10,
             field,

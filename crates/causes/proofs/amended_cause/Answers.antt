@@ -1,17 +1,19 @@
 -- `causes::amended_cause` meets its contract. Assumes nothing.
 use Prim.Native.Nat.{ℕ, ◌-◌, ◌≤◌}
-use mathlib.Core.Path.{◌≡◌, ap, ◌∙◌}
+use mathlib.Core.Path.{◌≡◌, refl, sym, ap, ◌∙◌}
 use mathlib.Core.List.{List}
 use native.Mathlib.Omega.{arith}
 use lib.ListN.{length, take, drop}
-use Rattle.text.specs.Words.{split}
+use Rattle.text.specs.Words.{Word, split}
+use Rattle.plan.specs.Unexplained.{numbered}
+use Rattle.plan.proofs.Laws.{numbered_none, numbered_some}
 use Rattle.message.specs.Reading.{unexplained_in}
 use Rattle.opening.proofs.Steps.{front_text}
 use Rattle.amending.specs.Amended.{amended, new_strip}
 use Rattle.amending.proofs.Room.{new_room, new_two, new_cut}
 use Rattle.causes.specs.Causes.{key_for}
 use Rattle.causes.proofs.Steps.{explained, unexplained}
-use Rattle.causes.proofs.amended_cause.Goals.{After-unexplained_in-field, After-write_amended-n}
+use Rattle.causes.proofs.amended_cause.Goals.{After-unexplained_in, After-write_amended-n}
 use Rattle.causes.proofs.amended_cause.Goals as goal
 
 long : (c : After-write_amended-n) → c.write_amended-n.result ≡ length (new_strip c.args.role c.args.plan.now c.args.said.now)
@@ -34,7 +36,7 @@ text_there c =
     ∙ ap (split 45) (front_text _ _ c.write_amended-n.result (long c) (two c))
     ∙ new_cut c.args.plan.now c.args.said.now c.args.role
 
-field_is : (c : After-unexplained_in-field) → c.unexplained_in-field.result ≡ unexplained_in (amended c.args.role c.args.plan.now c.args.said.now)
+field_is : (c : After-unexplained_in) → c.unexplained_in.result ≡ numbered (unexplained_in (amended c.args.role c.args.plan.now c.args.said.now))
 field_is c =
     let long : c.write_amended-n.result ≡ length (new_strip c.args.role c.args.plan.now c.args.said.now) = c.write_amended-n.ensures.0 in
     let two : 2 ≤ c.write_amended-n.result = omega (arith, long, new_two c.args.plan.now c.args.said.now c.args.role) in
@@ -43,7 +45,7 @@ field_is c =
     c.write_amended-n.ensures.1
     ∙ ap (split 45) (front_text _ _ c.write_amended-n.result long two)
     ∙ new_cut c.args.plan.now c.args.said.now c.args.role in
-    c.unexplained_in-field.ensures ∙ ap unexplained_in text_there
+    c.unexplained_in.ensures ∙ ap (λ (cs : List Word). numbered (unexplained_in cs)) text_there
 
 pub write_amended-n-requires : goal.write_amended-n-requires
 write_amended-n-requires c =
@@ -65,10 +67,10 @@ pub slice_bounds-unexplained_in-end : goal.slice_bounds-unexplained_in-end
 slice_bounds-unexplained_in-end c =
     omega (arith, inside (goal.at.slice_bounds-unexplained_in-end c).After-write_amended-n)
 
-pub returns-then-field-eq0 : goal.returns-then-field-eq0
-returns-then-field-eq0 c =
-    explained (amended c.args.role c.args.plan.now c.args.said.now) _ (field_is (goal.at.returns-then-field-eq0 c).After-unexplained_in-field)
-    c.if-field-eq0.true
+pub returns-in-None : goal.returns-in-None
+returns-in-None c =
+    explained (amended c.args.role c.args.plan.now c.args.said.now) _ refl
+    (numbered_none _ (sym (field_is (goal.at.returns-in-None c).After-unexplained_in) ∙ c.in-None.is))
 
 pub slice_bounds-key_for-count : goal.slice_bounds-key_for-count
 slice_bounds-key_for-count c =
@@ -82,7 +84,8 @@ pub slice_bounds-key_for-end : goal.slice_bounds-key_for-end
 slice_bounds-key_for-end c =
     omega (arith, inside (goal.at.slice_bounds-key_for-end c).After-write_amended-n)
 
-pub returns : goal.returns
-returns c =
-    unexplained (amended c.args.role c.args.plan.now c.args.said.now) _ (field_is (goal.at.returns c).After-unexplained_in-field) c.if-field-eq0.false _
-    (c.key_for.ensures ∙ ap (key_for c.unexplained_in-field.result) (text_there (goal.at.returns c).After-write_amended-n))
+pub returns-in-Some : goal.returns-in-Some
+returns-in-Some c =
+    let n = numbered_some _ _ (sym (field_is (goal.at.returns-in-Some c).After-unexplained_in) ∙ c.in-Some.is) in
+    unexplained (amended c.args.role c.args.plan.now c.args.said.now) _ n.0 n.1 _
+    (c.key_for.ensures ∙ ap (key_for c.in-Some.field) (text_there (goal.at.returns-in-Some c).After-write_amended-n))

@@ -8,10 +8,10 @@ use Rattle.message.specs.Ends.{start_in}
 use Rattle.message.proofs.Walk.{Walked}
 use Rattle.message.proofs.fields_fault.Given as goal
 
-abbrev pub invariant-loop-row : goal.invariant-loop-row
-invariant-loop-row l =
+abbrev pub invariant-loop-number : goal.invariant-loop-number
+invariant-loop-number l =
     ((t : MessageType) → RowFor t l.count l.row → length (forms_of t l.count) ≡ length (split 45 l.s) → Walked t l.count l.s l.seen l.at l.j)
     × (l.at ≡ start_in l.ends l.j)
 
-abbrev pub decreases-loop-row : goal.decreases-loop-row
-decreases-loop-row l = length l.s - l.at
+abbrev pub decreases-loop-number : goal.decreases-loop-number
+decreases-loop-number l = length l.s - l.at

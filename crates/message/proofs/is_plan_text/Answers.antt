@@ -1,8 +1,10 @@
 -- `message::is_plan_text` meets its contract. Assumes nothing.
-use mathlib.Core.Path.{◌≡◌}
+use mathlib.Core.Path.{◌≡◌, sym, ap, ◌∙◌}
 use native.Mathlib.Omega.{arith}
 use lib.ListN.{length}
 use Rattle.text.specs.Words.{split}
+use Rattle.std.specs.Prelude.{is_some}
+use Rattle.plan.proofs.Laws.{numbered_free}
 use Rattle.message.proofs.Plans.{nine_contents}
 use Rattle.message.proofs.is_plan_text.Goals.{Start}
 use Rattle.message.proofs.is_plan_text.Goals as goal
@@ -25,7 +27,8 @@ unexplained_by-requires c =
 
 pub returns-then-is_ok : goal.returns-then-is_ok
 returns-then-is_ok c =
-    rw (← c.fields_fault.ensures, ← c.is_ok.ensures.value, c.if-is_ok.true, ← c.unexplained_by.ensures)
+    rw (← c.fields_fault.ensures, ← c.is_ok.ensures.value, c.if-is_ok.true)
+    (numbered_free _ _ (ap is_some (sym c.unexplained_by.ensures) ∙ c.is_none.ensures))
 
 pub returns-else-is_ok : goal.returns-else-is_ok
 returns-else-is_ok c =

@@ -17,8 +17,11 @@ pub returns-then-not-has_room : goal.returns-then-not-has_room
 returns-then-not-has_room c =
     let h = leb-false (length (spelled_from 40 (forms_of c.args.t c.args.count) (split 45 c.args.s.now))) (length c.args.out.now)
     (sym c.has_room.ensures ∙ c.if-not-has_room.true) in
-    rw (c.of.ensures, room_short _ _ _ _ c.requires.0 (length c.args.out.now) (length (spelled_from 40 (forms_of c.args.t c.args.count)
-        (split 45 c.args.s.now))) refl h)
+    rw (
+      c.of.ensures,
+      room_short _ _ _ _ c.requires.0 (length c.args.out.now) (length (spelled_from 40 (forms_of c.args.t c.args.count)
+          (split 45 c.args.s.now))) refl h,
+    )
     (refl, refl)
 
 pub write_fields-n-requires : goal.write_fields-n-requires
