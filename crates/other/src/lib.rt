@@ -285,10 +285,9 @@ fn item(keys: &[u8], rules: &[u8], s: &[u8], at: usize, o: usize, last: usize) -
     requires rules_value { sound_keys (edition (cells 4 keys.now) rules.now) ≡ true }
     ensures { result ≡ fit_from (edition (cells 4 keys.now) rules.now) last (split 32 (drop at s.now)) }
 {
-    let k = text::rank_behind(&s[at..o], 4, keys, last);
-    if k == 0 {
+    let Some(k) = text::rank_behind(&s[at..o], 4, keys, last) else {
         return false;
-    }
+    };
     let from = o + 1;
     let e = text::end_of(text::Kind::Text, s, from);
     if !word_ends(s, e) {

@@ -191,7 +191,7 @@ fn rank_after(keys: &[u8], rules: &[u8], k: usize, w: &[u8]) -> Option<usize>
         }
         return None;
     }
-    let r = text::rank_in_cells(&w[..o], 4, keys);
+    let r = text::rank_in_cells(&w[..o], 4, keys)?;
     if r <= k {
         return None;
     }
