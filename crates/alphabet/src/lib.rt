@@ -119,20 +119,12 @@ fn inner_each(s: &[u8]) -> usize
 pub fn inner_bytes(s: &[u8]) -> usize
     ensures { (result ≡ inner_bytes s.now) × (result ≤ length s.now) }
 {
-    let mut i = 0;
-    // A loop: where the last block ends is where the count goes on byte by byte.
-    while 16 <= s.len() - i {
-        let e = i + 16;
-        if !all_inner(&s[i..e]) {
-            return i + inner_each(&s[i..]);
-        }
-        i = e;
+    let (blocks, rest) = s.as_chunks::<16>();
+    if let Some(k) = blocks.iter().position(|block| !all_inner(block)) {
+        return 16 * k + inner_each(&s[16 * k..]);
     }
-    if 16 <= s.len() {
-        let at = s.len() - 16;
-        if all_inner(&s[at..]) {
-            return s.len();
-        }
+    if 16 <= s.len() && all_inner(&s[s.len() - 16..]) {
+        return s.len();
     }
-    i + inner_each(&s[i..])
+    16 * blocks.len() + inner_each(rest)
 }

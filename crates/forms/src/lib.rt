@@ -8,12 +8,13 @@ ghost use Rattle.forms.specs.Forms.{field_of, rank_in, fault_of, judged, written
 
 use kinds::Form;
 
-// The rank of the number before the oblique; 0 where it is none of the eight.
+// The rank of the number before the oblique; 0 where it is none of the eight. A number, since `message` marks the fields that entries name by their ranks,
+// and an array with a place for those that name none takes no test.
 fn rank_of_entry(s: &[u8]) -> usize
     ensures { (result ≡ which_of s.now) × (result ≤ 8) }
 {
     let o = text::find(s, 0, b'/');
-    text::rank_in_cells(&s[..o], 2, b"7 8 9 1013151618")
+    text::rank_in_cells(&s[..o], 2, b"7 8 9 1013151618").unwrap_or(0)
 }
 
 // Whether a content fits the form of the number of rank k.

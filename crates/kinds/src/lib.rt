@@ -3,7 +3,7 @@
 
 ghost use Rattle.std.specs.Prelude.{◌≡◌, ℕ, ◌<◌, ◌≤◌, get_or};
 ghost use Rattle.kinds.specs.declared.Form.TheVariants.{Field3, Field22};
-ghost use Rattle.kinds.specs.Kinds.{name_of, least_of, greatest_of, role_of, most_fields, RowFor, form_at, number_of, type_ranked, type_named};
+ghost use Rattle.kinds.specs.Kinds.{name_of, least_of, greatest_of, role_of, most_fields, RowFor, form_at, number_of, type_named};
 ghost use Rattle.kinds.specs.Kinds.{type_refusal};
 
 use outer::Refusal;
@@ -305,24 +305,16 @@ impl From<TypeFault> for Refusal {
     }
 }
 
-// The type of a rank among the standard types.
-fn type_ranked(k: usize) -> Result<MessageType, TypeFault>
-    ensures { result ≡ type_ranked k }
-{
-    if k == 0 {
-        return Err(TypeFault::NoType);
-    }
-    TYPES_READ.get(k - 1).copied().ok_or(TypeFault::NotRead)
-}
-
 // The type that the three bytes behind ( name.
 pub fn type_named(three: &[u8]) -> Result<MessageType, TypeFault>
     ensures { result ≡ type_named three.now }
 {
-    let k = text::rank_in_cells(
+    let Some(k) = text::rank_in_cells(
         three,
         4,
         b"FPL CHG CNL DLA DEP ARR RQP RQS SPL ALR RCF CPL EST CDN ACP LAM ",
-    );
-    type_ranked(k)
+    ) else {
+        return Err(TypeFault::NoType);
+    };
+    TYPES_READ.get(k - 1).copied().ok_or(TypeFault::NotRead)
 }

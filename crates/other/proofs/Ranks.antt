@@ -3,11 +3,12 @@ use Prim.Native.Nat.{ℕ, zero, suc, ◌+◌, ◌<◌, ◌≤◌}
 use mathlib.Core.Path.{◌≡◌, refl, sym, ap, ◌∙◌}
 use mathlib.Core.Bool.{Bool, true, false, cond, not, false≢true}
 use mathlib.Core.List.{List, [], ◌∷◌}
+use Rattle.std.specs.Prelude.{Option, Some, None}
 use native.Mathlib.Omega.{arith}
 use lib.ListN.{drop}
 use borrow.Author.Tests.{ne_eqb, not-true}
 use Rattle.alphabet.specs.Alphabet.{sign}
-use Rattle.text.specs.Words.{Word, all, same, elem, rank_from}
+use Rattle.text.specs.Words.{Word, all, same, elem, rank_from, Ranked}
 use Rattle.text.proofs.Tests.{both, same-eq, rank-elem}
 use Rattle.codes.proofs.Marks.{ranked}
 use Rattle.other.specs.Rules.{Edition18, rank_in, distinct, sound_keys}
@@ -61,13 +62,14 @@ module _ (ed : Edition18) (sound : sound_keys ed ≡ true) where
   unfolding sound_keys
   all_distinct = (both (all (all sign) ed.keys) (distinct ed.keys) sound).1
 
-  module _ (last : ℕ) (key : Word) (k : ℕ) (found : k ≡ rank_from (last + 1) key (drop last ed.keys)) where
-    pub not_later : k ≡ 0 → rank_in ed key ≤ last
-    not_later z = omega (arith, none_behind last 1 (last + 1) key ed.keys (omega arith) refl (sym found ∙ z))
+  module _ (last : ℕ) (key : Word) (r : Option ℕ) (found : Ranked (rank_from (last + 1) key (drop last ed.keys)) r) where
+    pub not_later : r ≡ None → rank_in ed key ≤ last
+    not_later z = omega (arith, none_behind last 1 (last + 1) key ed.keys (omega arith) refl (rw z at found))
 
-    pub later : (k ≡ 0 → ⊥) → (k ≡ rank_in ed key) × (last < k)
-    later n =
-        let some : rank_from (last + 1) key (drop last ed.keys) ≡ 0 → ⊥ = λ z. n (found ∙ z) in (
-          found ∙ some_behind last 1 (last + 1) key ed.keys (omega arith) refl all_distinct some,
-          omega (arith, found, (ranked (last + 1) key (drop last ed.keys) some).0),
+    pub later : (k : ℕ) → r ≡ Some k → (k ≡ rank_in ed key) × (last < k)
+    later k e =
+        let f : (0 < k) × (rank_from (last + 1) key (drop last ed.keys) ≡ k) = rw e at found in
+        let some : rank_from (last + 1) key (drop last ed.keys) ≡ 0 → ⊥ = λ z. omega (arith, f.0, f.1) in (
+          sym f.1 ∙ some_behind last 1 (last + 1) key ed.keys (omega arith) refl all_distinct some,
+          omega (arith, f.1, (ranked (last + 1) key (drop last ed.keys) some).0),
         )

@@ -300,10 +300,9 @@ impl<'a> Edition<'a> {
         requires { (at ≤ o) × (o < length s.now) × (get_or s.now o 0 ≡ 47) × (all text (take (o - at) (drop at s.now)) ≡ true) }
         ensures { result ≡ fit_from (stated self.entry) last (split 32 (drop at s.now)) }
     {
-        let k = text::rank_behind(&s[at..o], 4, self.keys, last);
-        if k == 0 {
+        let Some(k) = text::rank_behind(&s[at..o], 4, self.keys, last) else {
             return false;
-        }
+        };
         let from = o + 1;
         let e = text::end_of(text::Kind::Text, s, from);
         if !word_ends(s, e) {

@@ -187,7 +187,7 @@ fn rank_after(edition: Edition, k: usize, w: &[u8]) -> Option<usize>
         }
         return None;
     }
-    let r = text::rank_in_cells(&w[..o], 4, edition.keys);
+    let r = text::rank_in_cells(&w[..o], 4, edition.keys)?;
     if r <= k {
         return None;
     }

@@ -72,19 +72,19 @@ pub fn reduce(msg: &[u8], buf: &mut [u8]) -> usize
     requires { length msg.now ≤ length buf.old }
     ensures { (result ≡ length (reduced msg.now)) × (buf.new ≡ front (reduced msg.now) buf.old) }
 {
+    let blocks = msg.len().saturating_sub(1) / 16;
     let mut n = 0;
-    let mut i = 0;
-    // A loop: a block is looked at with the byte behind it, and what is left at the end goes byte by byte.
-    while 16 < msg.len() - i {
-        let from = i;
-        i += 16;
-        if all_regular(&msg[from..i + 1]) {
-            n += text::put(&msg[from..i], &mut buf[n..]);
+    // Not over chunks: a block is looked at with the byte behind it.
+    for k in 0..blocks {
+        let from = 16 * k;
+        let to = from + 16;
+        if all_regular(&msg[from..to + 1]) {
+            n += text::put(&msg[from..to], &mut buf[n..]);
         } else {
-            n = reduce_part(msg, from, i, buf, n);
+            n = reduce_part(msg, from, to, buf, n);
         }
     }
-    reduce_part(msg, i, msg.len(), buf, n)
+    reduce_part(msg, 16 * blocks, msg.len(), buf, n)
 }
 
 // Whether the reduction leaves b as it is, by the byte before it and by what is behind it.
@@ -134,18 +134,17 @@ fn all_regular(s: &[u8]) -> bool
 pub fn is_reduced(msg: &[u8]) -> bool
     ensures { result ≡ same (reduced msg.now) msg.now }
 {
+    let blocks = msg.len().saturating_sub(1) / 16;
     let mut last = 0;
-    let mut i = 0;
-    // A loop, as in `reduce`.
-    while 16 < msg.len() - i {
-        let e = i + 16;
-        if !all_regular(&msg[i..e + 1]) {
-            return all_stay(last, &msg[i..]);
+    for k in 0..blocks {
+        let from = 16 * k;
+        let to = from + 16;
+        if !all_regular(&msg[from..to + 1]) {
+            return all_stay(last, &msg[from..]);
         }
-        last = msg[e - 1];
-        i = e;
+        last = msg[to - 1];
     }
-    all_stay(last, &msg[i..])
+    all_stay(last, &msg[16 * blocks..])
 }
 
 // How many of at most 255 bytes are hyphens. Counted in a byte, many at a time.
@@ -166,15 +165,13 @@ fn few_hyphens(s: &[u8]) -> u8
 pub fn count_hyphens(msg: &[u8]) -> usize
     ensures { result ≡ hyphens msg.now }
 {
+    let parts = msg.len() / 224;
     let mut n = 0;
-    let mut i = 0;
-    // A loop: the last part is the one that is counted behind it.
-    while 224 < msg.len() - i {
-        let e = i + 224;
-        n += few_hyphens(&msg[i..e]) as usize;
-        i = e;
+    for k in 0..parts {
+        let from = 224 * k;
+        n += few_hyphens(&msg[from..from + 224]) as usize;
     }
-    n + few_hyphens(&msg[i..]) as usize
+    n + few_hyphens(&msg[224 * parts..]) as usize
 }
 
 // The place of the j-th hyphen, counted from 1; 0 for 0, the length where there are fewer.

@@ -56,7 +56,7 @@ at_up_to c (b ∷ s) h = go (at_up_to c s) (eqb b c) refl h
     go ih false f h = ih (omega arith)
 
 -- n bytes that are not c are passed at once
-over_free : (c n : ℕ) (s : List ℕ) → n ≤ length s → free c (take n s) ≡ true → up_to c s ≡ n + up_to c (drop n s)
+pub over_free : (c n : ℕ) (s : List ℕ) → n ≤ length s → free c (take n s) ≡ true → up_to c s ≡ n + up_to c (drop n s)
 over_free c zero s h e = omega arith
 over_free c (suc n) [] h e = absurd (omega arith)
 over_free c (suc n) (b ∷ s) h e =

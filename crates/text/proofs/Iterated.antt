@@ -1,8 +1,8 @@
 -- What the library says of a chain of iterators, in the words of a text. Assumes nothing.
-use Rattle.std.proofs.Common.{arith, ℕ, ◌+◌, ◌≤◌, ◌≡◌, length, Bool, true, false, List, [], ◌∷◌, Option, Some, None}
+use Rattle.std.proofs.Common.{arith, ℕ, ◌+◌, ◌≤◌, ◌<◌, ◌≡◌, length, Bool, true, false, List, [], ◌∷◌, Option, Some, None}
 use Rattle.std.specs.Prelude.{suc, not, cond, refl, ◌&&◌, ◌||◌, eqb}
 use Rattle.std.specs.List.{position_or_len, list_all, list_any, slice_split}
-use Rattle.std.specs.Option.{unwrap_or, option_map_or}
+use Rattle.std.specs.Option.{unwrap_or, option_map_or, option_map}
 use Rattle.std.specs.Str.{bytes_eq}
 use lib.Dec.{ltb}
 use borrow.Author.Tests.{lt-ltb, le-ltb, ltb-true, ltb-false}
@@ -10,7 +10,7 @@ use mathlib.Core.Path.{ap, sym, ◌∙◌}
 use Rattle.std.proofs.lemmas.List.Recursion.{same_from_clauses}
 use Rattle.alphabet.specs.Alphabet.{one_of}
 use Rattle.alphabet.proofs.First.{place_found, count_found}
-use Rattle.text.specs.Words.{Word, split, onto, up_to, leading, all, same, elem, rank_from}
+use Rattle.text.specs.Words.{Word, split, onto, up_to, leading, all, same, elem, rank_from, Ranked}
 
 -- ALL AND ANY
 
@@ -76,8 +76,12 @@ module _ (w : Word) where
 
   pub rank_listed : (k : ℕ) (vs : List Word) (r : Option ℕ)
       → r ≡ cond (ltb (position_or_len (λ v. same w v) vs) (length vs)) (Some (position_or_len (λ v. same w v) vs)) None
-      → (u : ℕ) → u ≡ option_map_or (λ i. i + k) r 0 → u ≡ rank_from k w vs
-  rank_listed k vs r h u e = e ∙ (ap (λ r. option_map_or (λ i. i + k) r 0) h ∙ sym (numbered k vs))
+      → 0 < k → (u : Option ℕ) → u ≡ option_map (λ i. i + k) r → Ranked (rank_from k w vs) u
+  rank_listed k vs r h z u e = go r u (numbered k vs ∙ ap (λ r. option_map_or (λ i. i + k) r 0) (sym h)) e
+    where
+      go : (r u : Option ℕ) → rank_from k w vs ≡ option_map_or (λ i. i + k) r 0 → u ≡ option_map (λ i. i + k) r → Ranked (rank_from k w vs) u
+      go None u n e = rw e n
+      go (Some i) u n e = rw e (omega arith, n)
 
 -- EQUAL BYTES
 

@@ -3,12 +3,14 @@ use Prim.Native.Nat.{ℕ, suc, ◌<◌, zero}
 use mathlib.Core.Path.{◌≡◌, refl, sym, ap, ◌∙◌}
 use mathlib.Core.Bool.{Bool, true, false, cond, ◌&&◌, not, false≢true}
 use mathlib.Core.List.{List, [], ◌∷◌, ◌++◌}
+use Rattle.std.specs.Prelude.{Option, Some, None}
+use Rattle.std.specs.Option.{is_some, unwrap_or}
 use native.Mathlib.Omega.{arith}
 use lib.Dec.{eqb, leb}
 use lib.ListN.{length, drop}
 use borrow.Author.Tests.{eq-eqb, ne_eqb, eqb-true, leb-true, leb-false}
 use Rattle.alphabet.specs.Alphabet.{one_of}
-use Rattle.text.specs.Words.{Word, all, null, free, same, elem, rank_from}
+use Rattle.text.specs.Words.{Word, all, null, free, same, elem, rank_from, Ranked}
 
 -- TWO TESTS
 
@@ -136,3 +138,16 @@ rank-elem k w (v ∷ vs) h = go (rank-elem (suc k) w vs (omega arith)) (same w v
     go : not (eqb (rank_from (suc k) w vs) 0) ≡ elem w vs → (b : Bool) → not (eqb (cond b k (rank_from (suc k) w vs)) 0) ≡ cond b true (elem w vs)
     go ih true = ap not (ne_eqb k 0 (λ e. omega arith))
     go ih false = ih
+
+-- so it is where the code gives its rank
+pub ranked-elem : (k : ℕ) (w : Word) (vs : List Word) → 0 < k → (r : Option ℕ) → Ranked (rank_from k w vs) r → is_some r ≡ elem w vs
+ranked-elem k w vs z r h = go r h ∙ rank-elem k w vs z
+  where
+    go : (r : Option ℕ) → Ranked (rank_from k w vs) r → is_some r ≡ not (eqb (rank_from k w vs) 0)
+    go None n = rw n refl
+    go (Some i) n = sym (ap not (ne_eqb (rank_from k w vs) 0 (λ e. omega (arith, n.0, n.1))))
+
+-- and it is that rank, or 0
+pub ranked_or : (n : ℕ) (r : Option ℕ) → Ranked n r → unwrap_or r 0 ≡ n
+ranked_or n None h = sym h
+ranked_or n (Some k) h = sym h.1

@@ -2,7 +2,7 @@
 #![tactic(auto)]
 
 ghost use Rattle.std.specs.Prelude.{◌≡◌, ℕ, ◌+◌, ◌≤◌, ◌<◌, ◌&&◌, leb, length, drop, get_or};
-ghost use Rattle.text.specs.Words.{split, up_to, before, leading, all, free, text_word, same, elem, rank, rank_from, cells};
+ghost use Rattle.text.specs.Words.{split, up_to, before, leading, all, free, text_word, same, elem, rank, rank_from, Ranked, cells};
 ghost use Rattle.text.specs.Kinds.{of_kind};
 ghost use Rattle.text.specs.Places.{Stepped};
 ghost use Rattle.text.specs.Lent.{front};
@@ -30,16 +30,12 @@ pub fn find_far(s: &[u8], from: usize, c: u8) -> usize
     ensures value { result ≡ from + up_to c (drop from s.now) }
     ensures lower_bound { (from ≤ result) × (result ≤ length s.now) }
 {
-    let mut i = from;
-    // A loop: where the last block ends is where the search goes on byte by byte.
-    while 16 <= s.len() - i {
-        let e = i + 16;
-        if !is_free(c, &s[i..e]) {
-            return find(s, i, c);
-        }
-        i = e;
-    }
-    find(s, i, c)
+    let (blocks, _) = s[from..].as_chunks::<16>();
+    let free = blocks
+        .iter()
+        .position(|block| !is_free(c, block))
+        .unwrap_or(blocks.len());
+    find(s, from + 16 * free, c)
 }
 
 // What a byte may be.
@@ -108,13 +104,13 @@ pub fn same_bytes(a: &[u8], b: &[u8]) -> bool
     a == b
 }
 
-// The place of w in a list of words with one space between them, counted from 1; 0 where it has none.
-pub fn rank_of(w: &[u8], list: &[u8]) -> usize
-    ensures { result ≡ rank w.now (split 32 list.now) }
+// The place of w in a list of words with one space between them, counted from 1, if it has one.
+pub fn rank_of(w: &[u8], list: &[u8]) -> Option<usize>
+    ensures { Ranked (rank w.now (split 32 list.now)) result }
 {
     list.split(|&b| b == b' ')
         .position(|v| w == v)
-        .map_or(0, |k| k + 1)
+        .map(|k| k + 1)
 }
 
 // Whether w is one of the words of a list, which have one space between them.
@@ -143,25 +139,25 @@ fn in_cell(w: &[u8], cell: &[u8]) -> bool
     same_bytes(w, &cell[..e])
 }
 
-// The place of w in a list in cells of so many bytes, counted from 1 and looked for behind the first `last` cells; 0 where it has none there.
-pub fn rank_behind(w: &[u8], width: usize, list: &[u8], last: usize) -> usize
+// The place of w in a list in cells of so many bytes, counted from 1 and looked for behind the first `last` cells, if it has one there.
+pub fn rank_behind(w: &[u8], width: usize, list: &[u8], last: usize) -> Option<usize>
     requires { 0 < width }
-    ensures { result ≡ rank_from (last + 1) w.now (drop last (cells width list.now)) }
+    ensures { Ranked (rank_from (last + 1) w.now (drop last (cells width list.now))) result }
 {
     let n = list.len() / width;
     for k in last..n {
         let at = k * width;
         if in_cell(w, &list[at..at + width]) {
-            return k + 1;
+            return Some(k + 1);
         }
     }
-    0
+    None
 }
 
-// The place of w in such a list; 0 where it has none.
-pub fn rank_in_cells(w: &[u8], width: usize, list: &[u8]) -> usize
+// The place of w in such a list, if it has one.
+pub fn rank_in_cells(w: &[u8], width: usize, list: &[u8]) -> Option<usize>
     requires { 0 < width }
-    ensures { result ≡ rank w.now (cells width list.now) }
+    ensures { Ranked (rank w.now (cells width list.now)) result }
 {
     rank_behind(w, width, list, 0)
 }
@@ -171,7 +167,7 @@ pub fn in_cells(w: &[u8], width: usize, list: &[u8]) -> bool
     requires { 0 < width }
     ensures { result ≡ elem w.now (cells width list.now) }
 {
-    rank_in_cells(w, width, list) != 0
+    rank_in_cells(w, width, list).is_some()
 }
 
 // A place in a text. Its pieces end at a byte c: words at the space, fields at the hyphen.

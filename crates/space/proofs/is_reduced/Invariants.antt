@@ -1,11 +1,8 @@
-use Prim.Native.Nat.{◌-◌, ◌≤◌}
+use Prim.Native.Nat.{◌*◌, ◌-◌, ◌/◌, ◌≤◌}
 use mathlib.Core.Path.{◌≡◌}
 use lib.ListN.{length, drop}
 use Rattle.space.specs.Stays.{all_stay}
 use Rattle.space.proofs.is_reduced.Given as goal
 
-abbrev pub invariant-loop-i : goal.invariant-loop-i
-invariant-loop-i l = (l.i ≤ length l.msg) × (all_stay l.last (drop l.i l.msg) ≡ all_stay 0 l.msg)
-
-abbrev pub decreases-loop-i : goal.decreases-loop-i
-decreases-loop-i l = length l.msg - l.i
+abbrev pub invariant-loop-k : goal.invariant-loop-k
+invariant-loop-k l = (l.k ≤ (length l.msg - 1) / 16) × (all_stay l.last (drop (16 * l.k) l.msg) ≡ all_stay 0 l.msg)

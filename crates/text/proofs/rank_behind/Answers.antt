@@ -54,7 +54,7 @@ returns-then-in_cell c =
     let h = inside (goal.at.returns-then-in_cell c).In-loop-k in
     let n : a.width ≤ length c.args.list.now - c.loop-k.k * a.width = omega (arith, h.1) in
     let e = sym c.in_cell.ensures ∙ c.if-in_cell.true in
-    sym (c.loop-k.invariant ∙ cell_found (c.loop-k.k + 1) a.width (c.loop-k.k * a.width) a.w.now c.args.list.now (omega (arith, h.0)) n e)
+    (omega arith, c.loop-k.invariant ∙ cell_found (c.loop-k.k + 1) a.width (c.loop-k.k * a.width) a.w.now c.args.list.now (omega (arith, h.0)) n e)
 
 pub loop-k-preserved : goal.loop-k-preserved
 loop-k-preserved c =
@@ -70,4 +70,4 @@ pub returns : goal.returns
 returns c =
     let a = c.args in
     let none = cells_over c.loop-k.k a.width a.list.now c.requires c.loop-k-test.false in
-    sym (c.loop-k.invariant ∙ no_cell (c.loop-k.k + 1) a.width (c.loop-k.k * a.width) a.w.now a.list.now none)
+    c.loop-k.invariant ∙ no_cell (c.loop-k.k + 1) a.width (c.loop-k.k * a.width) a.w.now a.list.now none

@@ -18,31 +18,30 @@ use Prim.Native.Nat.{◌+◌, ◌-◌, ◌<◌, ◌≤◌}
 use lib.ListN.{length, take, drop, get_or}
 use Rattle.other.proofs.Edition.+item_words.Goals as goal
 
-pub item-returns-then-k-eq0 : goal.item-returns-then-k-eq0
-item-returns-then-k-eq0 t c =
+pub item-returns-in_default : goal.item-returns-in_default
+item-returns-in_default t c =
     let a = c.args in
     let p = c.requires in
     let ed = (stated c.args.self) in
-    let b = c.rank_behind-k in
+    let b = c.rank_behind in
     sym
     (item_late c.args.s.now a.at a.o p.0 p.1 p.2 p.3 ed a.last
     (rank_in ed (take (c.args.o - c.args.at) (drop c.args.at c.args.s.now))) refl
-    (not_later ed c.args.self.sound a.last (take (c.args.o - c.args.at) (drop c.args.at c.args.s.now)) b.result b.ensures c.if-k-eq0.true))
+    (not_later ed c.args.self.sound a.last (take (c.args.o - c.args.at) (drop c.args.at c.args.s.now)) b.result b.ensures c.in_default.is))
 
 pub item-returns-then-not-word_ends : goal.item-returns-then-not-word_ends
 item-returns-then-not-word_ends t c =
-    let item-ranked : (c.rank_behind-k.result ≡ rank_in (stated c.args.self)
-    (take (c.args.o - c.args.at) (drop c.args.at c.args.s.now))) × (c.args.last < c.rank_behind-k.result) = let a = c.args in
-    let b = c.rank_behind-k in
+    let item-ranked : (c.in-Some.k ≡ rank_in (stated c.args.self)
+    (take (c.args.o - c.args.at) (drop c.args.at c.args.s.now))) × (c.args.last < c.in-Some.k) = let a = c.args in
+    let b = c.rank_behind in
     later (stated c.args.self) c.args.self.sound a.last (take (c.args.o - c.args.at) (drop c.args.at c.args.s.now))
-    b.result b.ensures
-    c.if-k-eq0.false in
+    b.result b.ensures c.in-Some.k c.in-Some.is in
     let item_none : c.word_ends.result ≡ false
     → (fit_from (stated c.args.self) c.args.last (split 32 (drop c.args.at c.args.s.now))) ≡ false = λ n. let a =
     c.args in
     let p = c.requires in
     let f = c.end_of-e.ensures in
-    item_odd a.s.now a.at a.o p.0 p.1 p.2 p.3 (stated c.args.self) a.last c.rank_behind-k.result
+    item_odd a.s.now a.at a.o p.0 p.1 p.2 p.3 (stated c.args.self) a.last c.in-Some.k
     item-ranked.0 c.end_of-e.result f.value f.lower_bound.1 (sym c.word_ends.ensures ∙ n) in sym (item_none (c.if-not-word_ends.true))
 
 pub item-text_fits-requires : goal.item-text_fits-requires
@@ -51,23 +50,22 @@ item-text_fits-requires t c =
 
 pub item-returns-then-not-text_fits : goal.item-returns-then-not-text_fits
 item-returns-then-not-text_fits t c =
-    let item-ranked : (c.rank_behind-k.result ≡ rank_in (stated c.args.self)
-    (take (c.args.o - c.args.at) (drop c.args.at c.args.s.now))) × (c.args.last < c.rank_behind-k.result) = let a = c.args in
-    let b = c.rank_behind-k in
+    let item-ranked : (c.in-Some.k ≡ rank_in (stated c.args.self)
+    (take (c.args.o - c.args.at) (drop c.args.at c.args.s.now))) × (c.args.last < c.in-Some.k) = let a = c.args in
+    let b = c.rank_behind in
     later (stated c.args.self) c.args.self.sound a.last (take (c.args.o - c.args.at) (drop c.args.at c.args.s.now))
-    b.result b.ensures
-    c.if-k-eq0.false in
+    b.result b.ensures c.in-Some.k c.in-Some.is in
     let item-parts : c.word_ends.result ≡ true
     → (fit_from (stated c.args.self) c.args.last (split 32 (drop c.args.at c.args.s.now)))
-    ≡ (ltb c.args.last c.rank_behind-k.result
-    && (word_fits (rule_in (stated c.args.self) c.rank_behind-k.result)
+    ≡ (ltb c.args.last c.in-Some.k
+    && (word_fits (rule_in (stated c.args.self) c.in-Some.k)
     ((take (c.end_of-e.result - ((c.args.o + 1))) (drop ((c.args.o + 1)) c.args.s.now)))
-    && fit_more (stated c.args.self) c.rank_behind-k.result (after 32 (drop c.end_of-e.result c.args.s.now)))) = λ q. let a =
+    && fit_more (stated c.args.self) c.in-Some.k (after 32 (drop c.end_of-e.result c.args.s.now)))) = λ q. let a =
     c.args in
     let p = c.requires in
     let f = c.end_of-e.ensures in
     item_word a.s.now a.at a.o p.0 p.1 p.2 p.3 (stated c.args.self) a.last
-    c.rank_behind-k.result
+    c.in-Some.k
     item-ranked.0 c.end_of-e.result f.value f.lower_bound.1 (sym c.word_ends.ensures ∙ q) in
     let e : word_fits c.rule.result (take (c.end_of-e.result - ((c.args.o + 1))) (drop ((c.args.o + 1)) c.args.s.now)) ≡ false = sym c.text_fits.ensures
     ∙ c.if-not-text_fits.true in
@@ -82,23 +80,22 @@ item-words-requires t c =
 
 pub item-returns : goal.item-returns
 item-returns t c =
-    let item-ranked : (c.rank_behind-k.result ≡ rank_in (stated c.args.self)
-    (take (c.args.o - c.args.at) (drop c.args.at c.args.s.now))) × (c.args.last < c.rank_behind-k.result) = let a = c.args in
-    let b = c.rank_behind-k in
+    let item-ranked : (c.in-Some.k ≡ rank_in (stated c.args.self)
+    (take (c.args.o - c.args.at) (drop c.args.at c.args.s.now))) × (c.args.last < c.in-Some.k) = let a = c.args in
+    let b = c.rank_behind in
     later (stated c.args.self) c.args.self.sound a.last (take (c.args.o - c.args.at) (drop c.args.at c.args.s.now))
-    b.result b.ensures
-    c.if-k-eq0.false in
+    b.result b.ensures c.in-Some.k c.in-Some.is in
     let item-parts : c.word_ends.result ≡ true
     → (fit_from (stated c.args.self) c.args.last (split 32 (drop c.args.at c.args.s.now)))
-    ≡ (ltb c.args.last c.rank_behind-k.result
-    && (word_fits (rule_in (stated c.args.self) c.rank_behind-k.result)
+    ≡ (ltb c.args.last c.in-Some.k
+    && (word_fits (rule_in (stated c.args.self) c.in-Some.k)
     ((take (c.end_of-e.result - ((c.args.o + 1))) (drop ((c.args.o + 1)) c.args.s.now)))
-    && fit_more (stated c.args.self) c.rank_behind-k.result (after 32 (drop c.end_of-e.result c.args.s.now)))) = λ q. let a =
+    && fit_more (stated c.args.self) c.in-Some.k (after 32 (drop c.end_of-e.result c.args.s.now)))) = λ q. let a =
     c.args in
     let p = c.requires in
     let f = c.end_of-e.ensures in
     item_word a.s.now a.at a.o p.0 p.1 p.2 p.3 (stated c.args.self) a.last
-    c.rank_behind-k.result
+    c.in-Some.k
     item-ranked.0 c.end_of-e.result f.value f.lower_bound.1 (sym c.word_ends.ensures ∙ q) in
     let e : word_fits c.rule.result (take (c.end_of-e.result - ((c.args.o + 1))) (drop ((c.args.o + 1)) c.args.s.now)) ≡ true = sym c.text_fits.ensures
     ∙ c.if-not-text_fits.false in
