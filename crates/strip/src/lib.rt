@@ -33,7 +33,14 @@ pub const ROOM: usize = 3600;
 fn last_field<'a>(s: &'a [u8]) -> &'a [u8]
     ensures { result.now ≡ arrival (split 45 s.now) }
 {
-    s.rsplit(|&b| b == b'-').next().unwrap_or(&[])
+    let mut at = 0;
+    loop {
+        let e = text::find(s, at, b'-');
+        if e == s.len() {
+            return &s[at..];
+        }
+        at = e + 1;
+    }
 }
 
 // The time of day in a content; 0 where there is none.
