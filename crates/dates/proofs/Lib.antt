@@ -1,4 +1,5 @@
 pub mod Dates
+pub mod Pieces
 pub mod Walk
 pub mod Writing
 pub mod Items

@@ -4,13 +4,16 @@ use mathlib.Core.Path.{◌≡◌, refl, sym, ap, ◌∙◌}
 use mathlib.Core.Bool.{Bool, true, false, cond, true≢false}
 use mathlib.Core.List.{List, [], ◌∷◌, ◌++◌, append_assoc, append-nil}
 use native.Mathlib.Omega.{arith}
-use lib.ListN.{length, take, drop, length-drop}
+use lib.Dec.{ltb}
+use lib.ListN.{length, take, drop, get_or, length-drop}
 use lib.Seq.{take-add, take_all}
+use borrow.Author.Tests.{ltb-true, ltb-false}
 use Rattle.alphabet.specs.Text.{bytes}
 use Rattle.text.specs.Words.{Word, split, join, after, up_to, null, same, elem}
 use Rattle.text.proofs.Index.{drop_end, rest, null-split, split_at, after_here, after_end}
 use Rattle.text.proofs.Joined.{join-split}
 use Rattle.other.proofs.Keys.{space_at}
+use Rattle.dates.proofs.Pieces.{ends, piece_is, more_left, none_left}
 use Rattle.dates.specs.declared.Place.TheVariants.{Instead, Before, Last}
 use Rattle.dates.specs.Dates.{dof, dated, key_in, keys_behind, placed, with_date, DatePlace}
 
@@ -54,6 +57,9 @@ place_nothing s e =
       inside = (omega arith, omega arith);
       every = λ d. rw (e, drop_end s (length s) (omega arith)) (append-nil (dated d));
     }
+
+some_words : (s : List ℕ) → 0 < length (split 32 s)
+some_words s = omega (arith, ap length (split_at 32 s 0 (0 + up_to 32 s) refl))
 
 module _ (s : List ℕ) (at e : ℕ) (h : Ahead s at) (end : e ≡ at + up_to 32 (drop at s)) where
   abbrev word : Word
@@ -123,6 +129,67 @@ module _ (s : List ℕ) (at e : ℕ) (h : Ahead s at) (end : e ≡ at + up_to 32
           next x =
               rw (up_to_lem, after_here 32 s e l, take-add e 1 s, space_at s at e end l)
               (sym (append_assoc (take e s) (32 ∷ []) _))
+
+-- WORD BY WORD: before the n-th word, which begins at `at`, and behind the last
+
+pub record Turn (s : List ℕ) (n at : ℕ) : Type 0 where
+  pub more : n < length (split 32 s) → (drop n (split 32 s) ≡ split 32 (drop at s)) × Ahead s at
+  pub none : length (split 32 s) ≤ n → DatePlace s Last
+
+pub turn_first : (s : List ℕ) → same s (bytes "0") ≡ false → Turn s 0 0
+turn_first s e =
+    record {
+      more = λ h. (refl, ahead_first s e);
+      none = λ h. absurd (omega (arith, some_words s));
+    }
+
+module _ {s : List ℕ} {n at : ℕ} (t : Turn s n at) (w : Word) (turn : (n < length (split 32 s)) × (w ≡ get_or (split 32 s) n w)) where
+  ahead : Ahead s at
+  ahead = (t.more turn.0).1
+
+  left : drop n (split 32 s) ≡ split 32 (drop at s)
+  left = (t.more turn.0).0
+
+  end : (at + length w ≡ at + up_to 32 (drop at s)) × (at + length w ≤ length s)
+  end = ends 32 s (split 32 s) n at ahead.inside left w turn
+
+  pub word_inside : at + length w ≤ length s
+  word_inside = end.1
+
+  word_is : w ≡ take (at + length w - at) (drop at s)
+  word_is = piece_is 32 s (split 32 s) n at ahead.inside left w turn
+
+  pub turn_instead : same (key_in w) dof ≡ true → DatePlace s (Instead at (at + length w))
+  turn_instead q = place_instead s at (at + length w) ahead end.0 end.1 (ap (λ (v : Word). same (key_in v) dof) (sym word_is) ∙ q)
+
+  module _ (q : same (key_in w) dof ≡ false) where
+    other_key : same (key_in (take (at + length w - at) (drop at s))) dof ≡ false
+    other_key = ap (λ (v : Word). same (key_in v) dof) (sym word_is) ∙ q
+
+    pub turn_before : elem (key_in w) keys_behind ≡ true → DatePlace s (Before at)
+    turn_before b = place_before s at (at + length w) ahead end.0 other_key (ap (λ (v : Word). elem (key_in v) keys_behind) (sym word_is) ∙ b)
+
+    pub turn_next : elem (key_in w) keys_behind ≡ false → Turn s (n + 1) (at + length w + 1)
+    turn_next b = go (ltb (at + length w) (length s)) refl
+      where
+        not_behind : elem (key_in (take (at + length w - at) (drop at s))) keys_behind ≡ false
+        not_behind = ap (λ (v : Word). elem (key_in v) keys_behind) (sym word_is) ∙ b
+
+        go : (r : Bool) → ltb (at + length w) (length s) ≡ r → Turn s (n + 1) (at + length w + 1)
+        go true r =
+            let l = ltb-true _ _ r in
+            let rest = more_left 32 s (split 32 s) n at ahead.inside left w turn l in
+            record {
+              more = λ h. (rest, ahead_next s at (at + length w) ahead end.0 other_key not_behind l);
+              none = λ h. absurd (omega (arith, ap length rest, length-drop (n + 1) (split 32 s), some_words (drop (at + length w + 1) s)));
+            }
+        go false r =
+            let l = ltb-false _ _ r in
+            let rest = none_left 32 s (split 32 s) n at ahead.inside left w turn l in
+            record {
+              more = λ h. absurd (omega (arith, ap length rest, length-drop (n + 1) (split 32 s)));
+              none = λ h. place_last s at (at + length w) ahead end.0 other_key not_behind l;
+            }
 
 -- AS IT IS WRITTEN: what stands before the item, the item's beginning, the date, and what follows it
 

@@ -77,22 +77,19 @@ fn place_of(s: &[u8]) -> Place
             to: s.len(),
         };
     }
-    // A loop: where a word stands is answered too, and an iterator over the words does not give it.
     let mut at = 0;
-    loop {
-        let e = text::find(s, at, b' ');
-        let key = key_in(&s[at..e]);
+    for word in s.split(|&b| b == b' ') {
+        let e = at + word.len();
+        let key = key_in(word);
         if text::same_bytes(key, b"DOF") {
             return Place::Instead { from: at, to: e };
         }
         if is_behind(key) {
             return Place::Before(at);
         }
-        if e == s.len() {
-            return Place::Last;
-        }
         at = e + 1;
     }
+    Place::Last
 }
 
 // Writes two parts, one behind the other, at the front of `out`.

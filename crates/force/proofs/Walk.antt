@@ -1,19 +1,21 @@
 -- The walk to a field and over a CHG's entries, hyphen by hyphen, and what is found there. Assumes nothing.
 use Prim.Native.Nat.{ℕ, zero, suc, ◌+◌, ◌-◌, ◌<◌, ◌≤◌}
-use mathlib.Core.Path.{◌≡◌, sym, ap, subst, ◌∙◌}
-use mathlib.Core.Bool.{false}
+use mathlib.Core.Path.{◌≡◌, refl, sym, ap, subst, ◌∙◌}
+use mathlib.Core.Bool.{Bool, true, false}
 use mathlib.Core.List.{List, [], ◌∷◌}
-use mathlib.Core.Option.{Option, some, get_or}
+use mathlib.Core.Option.{Option, some}
+use mathlib.Core.Option
 use native.Mathlib.Omega.{arith}
-use lib.Dec.{eqb}
-use lib.ListN.{length, take, drop, length-drop}
+use lib.Dec.{ltb, eqb}
+use lib.ListN.{length, take, drop, get_or, length-drop}
 use lib.Seq.{take-nil, drop-drop, length-take-le}
-use borrow.Author.Tests.{eq-eqb, ne_eqb}
+use borrow.Author.Tests.{eq-eqb, ne_eqb, ltb-true, ltb-false}
 use Rattle.std.specs.Prelude.{Some, None}
 use Rattle.std.specs.Prelude as rust
 use Rattle.text.specs.Words.{Word, split, up_to, before, behind}
 use Rattle.text.specs.Places.{Stepped}
-use Rattle.text.proofs.Index.{split_at, after_here, after_end, piece}
+use Rattle.text.proofs.Index.{split_at, after_here, after_end, piece, stepped}
+use Rattle.dates.proofs.Pieces.{ends, piece_is, more_left, none_left}
 use Rattle.space.specs.Hyphens.{behind_hyphen}
 use Rattle.message.proofs.Nth.{cut_at, field_at_lem}
 use Rattle.kinds.specs.Kinds.{first_entry}
@@ -129,6 +131,69 @@ module _ {chg : List ℕ} {k at e : ℕ} (some-rank : 0 < k) (w : Seeking chg k 
               ∙ sym (rw (split_at 45 chg at e end, not_here, after_here 45 chg e h)) ∙ w.place;
         }
 
+-- ENTRY BY ENTRY: before the n-th entry, which begins at `at`, where the entries begin at `first`, and behind the last
+
+abbrev pub entries_at : List ℕ → ℕ → List Word
+entries_at chg first = split 45 (drop first chg)
+
+pub record Turn (chg : List ℕ) (k first n at : ℕ) : Type 0 where
+  pub more : n < length (entries_at chg first) → (drop n (entries_at chg first) ≡ split 45 (drop at chg)) × Seeking chg k at
+  pub none : length (entries_at chg first) ≤ n → FoundIn chg k None
+
+some_pieces : (s : List ℕ) → 0 < length (split 45 s)
+some_pieces s = omega (arith, ap length (split_at 45 s 0 (0 + up_to 45 s) refl))
+
+pub turn_first : {chg : List ℕ} {k at : ℕ} → 0 < k → at ≤ length chg → drop at chg ≡ behind_hyphen first_entry chg → Turn chg k at 0 at
+turn_first {chg} {k} {at} h l d =
+    record {
+      more = λ m. (refl, seeking_starts h l d);
+      none = λ m. absurd (omega (arith, some_pieces (drop at chg)));
+    }
+
+module _ {chg : List ℕ} {k first n at : ℕ} (some-rank : 0 < k) (t : Turn chg k first n at) (w : Word)
+    (turn : (n < length (entries_at chg first)) × (w ≡ get_or (entries_at chg first) n w)) where
+  seeking : Seeking chg k at
+  seeking = (t.more turn.0).1
+
+  left : drop n (entries_at chg first) ≡ split 45 (drop at chg)
+  left = (t.more turn.0).0
+
+  end : (at + length w ≡ at + up_to 45 (drop at chg)) × (at + length w ≤ length chg)
+  end = ends 45 chg (entries_at chg first) n at seeking.inside left w turn
+
+  pub entry_inside : at + length w ≤ length chg
+  entry_inside = end.1
+
+  entry_is : w ≡ take (at + length w - at) (drop at chg)
+  entry_is = piece_is 45 chg (entries_at chg first) n at seeking.inside left w turn
+
+  module _ {r : ℕ} (is-rank : r ≡ which_of w) where
+    rank_is : r ≡ which_of (take (at + length w - at) (drop at chg))
+    rank_is = is-rank ∙ ap which_of entry_is
+
+    pub turn_found : {b : ℕ} → r ≡ k → Stepped 47 w 0 b → FoundIn chg k (Some (record { from = at + b; to = at + length w }))
+    turn_found {b} h step =
+        found_here some-rank seeking end.0 end.1 rank_is h (subst (λ (v : Word). Stepped 47 v 0 b) entry_is step)
+
+    pub turn_next : (r ≡ k → ⊥) → Turn chg k first (n + 1) (at + length w + 1)
+    turn_next other = go (ltb (at + length w) (length chg)) refl
+      where
+        go : (x : Bool) → ltb (at + length w) (length chg) ≡ x → Turn chg k first (n + 1) (at + length w + 1)
+        go true x =
+            let l = ltb-true _ _ x in
+            let rest = more_left 45 chg (entries_at chg first) n at seeking.inside left w turn l in
+            record {
+              more = λ h. (rest, found_later some-rank seeking end.0 end.1 rank_is other l (stepped 45 chg at (at + length w) end.0 seeking.inside l));
+              none = λ h. absurd (omega (arith, ap length rest, length-drop (n + 1) (entries_at chg first), some_pieces (drop (at + length w + 1) chg)));
+            }
+        go false x =
+            let l = ltb-false _ _ x in
+            let rest = none_left 45 chg (entries_at chg first) n at seeking.inside left w turn l in
+            record {
+              more = λ h. absurd (omega (arith, ap length rest, length-drop (n + 1) (entries_at chg first)));
+              none = λ h. found_nowhere some-rank seeking end.0 end.1 rank_is other l;
+            }
+
 -- no entry names the field of rank 0
 pub none_named : (chg : List ℕ) (k : ℕ) → k ≡ 0 → FoundIn chg k None
 unfolding named_by named_at
@@ -141,9 +206,9 @@ as_found chg k h e = subst (FoundIn chg k) e h
 
 module _ (plan chg : List ℕ) (k : ℕ) where
   pub in_chg : (s : Span) → FoundIn chg k (Some s) → take (s.to - s.from) (drop s.from chg) ≡ in_force plan chg k
-  in_chg s h = sym (ap (λ (o : Option Word). get_or o (field_at plan k)) h.2)
+  in_chg s h = sym (ap (λ (o : Option Word). Option.get_or o (field_at plan k)) h.2)
 
   pub in_plan : (at e : ℕ) → FoundIn chg k None → drop at plan ≡ behind_hyphen k plan → e ≡ at + up_to 45 (drop at plan)
       → take (e - at) (drop at plan) ≡ in_force plan chg k
   in_plan at e h d end =
-      piece 45 plan at e end ∙ ap (before 45) d ∙ sym (field_at_lem k plan) ∙ sym (ap (λ (o : Option Word). get_or o (field_at plan k)) h.0)
+      piece 45 plan at e end ∙ ap (before 45) d ∙ sym (field_at_lem k plan) ∙ sym (ap (λ (o : Option Word). Option.get_or o (field_at plan k)) h.0)

@@ -34,12 +34,9 @@ fn find_entry(chg: &[u8], first: Cursor, k: usize) -> Option<Span>
     requires { (0 < k) × AtEntries chg.now first.at }
     ensures { FoundIn chg.now k result }
 {
-    // A loop: where an entry stands is answered too, and an iterator over the entries does not give it.
-    let mut c = first;
-    loop {
-        let at = c.at;
-        let e = c.end(chg, b'-');
-        let entry = &chg[at..e];
+    let mut at = first.at;
+    for entry in chg[at..].split(|&b| b == b'-') {
+        let e = at + entry.len();
         if forms::rank_in(Form::Field22, entry) == k {
             let content = Cursor { at: 0 }.next(entry, b'/');
             return Some(Span {
@@ -47,11 +44,9 @@ fn find_entry(chg: &[u8], first: Cursor, k: usize) -> Option<Span>
                 to: e,
             });
         }
-        if e == chg.len() {
-            return None;
-        }
-        c = c.next(chg, b'-');
+        at = e + 1;
     }
+    None
 }
 
 // Where a CHG has a content for the field of rank k, where its entries begin at `first`. Rank 0 is field 3, which no entry names.

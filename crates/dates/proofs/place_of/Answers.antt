@@ -1,61 +1,75 @@
 -- `dates::place_of` meets its contract. Assumes nothing.
-use Prim.Native.Nat.{◌-◌}
-use mathlib.Core.Path.{◌≡◌, sym, ap, ◌∙◌}
-use mathlib.Core.Bool.{Bool, true, false}
+use Rattle.std.proofs.Common.{rules}
+use Prim.Native.Nat.{ℕ, ◌+◌, ◌<◌}
+use mathlib.Core.Path.{◌≡◌, sym, ap, subst, ◌∙◌}
+use mathlib.Core.List.{List}
 use native.Mathlib.Omega.{arith}
-use lib.ListN.{take, drop}
-use Rattle.text.specs.Words.{Word, same, elem}
-use Rattle.dates.specs.Dates.{dof, key_in, keys_behind}
-use Rattle.dates.proofs.Walk.{ahead_first, place_nothing, place_instead, place_before, place_last, ahead_next}
-use Rattle.dates.proofs.place_of.Goals.{After-is_behind, After-same_bytes-in-loop-key}
+use lib.ListN.{length, get_or}
+use borrow.Author.Tests.{tests}
+use Rattle.std.specs.Prelude.{eqb}
+use Rattle.std.proofs.lemmas.List.{length_push}
+use Rattle.std.specs.Slice.Iter.{split_rest, split_done, split_callee}
+use Rattle.std.proofs.lemmas.Iterator.Splits.{YieldsList-from_slice_split}
+use Rattle.std.proofs.lemmas.Iterator.Consumers.{YieldsList-turn, YieldsList-end}
+use Rattle.text.specs.Words.{Word, split, same, elem}
+use Rattle.text.proofs.Iterated.{split_listed}
+use Rattle.dates.specs.Dates.{dof, keys_behind}
+use Rattle.dates.proofs.Walk.{Turn, place_nothing, turn_first, turn_instead, turn_before, turn_next, word_inside}
+use Rattle.dates.proofs.place_of.Goals.{In-Some}
 use Rattle.dates.proofs.place_of.Goals as goal
-
-is_dof : (c : After-same_bytes-in-loop-key) → (b : Bool) → c.same_bytes-in-loop-key.result ≡ b
-    → same (key_in ((take (c.find-e.result - c.loop-key.at) (drop c.loop-key.at c.args.s.now)))) dof ≡ b
-is_dof c b e =
-    ap (λ (k : Word). same k dof) (sym c.key_in-key.ensures) ∙ sym c.same_bytes-in-loop-key.ensures ∙ e
-
-not-dof : (c : After-is_behind) → same (key_in (take (c.find-e.result - c.loop-key.at) (drop c.loop-key.at c.args.s.now))) dof ≡ false
-not-dof c =
-    let is_dof : (b : Bool) → c.same_bytes-in-loop-key.result ≡ b → same (key_in ((take (c.find-e.result - c.loop-key.at) (drop c.loop-key.at c.args.s.now))))
-    dof ≡ b = λ b e. ap (λ (k : Word). same k dof) (sym c.key_in-key.ensures) ∙ sym c.same_bytes-in-loop-key.ensures ∙ e in
-    is_dof false c.if-same_bytes-2.false
-
-is_later : (c : After-is_behind) → (b : Bool) → c.is_behind.result ≡ b
-    → elem (key_in (take (c.find-e.result - c.loop-key.at) (drop c.loop-key.at c.args.s.now))) keys_behind ≡ b
-is_later c b e =
-    ap (λ (k : Word). elem k keys_behind) (sym c.key_in-key.ensures) ∙ sym c.is_behind.ensures ∙ e
 
 pub returns-then-same_bytes : goal.returns-then-same_bytes
 returns-then-same_bytes c =
     place_nothing c.args.s.now (sym c.same_bytes.ensures ∙ c.if-same_bytes.true)
 
-pub loop-key-init : goal.loop-key-init
-loop-key-init c =
-    ahead_first c.args.s.now (sym c.same_bytes.ensures ∙ c.if-same_bytes.false)
+pub loop-word-init : goal.loop-word-init
+loop-word-init c =
+    turn_first c.args.s.now (sym c.same_bytes.ensures ∙ c.if-same_bytes.false)
 
-pub find-e-requires : goal.find-e-requires
-find-e-requires c =
-    c.loop-key.invariant.inside
+-- this turn's word is the next of the words
+turn_of : (c : In-Some) → (length c.loop-word.yielded < length (split 32 c.args.s.now))
+    × (c.in-Some.word.now ≡ get_or (split 32 c.args.s.now) (length c.loop-word.yielded) c.in-Some.word.now)
+turn_of c =
+    let s = c.args.s.now in
+    let of = c.split-word-items.ensures in
+    let it = c.into_iter-word-iterator.ensures.into_iter_gives in
+    subst (λ (ws : List Word). (length c.loop-word.yielded < length ws) × (c.in-Some.word.now ≡ get_or ws (length c.loop-word.yielded) c.in-Some.word.now))
+    (split_listed 32 s)
+    (YieldsList-turn (YieldsList-from_slice_split _ (λ b. eqb b 32) s (ap split_rest it ∙ of.rest) (ap split_done it ∙ of.done) (ap split_callee it ∙ of.closure) (λ x b q k. search (rules, tests)))
+    c.loop-word.yielded _ c.loop-word.yielded_by _ _ c.in-Some.word c.in-Some.is c.next.ensures.steps)
+
+pub overflow_add-e : goal.overflow_add-e
+overflow_add-e c =
+    omega (arith, word_inside c.loop-word.invariant c.in-Some.word.now (turn_of c), c.well_formed)
+
+pub overflow_add-at : goal.overflow_add-at
+overflow_add-at c =
+    omega (arith, word_inside c.loop-word.invariant c.in-Some.word.now (turn_of (goal.at.overflow_add-at c).In-Some), c.well_formed)
 
 pub returns-then-same_bytes-2 : goal.returns-then-same_bytes-2
 returns-then-same_bytes-2 c =
-    place_instead c.args.s.now c.loop-key.at c.find-e.result c.loop-key.invariant c.find-e.ensures.value c.find-e.ensures.lower_bound.1
-    (is_dof (goal.at.returns-then-same_bytes-2 c).After-same_bytes-in-loop-key true c.if-same_bytes-2.true)
+    turn_instead c.loop-word.invariant c.in-Some.word.now (turn_of (goal.at.returns-then-same_bytes-2 c).In-Some)
+    (ap (λ (k : Word). same k dof) (sym c.key_in-key.ensures) ∙ sym c.if-same_bytes-2.ensures)
 
 pub returns-then-is_behind : goal.returns-then-is_behind
 returns-then-is_behind c =
-    place_before c.args.s.now c.loop-key.at c.find-e.result c.loop-key.invariant c.find-e.ensures.value
-    (not-dof (goal.at.returns-then-is_behind c).After-is_behind) (is_later (goal.at.returns-then-is_behind c).After-is_behind true c.if-is_behind.true)
+    turn_before c.loop-word.invariant c.in-Some.word.now (turn_of (goal.at.returns-then-is_behind c).In-Some)
+    (ap (λ (k : Word). same k dof) (sym c.key_in-key.ensures) ∙ sym c.if-same_bytes-2.ensures)
+    (ap (λ (k : Word). elem k keys_behind) (sym c.key_in-key.ensures) ∙ sym c.if-is_behind.ensures)
 
-pub returns-then-e-s : goal.returns-then-e-s
-returns-then-e-s c =
-    place_last c.args.s.now c.loop-key.at c.find-e.result c.loop-key.invariant c.find-e.ensures.value (not-dof (goal.at.returns-then-e-s c).After-is_behind)
-    (is_later (goal.at.returns-then-e-s c).After-is_behind false c.if-is_behind.false)
-    (omega arith)
+pub loop-word-preserved : goal.loop-word-preserved
+loop-word-preserved c =
+    let n = length_push c.loop-word.yielded c.in-Some.word in
+    subst (λ (n : ℕ). Turn c.args.s.now n (c.loop-word.at + length c.in-Some.word.now + 1)) (sym n)
+    (turn_next c.loop-word.invariant c.in-Some.word.now (turn_of (goal.at.loop-word-preserved c).In-Some)
+    (ap (λ (k : Word). same k dof) (sym c.key_in-key.ensures) ∙ sym c.if-same_bytes-2.ensures)
+    (ap (λ (k : Word). elem k keys_behind) (sym c.key_in-key.ensures) ∙ sym c.if-is_behind.ensures))
 
-pub loop-key-preserved : goal.loop-key-preserved
-loop-key-preserved c =
-    ahead_next c.args.s.now c.loop-key.at c.find-e.result c.loop-key.invariant c.find-e.ensures.value (not-dof (goal.at.loop-key-preserved c).After-is_behind)
-    (is_later (goal.at.loop-key-preserved c).After-is_behind false c.if-is_behind.false)
-    (omega arith)
+pub returns : goal.returns
+returns c =
+    let s = c.args.s.now in
+    let of = c.split-word-items.ensures in
+    let it = c.into_iter-word-iterator.ensures.into_iter_gives in
+    let all = YieldsList-end (YieldsList-from_slice_split _ (λ b. eqb b 32) s (ap split_rest it ∙ of.rest) (ap split_done it ∙ of.done) (ap split_callee it ∙ of.closure) (λ x b q k. search (rules, tests)))
+    c.loop-word.yielded _ c.loop-word.yielded_by _ _ c.in-None.is c.next.ensures.steps in
+    c.loop-word.invariant.none (omega (arith, all.1, ap (λ (ws : List Word). length ws) (split_listed 32 s)))

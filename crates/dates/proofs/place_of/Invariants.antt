@@ -1,10 +1,6 @@
-use Prim.Native.Nat.{◌-◌}
-use lib.ListN.{length}
-use Rattle.dates.proofs.Walk.{Ahead}
+use Rattle.std.specs.Prelude.{length}
+use Rattle.dates.proofs.Walk.{Turn}
 use Rattle.dates.proofs.place_of.Given as goal
 
-abbrev pub invariant-loop-key : goal.invariant-loop-key
-invariant-loop-key l = Ahead l.s l.at
-
-abbrev pub decreases-loop-key : goal.decreases-loop-key
-decreases-loop-key l = length l.s - l.at
+abbrev pub invariant-loop-word : goal.invariant-loop-word
+invariant-loop-word l = Turn l.s (length l.yielded) l.at
