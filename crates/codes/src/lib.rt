@@ -86,6 +86,7 @@ impl<'a> CodeList<'a> {
     {
         let mut seen = [false; 64];
         let mut codes = Codes { rest: s };
+        // Not a `for`: the iterator's rest is asked for inside.
         while let Some(w) = codes.next() {
             let rank = self.rank(w);
             if rank == 0 {
