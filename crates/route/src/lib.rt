@@ -66,7 +66,7 @@ const VISUAL: &[u8] = b"VFR";
 
 const INSTRUMENT: &[u8] = b"IFR";
 
-// Whether a word is an indicator.
+// Whether a word is an indicator. By `==`: as patterns the three are read byte by byte, in twelve cases for two.
 fn is_indicator(w: &[u8]) -> bool
     ensures { result ≡ elem w.now indicators }
 {
