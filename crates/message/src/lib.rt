@@ -65,12 +65,9 @@ fn note_each(s: &[u8], from: usize, to: usize, n: usize, ends: &mut FieldEnds) -
     ensures { Noted s.now ends.new result to }
 {
     let mut noted = n;
-    let mut i = from;
-    while i < to {
-        let at = i;
-        i += 1;
-        if s[at] == b'-' {
-            ends[noted] = at;
+    for i in from..to {
+        if s[i] == b'-' {
+            ends[noted] = i;
             noted += 1;
         }
     }
@@ -95,17 +92,16 @@ fn field_ends(s: &[u8]) -> FieldEnds
 {
     let mut ends = [0usize; MessageType::MOST_FIELDS];
     let mut n = 0;
-    let mut i = 0;
-    while 16 <= s.len() - i {
-        let from = i;
-        let half = i + 8;
-        i += 16;
-        if !text::is_free(b'-', &s[from..i]) {
+    for block in 0..s.len() / 16 {
+        let from = 16 * block;
+        let half = from + 8;
+        let to = from + 16;
+        if !text::is_free(b'-', &s[from..to]) {
             n = note(s, from, half, n, &mut ends);
-            n = note(s, half, i, n, &mut ends);
+            n = note(s, half, to, n, &mut ends);
         }
     }
-    n = note_each(s, i, s.len(), n, &mut ends);
+    n = note_each(s, s.len() / 16 * 16, s.len(), n, &mut ends);
     ends[n] = s.len();
     ends
 }
@@ -200,13 +196,11 @@ pub fn onward(s: &[u8], from: Cursor, n: usize) -> Cursor
     ensures { (result.at ≤ length s.now) × (drop result.at s.now ≡ behind_hyphen n (drop from.at s.now)) }
 {
     let mut c = from;
-    let mut left = n;
-    while left > 0 {
+    for _ in 0..n {
         if c.at == s.len() {
             return c;
         }
         c = c.next(s, b'-');
-        left -= 1;
     }
     c
 }

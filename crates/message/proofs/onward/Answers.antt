@@ -1,25 +1,37 @@
 -- `message::onward` meets its contract. Assumes nothing.
-use mathlib.Core.Path.{refl}
+use Prim.Native.Nat.{ℕ, ◌+◌, ◌-◌}
+use mathlib.Core.Path.{◌≡◌, ap, ◌∙◌}
+use lib.ListN.{drop}
+use Rattle.space.specs.Hyphens.{behind_hyphen}
 use Rattle.message.proofs.Walk.{hyphen_turn, hyphen_done}
 use Rattle.message.proofs.Nth.{hyphen_end}
 use native.Mathlib.Omega.{arith}
 use Rattle.message.proofs.onward.Goals as goal
 
-pub loop-left-init : goal.loop-left-init
-loop-left-init c =
-    (c.requires, refl)
+pub loop-init : goal.loop-init
+loop-init c =
+    let z : c.args.n - 0 ≡ c.args.n = omega arith in
+    (c.requires, ap (λ (k : ℕ). behind_hyphen k (drop c.args.from.at c.args.s.now)) z)
 
 pub returns-then-c-s : goal.returns-then-c-s
 returns-then-c-s c =
-    let l = c.loop-left in
-    (l.invariant.0, hyphen_end c.args.s.now _ l.c.at l.left (omega arith) l.invariant.1)
+    let l = c.loop in
+    (l.invariant.0, hyphen_end c.args.s.now _ l.c.at (c.args.n - l.counter) (omega arith) l.invariant.1)
 
-pub loop-left-preserved : goal.loop-left-preserved
-loop-left-preserved c =
-    let l = c.loop-left in
+pub next-c-requires : goal.next-c-requires
+next-c-requires c =
+    c.loop.invariant.0
+
+pub loop-preserved : goal.loop-preserved
+loop-preserved c =
+    let l = c.loop in
     let n = c.next-c.ensures in
-    (n.inside, hyphen_turn _ _ l.c.at _ l.left n c.loop-left-test.true l.invariant.1)
+    let z : c.args.n - (l.counter + 1) ≡ c.args.n - l.counter - 1 = omega arith in (
+      n.inside,
+      ap (λ (k : ℕ). behind_hyphen k (drop c.next-c.result.at c.args.s.now)) z
+          ∙ hyphen_turn _ _ l.c.at _ (c.args.n - l.counter) n (omega (arith, c.loop-test.true)) l.invariant.1,
+    )
 
 pub returns : goal.returns
 returns c =
-    let p = c.loop-left in (p.invariant.0, hyphen_done _ _ p.left c.loop-left-test.false p.invariant.1)
+    let l = c.loop in (l.invariant.0, hyphen_done _ _ (c.args.n - l.counter) (omega (arith, c.loop-test.false)) l.invariant.1)
