@@ -77,15 +77,6 @@ find_block c s i h e = omega (arith, find_part c s i (i + 16) (omega arith) (ome
 
 -- EVERY BYTE
 
-pub all_stop : (p : ℕ → Bool) (s : List ℕ) (i : ℕ) → i < length s → p (get_or s i 0) ≡ false → all p (drop i s) ≡ false
-all_stop p s i h e = rw (drop_here s i h, e)
-
-pub all_next : (p : ℕ → Bool) (s : List ℕ) (i : ℕ) → i < length s → p (get_or s i 0) ≡ true → all p (drop i s) ≡ all p (drop (i + 1) s)
-all_next p s i h e = rw (drop_here s i h, e)
-
-pub all_end : (p : ℕ → Bool) (s : List ℕ) (i : ℕ) → length s ≤ i → all p (drop i s) ≡ true
-all_end p s i h = rw (drop_end s i h)
-
 -- the same, gathered: `fine` says it of the bytes before i
 pub gather_next : (p : ℕ → Bool) (s : List ℕ) (i : ℕ) (fine : Bool) → i < length s
     → (fine && p (get_or s i 0)) && all p (drop (i + 1) s) ≡ fine && all p (drop i s)
@@ -95,15 +86,6 @@ pub gather_end : (p : ℕ → Bool) (s : List ℕ) (i : ℕ) (fine : Bool) → l
 gather_end p s i fine h = rw (drop_end s i h) (sym (and-true fine))
 
 -- THE BYTES AT THE FRONT THAT PASS A TEST
-
-pub leading_here : (p : ℕ → Bool) (s : List ℕ) (i : ℕ) → i < length s → p (get_or s i 0) ≡ false → leading p (drop i s) ≡ 0
-leading_here p s i h e = rw (drop_here s i h, e)
-
-pub leading_next : (p : ℕ → Bool) (s : List ℕ) (i : ℕ) → i < length s → p (get_or s i 0) ≡ true → leading p (drop i s) ≡ suc (leading p (drop (i + 1) s))
-leading_next p s i h e = rw (drop_here s i h, e)
-
-pub leading_end : (p : ℕ → Bool) (s : List ℕ) (i : ℕ) → length s ≤ i → leading p (drop i s) ≡ 0
-leading_end p s i h = rw (drop_end s i h)
 
 pub all-leading : (p : ℕ → Bool) (s : List ℕ) → all p (take (leading p s) s) ≡ true
 all-leading p [] = refl
@@ -150,13 +132,6 @@ module _ (p : ℕ → Bool) where
         go ih false f e = let h = both (p b) (all p (before c s)) e in rw h.0 (ap suc (ih h.1))
 
 -- EQUAL BYTES
-
-pub same_stop : (s t : List ℕ) (i : ℕ) → i < length s → i < length t → (get_or s i 0 ≡ get_or t i 0 → ⊥) → same (drop i s) (drop i t) ≡ false
-same_stop s t i h k e = rw (drop_here s i h, drop_here t i k, ne_eqb (get_or s i 0) (get_or t i 0) e)
-
-pub same_next : (s t : List ℕ) (i : ℕ) → i < length s → i < length t → get_or s i 0 ≡ get_or t i 0
-    → same (drop i s) (drop i t) ≡ same (drop (i + 1) s) (drop (i + 1) t)
-same_next s t i h k e = rw (drop_here s i h, drop_here t i k, eq-eqb (get_or s i 0) (get_or t i 0) e)
 
 pub same_end : (s t : List ℕ) (i : ℕ) → length s ≤ i → length t ≤ i → same (drop i s) (drop i t) ≡ true
 same_end s t i h k = rw (drop_end s i h, drop_end t i k)
