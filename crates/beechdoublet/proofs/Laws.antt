@@ -92,7 +92,7 @@ read_zero m room = go (answer_of m room) refl
 -- AN UPDATE
 
 -- a refusal has a number
-pub update_numbered : (h : Optional Strip) (strip m : List ℕ) (room : ℕ) → Numbered (update_as h strip m room)
+pub update_numbered : (h : Option Strip) (strip m : List ℕ) (room : ℕ) → Numbered (update_as h strip m room)
 update_numbered None strip m room = omega arith
 update_numbered (Some held) strip m room = go (update_of strip held m room) refl
   where
@@ -101,7 +101,7 @@ update_numbered (Some held) strip m room = go (update_of strip held m room) refl
     go (Err r) e = refused_numbered strip held m room r.number r.field r.place e
 
 -- 0 is given back exactly where the message is accepted
-pub update_zero : (h : Optional Strip) (strip m : List ℕ) (room : ℕ) → eqb (update_number (update_as h strip m room)) 0 ≡ was_taken (update_as h strip m room)
+pub update_zero : (h : Option Strip) (strip m : List ℕ) (room : ℕ) → eqb (update_number (update_as h strip m room)) 0 ≡ was_taken (update_as h strip m room)
 update_zero h strip m room = go (update_as h strip m room) (update_numbered h strip m room)
   where
     go : (u : Updated) → Numbered u → eqb (update_number u) 0 ≡ was_taken u
@@ -116,7 +116,11 @@ update_one ns (Ok (a, n)) (Ok (b, k)) hu hv e f =
     ap (λ (s : State). Ok (record { state = s }, n)) p ∙ ap (λ (n : ℕ). Ok (b, n)) q
 update_one ns (Ok (a, n)) (Err r) hu hv e f = let z : r.number ≡ 0 = cc in absurd (omega (arith, hv))
 update_one ns (Err r) (Ok (b, k)) hu hv e f = let z : r.number ≡ 0 = cc in absurd (omega (arith, hu))
-update_one ns (Err r) (Err r') hu hv e h = let n : r.number ≡ r'.number = cc in let f : r.field ≡ r'.field = cc in let p : r.place ≡ r'.place = cc in err_one r r' n f p
+update_one ns (Err r) (Err r') hu hv e h =
+    let n : r.number ≡ r'.number = cc in
+    let f : r.field ≡ r'.field = cc in
+    let p : r.place ≡ r'.place = cc in
+    err_one r r' n f p
 
 -- what an accepted message leaves can be handed in again
 pub next_handed : (ns strip m : List ℕ) (room : ℕ) (held next : Strip) (n : ℕ) → update_of strip held m room ≡ Ok (next, n)
@@ -188,11 +192,11 @@ read_told : (strip chg : List ℕ) (number : ℕ) (a : Answer) → answer_of chg
 read_told strip chg number (Ok (t, n)) e = type_told t (spelling_of t chg) strip chg number
 read_told strip chg number (Err r) e = pick (leb r.number 9)
   where
-    pick : (b : Bool) → Told (opened_as (cond b (Err r) (Err (refusal 14 0 0))) strip chg number)
+    pick : (b : Bool) → Told (opened_as (Err (cond b r (refusal 14 0 0))) strip chg number)
     pick true = (refused-number chg most r.number r.field r.place e).0
     pick false = omega arith
 
-pub asked_told : (h : Optional Strip) (strip chg : List ℕ) (number : ℕ) → Told (asked_as h strip chg number)
+pub asked_told : (h : Option Strip) (strip chg : List ℕ) (number : ℕ) → Told (asked_as h strip chg number)
 unfolding asked_of opening_of
 asked_told None strip chg number = omega arith
 asked_told (Some held) strip chg number = go (sound held && canonical_plan strip)
@@ -202,7 +206,7 @@ asked_told (Some held) strip chg number = go (sound held && canonical_plan strip
     go false = omega arith
 
 -- 0 is given back exactly where the field is shown
-pub asked_zero : (h : Optional Strip) (strip chg : List ℕ) (number : ℕ)
+pub asked_zero : (h : Option Strip) (strip chg : List ℕ) (number : ℕ)
     → eqb (asked_number (asked_as h strip chg number)) 0 ≡ was_shown (asked_as h strip chg number)
 asked_zero h strip chg number = go (asked_as h strip chg number) (asked_told h strip chg number)
   where
@@ -284,7 +288,11 @@ pub plan_one : (a b : Planned) → NumberedPlan a → NumberedPlan b → plan_nu
 plan_one (Ok p) (Ok q) ha hb e = ap Ok (parts_one p q e)
 plan_one (Ok p) (Err r) ha hb e = let z : r.number ≡ 0 = cc in absurd (omega (arith, hb))
 plan_one (Err r) (Ok q) ha hb e = let z : r.number ≡ 0 = cc in absurd (omega (arith, ha))
-plan_one (Err r) (Err r') ha hb e = let n : r.number ≡ r'.number = cc in let f : r.field ≡ r'.field = cc in let p : r.place ≡ r'.place = cc in err_one r r' n f p
+plan_one (Err r) (Err r') ha hb e =
+    let n : r.number ≡ r'.number = cc in
+    let f : r.field ≡ r'.field = cc in
+    let p : r.place ≡ r'.place = cc in
+    err_one r r' n f p
 
 pub plan_numbered : (m : List ℕ) → NumberedPlan (planned_of m)
 unfolding planned_of taken_of

@@ -1,7 +1,7 @@
 -- `beechdoublet::tell_part` meets its contract. Assumes nothing.
 use Rattle.beechdoublet.proofs.tell_part.Goals as goal
 
-pub returns-in-Ok : goal.returns-in-At
+pub returns-in-Ok : goal.returns-in-Ok
 returns-in-Ok c =
     let e = c.in-Ok.is in (rw e, rw e)
 
