@@ -92,7 +92,7 @@ read_zero m room = go (answer_of m room) refl
 -- AN UPDATE
 
 -- a refusal has a number
-pub update_numbered : (h : Optional Strip) (strip m : List ℕ) (room : ℕ) → Numbered (update_as h strip m room)
+pub update_numbered : (h : Option Strip) (strip m : List ℕ) (room : ℕ) → Numbered (update_as h strip m room)
 update_numbered None strip m room = omega arith
 update_numbered (Some held) strip m room = go (update_of strip held m room) refl
   where
@@ -101,7 +101,7 @@ update_numbered (Some held) strip m room = go (update_of strip held m room) refl
     go (Err r) e = refused_numbered strip held m room r.number r.field r.place e
 
 -- 0 is given back exactly where the message is accepted
-pub update_zero : (h : Optional Strip) (strip m : List ℕ) (room : ℕ) → eqb (update_number (update_as h strip m room)) 0 ≡ was_taken (update_as h strip m room)
+pub update_zero : (h : Option Strip) (strip m : List ℕ) (room : ℕ) → eqb (update_number (update_as h strip m room)) 0 ≡ was_taken (update_as h strip m room)
 update_zero h strip m room = go (update_as h strip m room) (update_numbered h strip m room)
   where
     go : (u : Updated) → Numbered u → eqb (update_number u) 0 ≡ was_taken u
@@ -196,7 +196,7 @@ read_told strip chg number (Err r) e = pick (leb r.number 9)
     pick true = (refused-number chg most r.number r.field r.place e).0
     pick false = omega arith
 
-pub asked_told : (h : Optional Strip) (strip chg : List ℕ) (number : ℕ) → Told (asked_as h strip chg number)
+pub asked_told : (h : Option Strip) (strip chg : List ℕ) (number : ℕ) → Told (asked_as h strip chg number)
 unfolding asked_of opening_of
 asked_told None strip chg number = omega arith
 asked_told (Some held) strip chg number = go (sound held && canonical_plan strip)
@@ -206,7 +206,7 @@ asked_told (Some held) strip chg number = go (sound held && canonical_plan strip
     go false = omega arith
 
 -- 0 is given back exactly where the field is shown
-pub asked_zero : (h : Optional Strip) (strip chg : List ℕ) (number : ℕ)
+pub asked_zero : (h : Option Strip) (strip chg : List ℕ) (number : ℕ)
     → eqb (asked_number (asked_as h strip chg number)) 0 ≡ was_shown (asked_as h strip chg number)
 asked_zero h strip chg number = go (asked_as h strip chg number) (asked_told h strip chg number)
   where

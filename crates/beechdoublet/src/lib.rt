@@ -1,7 +1,7 @@
 // The calls for programs in C and Rust. Answers and states go in and out as plain numbers, which include/beechdoublet.h names.
 #![tactic(auto)]
 
-ghost use Rattle.std.specs.Prelude.{◌≡◌, [], ◌∷◌, length};
+ghost use Rattle.std.specs.Prelude.{◌≡◌, [], ◌∷◌, Ok, length};
 ghost use Rattle.message.specs.Reading.{answer_of, out_after};
 ghost use Rattle.asked.specs.Parts.{Shows};
 ghost use Rattle.parts.specs.Parts.{field_of, content_asked as content_numbered, planned_of};
@@ -124,17 +124,23 @@ fn field_told(asked: u64, number: u8, field: u8) -> u64
     asked
 }
 
+// The numbers of where a field in force stands.
+fn place_numbers(p: Place) -> [u64; 6]
+    ensures { result ≡ asked_numbers (Ok p) }
+{
+    match p {
+        Place::InStrip { from, to } => [0, 0, 0, 1, from as u64, to as u64],
+        Place::InChange { from, to } => [0, 0, 0, 2, from as u64, to as u64],
+    }
+}
+
 // Lays out where a field in force stands, and gives the answer's number.
 fn tell_asked(a: Asked, asked: u64, answer: &mut [u64; 6]) -> u8
     ensures { (result ≡ asked_number a) × (answer.new ≡ asked_numbers (asked_whole asked a)) }
 {
     match a {
-        Ok(Place::InStrip { from, to }) => {
-            *answer = [0, 0, 0, 1, from as u64, to as u64];
-            0
-        }
-        Ok(Place::InChange { from, to }) => {
-            *answer = [0, 0, 0, 2, from as u64, to as u64];
+        Ok(place) => {
+            *answer = place_numbers(place);
             0
         }
         Err(refusal) => {

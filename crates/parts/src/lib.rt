@@ -40,7 +40,8 @@ pub struct OffBlock {
     pub time: Clock,
 }
 
-// Field 16: where the aerodrome's four letters begin, the elapsed time, how many alternates, and where the letters of each begin, or 0.
+// Field 16: where the aerodrome's four letters begin, the elapsed time, how many alternates, and where the letters of each begin, or 0: as
+// `ShowsPlan` speaks of them, and as C gets them (`beechdoublet_plan`).
 #[derive(Clone, Copy)]
 pub struct Destination {
     pub aerodrome: usize,

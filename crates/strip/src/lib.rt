@@ -13,7 +13,7 @@ use outer::Refusal;
 use shape::Clock;
 use state::{Event, Strip};
 
-// Which of the values that are compared differ from the strip's.
+// Which of the values that are compared differ from the strip's: a set of five, any of them with any other.
 #[derive(Clone, Copy)]
 pub struct Differences {
     pub identification: bool,
