@@ -61,7 +61,8 @@ module _ {X : Type 0} (stop : X → Bool) (xs : List X) (r : Option ℕ)
       let b : position_or_len stop xs ≤ length xs = prefix_len-le-length _ xs in
       omega (arith, b, go (ltb (position_or_len stop xs) (length xs)) refl (sym e ∙ found))
     where
-      go : (t : Bool) → ltb (position_or_len stop xs) (length xs) ≡ t → None ≡ cond t (Some (position_or_len stop xs)) None → length xs ≤ position_or_len stop xs
+      go : (t : Bool) → ltb (position_or_len stop xs) (length xs) ≡ t → None ≡ cond t (Some (position_or_len stop xs)) None → length xs ≤
+          position_or_len stop xs
       go true p q = cc
       go false p q = ltb-false _ _ p
 

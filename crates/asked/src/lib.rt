@@ -22,7 +22,7 @@ pub enum Place {
 // Where it stands, or the refusal.
 pub type Asked = Result<Place, Refusal>;
 
-// The rank of a field number among the eight that an entry may name; 0 for any other number.
+// The rank of a field number among the eight that an entry may name; 0 for any other number: the clauses `stands_as` and `flight_as` go by that number.
 fn rank_of(number: u8) -> usize
     ensures { result ≡ rank_of number }
 {
@@ -123,6 +123,7 @@ pub fn ask(strip: &[u8], held: Strip, chg: &[u8], number: u8) -> Asked
     ensures value { result ≡ asked_of strip.now held chg.now number }
     ensures shows { Shows result strip.now chg.now (in_force (inner strip.now) (inner chg.now) (rank_of number)) }
 {
+    // A fixed room: nothing is allocated.
     let mut scratch = [0u8; outer::MOST_BYTES];
     let (t, n) = opening::open_strip(strip, held, chg, &mut scratch)?;
     ask_read(t, &scratch[..n], strip, chg, number)

@@ -55,6 +55,7 @@ fn amended_cause<'a>(role: Role, plan: &'a [u8], said: &'a [u8]) -> Cause
     requires { Texts plan.now said.now }
     ensures { result ≡ amended_cause (amended role plan.now said.now) }
 {
+    // A fixed room: nothing is allocated.
     let mut new = [0u8; strip::ROOM];
     let n = amending::write_amended(role, plan, said, &mut new);
     let e = n - 1;
@@ -89,6 +90,7 @@ fn offered_cause<'a>(role: Role, held: Strip, plan: &'a [u8], said: &'a [u8]) ->
 pub fn cause_of(strip: &[u8], held: Strip, msg: &[u8]) -> Cause
     ensures { result ≡ cause_of strip.now held msg.now }
 {
+    // A fixed room: nothing is allocated.
     let mut scratch = [0u8; outer::MOST_BYTES];
     match opening::open_strip(strip, held, msg, &mut scratch) {
         Err(_) => Cause::NothingMore,

@@ -15,6 +15,7 @@ fn with_byte(codes: &SomeCodes, p: &[u8], d: u8) -> bool
     if usize::from(codes.most) <= p.len() {
         return false;
     }
+    // A fixed room: nothing is allocated.
     let mut scratch = [0u8; 256];
     let n = text::put(p, &mut scratch);
     scratch[n] = d;

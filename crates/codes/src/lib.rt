@@ -31,7 +31,8 @@ impl<'a> Iterator for Codes<'a> {
     }
 }
 
-// The place of the cell b c in a list, counted from 1 and looked for behind the first f cells; 0 where it has none.
+// The place of the cell b c in a list, counted from 1 and looked for behind the first f cells; 0 where it has none. A number, as the definition `rank` is:
+// ranks are marks in `fit`, and an Option would be taken apart again for each code.
 fn cell_behind(f: usize, b: u8, c: u8, list: &[u8]) -> usize
     requires { (f ≤ 255) × (b ≡ 32 → ⊥) }
     ensures { result ≡ rank_from (f + 1) (before 32 (b ∷ (c ∷ []))) (cells 2 (drop (2 * f) list.now)) }

@@ -35,6 +35,7 @@ fn offer(flight: Flight, piece: &[u8], strip: &mut [u8]) -> Updated
     requires { (length strip.old ≡ most) × (flight.length ≤ most) }
     ensures { Offering (Some flight) strip.old piece.now result strip.new }
 {
+    // A fixed room: nothing is allocated.
     let mut new = [0u8; outer::MOST_BYTES];
     let (next, k) = strip::update(&strip[..flight.length], flight.held, piece, &mut new)?;
     text::put(&new[..k], strip);
@@ -104,8 +105,10 @@ fn run<R: Print>(console: &Console<'_, R>, s: &[u8], strip: &mut [u8]) -> Option
 
 fn main(rt: HostRuntime) -> ExitCode {
     let console = Console::new(&rt, rt.stderr());
+    // A fixed room: nothing is allocated.
     let mut buffer = [0u8; 65537];
     let n = say::messages(&console, &mut rt.stdin(), &mut buffer);
+    // A fixed room: nothing is allocated.
     let mut strip = [0u8; outer::MOST_BYTES];
     run(&console, &buffer[..n], &mut strip);
     say::status(&console)

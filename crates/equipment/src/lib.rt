@@ -11,8 +11,8 @@ use codes::{CodeList, SomeCodes};
 // The side of an aircraft that carries none of its list.
 const NOTHING: &[u8] = b"N";
 
-// Whether a side fits: N alone, or one or more codes of the list, none twice, in at most so many bytes. It stands for docs/PROMISES.md, which names it, and takes
-// any number for `most`.
+// Whether a side fits: N alone, or one or more codes of the list, none twice, in at most so many bytes. It stands for docs/PROMISES.md, which names it,
+// and takes any number for `most`.
 pub fn side_by(first: &[u8; 26], list: &[u8], most: usize, s: &[u8]) -> bool
     requires { is_index first.now (cells 2 list.now) ≡ true }
     ensures { result ≡ side_fits (cells 2 list.now) most (codes s.now) }

@@ -39,7 +39,7 @@ fn place_entry(s: &[u8]) -> usize
     o + 1 + place_named(k, &s[o + 1..])
 }
 
-// The place of a content that does not fit its form.
+// The place of a content that does not fit its form. One `match`, since it names every form: a table of functions would not be held to be whole.
 pub fn place_in(f: Form, s: &[u8]) -> usize
     ensures { result ≡ place_in f s.now }
 {

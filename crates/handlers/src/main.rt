@@ -118,6 +118,7 @@ fn serve<R: Print, I: Read>(
     requires { Sized board.places bytes.old }
     ensures { Serves journal.entry board.places bytes.old result.places bytes.new }
 {
+    // A fixed room: nothing is allocated.
     let mut chunk = [0u8; 4096];
     let mut line = [0u8; 4096];
     let mut now = board;
@@ -186,6 +187,7 @@ fn replay_all<R>(console: &Console<'_, R>, file: &JournalFile, bytes: &mut [u8; 
     requires { length bytes.old ≡ 36000 }
     ensures { PlaysAgain result bytes.new }
 {
+    // A fixed room: nothing is allocated.
     let mut chunk = [0u8; 4096];
     let mut line = [0u8; 4096];
     let mut now = Board::empty();
@@ -232,6 +234,7 @@ fn start<R: Print, I: Read>(
 fn main(rt: HostRuntime) -> ExitCode {
     let console = Console::new(&rt, rt.stderr());
     let mut input = rt.stdin();
+    // A fixed room: nothing is allocated.
     let mut bytes = [0u8; 36000];
     if !journal::is_named(&rt) {
         serve(

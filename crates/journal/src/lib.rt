@@ -313,6 +313,7 @@ fn no_name<R>(console: &Console<'_, R>) -> Option<JournalFile> {
 
 // Whether the program has an argument, which names a journal.
 pub fn is_named<R: Env>(rt: &R) -> bool {
+    // A fixed room: nothing is allocated.
     let mut path = [0u8; 4096];
     !matches!(rt.arg(1, &mut path), Err(FillError::NotPresent))
 }
@@ -322,6 +323,7 @@ pub fn open_named<R: Env + Files<File = File>>(
     console: &Console<'_, R>,
     rt: &R,
 ) -> Option<JournalFile> {
+    // A fixed room: nothing is allocated.
     let mut path = [0u8; 4096];
     let Ok(n) = rt.arg(1, &mut path) else {
         return no_name(console);

@@ -17,6 +17,7 @@ fn put_list(s: &[u8], out: &mut [u8]) -> usize
 {
     let mut o = 0;
     let mut at = pieces::skip_white(s, 0);
+    // A loop: where a piece ends is for `pieces::piece_end` to say, and no method of slices cuts so.
     while at < s.len() {
         let e = pieces::piece_end(s, at);
         o += lines::line(&s[at..e], &mut out[o..]).length;
@@ -36,8 +37,10 @@ fn list(s: &[u8], out: &mut [u8; 589828]) -> usize
 
 fn main(rt: HostRuntime) -> ExitCode {
     let console = Console::new(&rt, rt.stderr());
+    // A fixed room: nothing is allocated.
     let mut buffer = [0u8; 65537];
     let n = say::messages(&console, &mut rt.stdin(), &mut buffer);
+    // A fixed room: nothing is allocated.
     let mut out = [0u8; 589828];
     let k = list(&buffer[..n], &mut out);
     say::print(&console, &out[..k]);

@@ -128,6 +128,7 @@ fn fields_fault(t: MessageType, count: usize, s: &[u8], ends: &FieldEnds) -> Res
     let mut seen = [false; 9];
     let mut at = 0;
     let mut j = 0;
+    // A loop: each field is cut at its end, which is noted and need not be found again.
     loop {
         let e = ends[j];
         let form = row[j];
@@ -152,6 +153,7 @@ fn spelled_length(t: MessageType, count: usize, s: &[u8]) -> usize
     let mut n = 0;
     let mut at = 0;
     let mut j = 0;
+    // A loop: the field, its form and its place go on together, and the place ends it.
     loop {
         let e = text::find(s, at, b'-');
         n += 1 + forms::spelled_length(t.form_at(count, j), &s[at..e]);
@@ -175,6 +177,7 @@ fn write_fields(t: MessageType, count: usize, s: &[u8], ends: &FieldEnds, out: &
     let mut o = 1;
     let mut at = 0;
     let mut j = 0;
+    // A loop, as in `fields_fault`: what is written of a field says where the next one goes.
     loop {
         let e = ends[j];
         let form = row[j];
@@ -346,6 +349,7 @@ fn read_scratch(t: MessageType, count: usize, msg: &[u8], out: &mut [u8]) -> Ans
     ensures { (result ≡ fields_as t msg.now (length out.old))
         × (out.new ≡ written_as (fields_as t msg.now (length out.old)) msg.now out.old) }
 {
+    // A fixed room: nothing is allocated.
     let mut scratch = [0u8; outer::MOST_BYTES];
     let n = space::reduce(msg, &mut scratch);
     let e = n - 1;

@@ -23,6 +23,7 @@ fn date_with(p: &[u8], others: &[u8]) -> bool
     if p.len() > 6 {
         return false;
     }
+    // A fixed room: nothing is allocated.
     let mut scratch = [0u8; 6];
     text::put(others, &mut scratch);
     text::put(p, &mut scratch);

@@ -69,6 +69,7 @@ pub type Taken = Result<(MessageType, bool), Refusal>;
 fn read_own(m: &[u8]) -> Taken
     ensures { result ≡ taken_of m.now }
 {
+    // A fixed room: nothing is allocated.
     let mut scratch = [0u8; outer::MOST_BYTES];
     let (t, n) = message::read(m, &mut scratch)?;
     Ok((t, text::same_bytes(&scratch[..n], m)))

@@ -84,7 +84,7 @@ impl Board {
             .count()
     }
 
-    // The lowest slot of a firm in which nothing stands; 10 where there is none.
+    // The lowest slot of a firm in which nothing stands; 10 where there is none, as the definition `lowest` has it.
     pub fn lowest_of(self, f: Firm) -> usize
         ensures { result ≡ lowest (board_in self.places [] f) }
     {

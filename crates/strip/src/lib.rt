@@ -160,6 +160,7 @@ fn amend<'a>(role: Role, next: Strip, plan: &'a [u8], said: &'a [u8], out: &mut 
     requires { Texts plan.now said.now }
     ensures { Amends role next plan.now said.now out.old result out.new }
 {
+    // A fixed room: nothing is allocated.
     let mut new = [0u8; ROOM];
     let n = amending::write_amended(role, plan, said, &mut new);
     let e = n - 1;
@@ -205,6 +206,7 @@ pub fn update(strip: &[u8], held: Strip, msg: &[u8], out: &mut [u8]) -> Updated
     ensures { (result ≡ update_of strip.now held msg.now (length out.old))
         × (out.new ≡ out_after strip.now held msg.now out.old) }
 {
+    // A fixed room: nothing is allocated.
     let mut scratch = [0u8; outer::MOST_BYTES];
     let (t, n) = opening::open_strip(strip, held, msg, &mut scratch)?;
     let e = n - 1;

@@ -480,8 +480,10 @@ fn each_byte<R: Print>(
 // line feed behind it.
 fn main(rt: HostRuntime) -> ExitCode {
     let console = Console::new(&rt, rt.stderr());
+    // A fixed room: nothing is allocated.
     let mut block = [0u8; 65536];
     let mut line = [0u8; 8192];
+    // A fixed room: nothing is allocated.
     let mut plan = [0u8; 8192];
     let mut run = Run {
         gathered: Some(0),

@@ -17,7 +17,8 @@ digits-there : (c : After-all_of) → all digit (polar_of c.args.self.bytes.now)
 digits-there c =
     ap (all digit) (sym (rest c.args.self.bytes.now (length c.args.self.bytes.now - 6))) ∙ sym c.all_of.ensures
 
-told : (c : After-all_of) → radial_fits c.args.self.bytes.now ≡ (all digit (polar_of c.args.self.bytes.now) && leb (number_at 0 3 (polar_of c.args.self.bytes.now)) 360)
+told : (c : After-all_of) → radial_fits c.args.self.bytes.now ≡
+    (all digit (polar_of c.args.self.bytes.now) && leb (number_at 0 3 (polar_of c.args.self.bytes.now)) 360)
 told c =
     by_bearing c.args.self.bytes.now c.args.self.signs c.requires c.if-w-gt11.false
 
