@@ -169,7 +169,7 @@ pub fn has_alternate(s: &[u8], name: &[u8]) -> bool
 #[derive(Clone, Copy)]
 pub struct Aerodrome(pub u8, pub u8, pub u8, pub u8);
 
-// The byte at i, or 0 where there is none.
+// The byte at i, or 0 where there is none, as `aerodrome_in` has it.
 fn byte_at(s: &[u8], i: usize) -> u8
     ensures { result ≡ get_or s.now i 0 }
 {

@@ -57,7 +57,7 @@ pub fn any(list: &[u8], w: &[u8]) -> bool
     list.split(|&b| b == b' ').any(|t| fits(t, w))
 }
 
-// The number of one digit; 0 for a byte below the digits.
+// The number of one digit; 0 for a byte below the digits, as `value` has it.
 pub fn one(b: u8) -> usize
     ensures { (result ≡ b - 48) × (result < 256) }
 {

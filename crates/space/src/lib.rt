@@ -24,7 +24,7 @@ fn is_closing(b: u8) -> bool
     matches!(b, b'-' | b')')
 }
 
-// The last byte, or 0 where there is none.
+// The last byte, or 0 where there is none, as the definition `last_of` has it.
 fn last_of(s: &[u8]) -> u8
     ensures { result ≡ last_of s.now }
 {

@@ -43,7 +43,7 @@ fn last_field<'a>(s: &'a [u8]) -> &'a [u8]
     }
 }
 
-// The time of day in a content; 0 where there is none.
+// The time of day in a content; 0 where there is none, as the definition `time_of` has it.
 fn time_in(s: &[u8]) -> Clock
     ensures { result ≡ time_of (clock_at s.now) }
 {
