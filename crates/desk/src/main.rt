@@ -75,7 +75,7 @@ fn take<R: Print>(
 {
     match answer(desk, piece, strip) {
         Ok((held, length)) => {
-            say::strip(console, held, &strip[..length]);
+            console.strip(held, &strip[..length]);
             Some(Flight { held, length })
         }
         Err(refusal) => {
@@ -92,12 +92,8 @@ fn run<R: Print>(console: &Console<'_, R>, s: &[u8], strip: &mut [u8]) -> Option
     ensures { standing_in result strip.new ≡ after_all None (pieces_of s.now) }
 {
     let mut desk = None;
-    let mut at = pieces::skip_white(s, 0);
-    // A loop: where a piece ends is for `pieces::piece_end` to say, and no method of slices cuts so.
-    while at < s.len() {
-        let e = pieces::piece_end(s, at);
-        desk = take(console, desk, &s[at..e], strip);
-        at = pieces::skip_white(s, e);
+    for piece in pieces::of(s) {
+        desk = take(console, desk, piece, strip);
     }
     desk
 }
@@ -105,8 +101,8 @@ fn run<R: Print>(console: &Console<'_, R>, s: &[u8], strip: &mut [u8]) -> Option
 fn main(rt: HostRuntime) -> ExitCode {
     let console = Console::new(&rt, rt.stderr());
     let mut buffer = [0u8; 65537];
-    let n = say::messages(&console, &mut rt.stdin(), &mut buffer);
+    let n = console.messages(&mut rt.stdin(), &mut buffer);
     let mut strip = [0u8; outer::MOST_BYTES];
     run(&console, &buffer[..n], &mut strip);
-    say::status(&console)
+    console.status()
 }
