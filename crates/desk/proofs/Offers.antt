@@ -1,5 +1,5 @@
 -- What filing a plan and offering a piece to the strip leave on the desk. Assumes nothing.
-use Prim.Native.Nat.{ℕ, ◌+◌, ◌-◌, ◌≤◌, ◌<◌}
+use Prim.Native.Nat.{ℕ, ◌≤◌}
 use mathlib.Core.Path.{◌≡◌, refl, sym, ap, ◌∙◌}
 use mathlib.Core.Bool.{true, false}
 use mathlib.Core.List.{List, [], ◌∷◌, map}
@@ -9,8 +9,6 @@ use lib.Seq.{take_at, length-take-le}
 use Rattle.std.specs.Prelude.{Option, None, Some, Ok, Err}
 use Rattle.text.specs.Words.{Word}
 use Rattle.text.specs.Lent.{front}
-use Rattle.pieces.specs.Pieces.{white_ahead, piece_end, pieces_of}
-use Rattle.pieces.proofs.Walk.{to_front, next_piece}
 use Rattle.kinds.specs.declared.MessageType.{MessageType}
 use Rattle.message.specs.Answer.{Answer}
 use Rattle.message.specs.Reading.{is_plan, spelling_of, answer_of, written_as, out_after}
@@ -108,16 +106,6 @@ module _ (f : Flight) (buffer m after : List ℕ) where
 pub then_holds : (before : Option Flight) (buffer m after : List ℕ) (r u : Updated) → Offering before buffer m r after → r ≡ u
     → (standing_in (held_after u before) after ≡ standing_after (standing_in before buffer) m) × InRoom (held_after u before)
 then_holds before buffer m after r u o e = (rw e at o.standing_is, rw e at o.in_room)
-
--- A TURN OF THE RUN: a piece is taken, and the pieces ahead are those behind it
-pub one_more_lem : (s : List ℕ) (at e next : ℕ) (b after all : Option Standing) → at < length s → white_ahead (drop at s) ≡ 0 → e ≡ piece_end s at
-    → next ≡ e + white_ahead (drop e s) → after ≡ standing_after b (take (e - at) (drop at s)) → after_all b (pieces_of (drop at s)) ≡ all
-    → after_all after (pieces_of (drop next s)) ≡ all
-one_more_lem s at e next b after all h z p q r i =
-    ap (λ (x : Option Standing). after_all x (pieces_of (drop next s))) r
-    ∙ ap (λ (ms : List Word). after_all (standing_after b (take (e - at) (drop at s))) ms) (to_front s e next q).same_pieces
-    ∙ sym (ap (λ (ms : List Word). after_all b ms) (next_piece s at e h z p))
-    ∙ i
 
 -- DEMAND 3: once a plan is filed, the desk goes by the run of offers that the demand speaks of
 pub as_offered : (b : Standing) (ms : List Word) → after_all (Some b) ms ≡ Some (offered_all updater b (map offer_of ms))

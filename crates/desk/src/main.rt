@@ -76,7 +76,7 @@ fn take<R: Print>(
 {
     match answer(desk, piece, strip) {
         Ok((held, length)) => {
-            say::strip(console, held, &strip[..length]);
+            console.strip(held, &strip[..length]);
             Some(Flight { held, length })
         }
         Err(refusal) => {
@@ -93,12 +93,8 @@ fn run<R: Print>(console: &Console<'_, R>, s: &[u8], strip: &mut [u8]) -> Option
     ensures { standing_in result strip.new ≡ after_all None (pieces_of s.now) }
 {
     let mut desk = None;
-    let mut at = pieces::skip_white(s, 0);
-    // A loop: where a piece ends is for `pieces::piece_end` to say, and no method of slices cuts so.
-    while at < s.len() {
-        let e = pieces::piece_end(s, at);
-        desk = take(console, desk, &s[at..e], strip);
-        at = pieces::skip_white(s, e);
+    for piece in pieces::of(s) {
+        desk = take(console, desk, piece, strip);
     }
     desk
 }
@@ -107,9 +103,9 @@ fn main(rt: HostRuntime) -> ExitCode {
     let console = Console::new(&rt, rt.stderr());
     // A fixed room: nothing is allocated.
     let mut buffer = [0u8; 65537];
-    let n = say::messages(&console, &mut rt.stdin(), &mut buffer);
+    let n = console.messages(&mut rt.stdin(), &mut buffer);
     // A fixed room: nothing is allocated.
     let mut strip = [0u8; outer::MOST_BYTES];
     run(&console, &buffer[..n], &mut strip);
-    say::status(&console)
+    console.status()
 }

@@ -51,7 +51,7 @@ fn make<R: Print>(
     let mut trial = *bytes;
     let t = play(board, call, line, &mut trial);
     if is_accepted(t.verdict) && !journal::keep(journal, line) {
-        say::print(console, b"NOT KEPT\n");
+        console.print(b"NOT KEPT\n");
         return board;
     }
     *bytes = trial;
@@ -80,7 +80,7 @@ fn take<R: Print>(
             board
         }
         None => {
-            say::print(console, b"BAD LINE\n");
+            console.print(b"BAD LINE\n");
             board
         }
     }
@@ -101,7 +101,7 @@ fn end_line<R: Print>(
     match w {
         Waiting::Holds(n) => take(console, board, journal, &line[..n], bytes),
         Waiting::TooLong => {
-            say::print(console, b"TOO LONG\n");
+            console.print(b"TOO LONG\n");
             board
         }
     }
@@ -244,10 +244,10 @@ fn main(rt: HostRuntime) -> ExitCode {
             Journal::Nowhere,
             &mut bytes,
         );
-        return say::status(&console);
+        return console.status();
     }
     if let Some(file) = journal::open_named(&console, &rt) {
         start(&console, &mut input, &file, &mut bytes);
     }
-    say::status(&console)
+    console.status()
 }

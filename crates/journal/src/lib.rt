@@ -182,7 +182,7 @@ pub fn next_of_input<R, I: Read>(
 {
     let t = next_line(from, true, reader, chunk, line);
     if let Stage::Failed = t.stage {
-        say::complain(console, b"beechdoublet: standard input cannot be read\n");
+        console.complain(b"beechdoublet: standard input cannot be read\n");
     }
     match t.stage {
         Stage::Ended => t,
@@ -197,8 +197,7 @@ pub fn next_of_input<R, I: Read>(
 
 // Says that a line of the journal cannot be played again.
 pub fn complain_of_line<R>(console: &Console<'_, R>) {
-    say::complain(
-        console,
+    console.complain(
         b"beechdoublet: a line of the journal is no call that is accepted; the journal is left as it is\n",
     );
 }
@@ -207,9 +206,7 @@ pub fn complain_of_line<R>(console: &Console<'_, R>) {
 fn complain_of<R>(console: &Console<'_, R>, w: Waiting) {
     match w {
         Waiting::TooLong => complain_of_line(console),
-        Waiting::Holds(_) => {
-            say::complain(console, b"beechdoublet: the journal cannot be read\n")
-        }
+        Waiting::Holds(_) => { console.complain(b"beechdoublet: the journal cannot be read\n") }
     }
 }
 
@@ -293,7 +290,7 @@ fn open_at<R: Files<File = File>>(
     path: &str,
 ) -> Option<JournalFile> {
     let Ok(file) = open_or_make(rt, path) else {
-        say::complain(console, b"beechdoublet: the journal cannot be opened\n");
+        console.complain(b"beechdoublet: the journal cannot be opened\n");
         return None;
     };
     Some(JournalFile {
@@ -304,10 +301,7 @@ fn open_at<R: Files<File = File>>(
 
 // The name of the journal is longer than 4,096 bytes, or is no text.
 fn no_name<R>(console: &Console<'_, R>) -> Option<JournalFile> {
-    say::complain(
-        console,
-        b"beechdoublet: the name of the journal cannot be read\n",
-    );
+    console.complain(b"beechdoublet: the name of the journal cannot be read\n");
     None
 }
 
@@ -358,15 +352,11 @@ pub fn drop_torn<R>(console: &Console<'_, R>, journal: &JournalFile, n: usize) -
         return true;
     }
     if drop_last(&journal.file, n).is_err() {
-        say::complain(
-            console,
+        console.complain(
             b"beechdoublet: the last line of the journal has no end, and cannot be dropped\n",
         );
         return false;
     }
-    say::note(
-        console,
-        b"handlers: the last line of the journal has no end, and was dropped\n",
-    );
+    console.note(b"handlers: the last line of the journal has no end, and was dropped\n");
     true
 }

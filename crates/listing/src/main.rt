@@ -39,10 +39,10 @@ fn main(rt: HostRuntime) -> ExitCode {
     let console = Console::new(&rt, rt.stderr());
     // A fixed room: nothing is allocated.
     let mut buffer = [0u8; 65537];
-    let n = say::messages(&console, &mut rt.stdin(), &mut buffer);
+    let n = console.messages(&mut rt.stdin(), &mut buffer);
     // A fixed room: nothing is allocated.
     let mut out = [0u8; 589828];
     let k = list(&buffer[..n], &mut out);
-    say::print(&console, &out[..k]);
-    say::status(&console)
+    console.print(&out[..k]);
+    console.status()
 }

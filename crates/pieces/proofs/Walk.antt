@@ -7,6 +7,7 @@ use native.Mathlib.Omega.{arith}
 use lib.Dec.{eqb}
 use lib.ListN.{length, take, drop, length-drop}
 use lib.Seq.{drop-drop}
+use Rattle.std.proofs.lemmas.List.{take_rest}
 use borrow.Author.Tests.{eqb-true}
 use Rattle.alphabet.specs.Alphabet.{white}
 use Rattle.text.specs.Words.{Word, onto, up_to}
@@ -132,3 +133,47 @@ next_piece s at e h z q =
 pub no_piece : (s : List ℕ) (at : ℕ) → length s ≤ at → pieces_of (drop at s) ≡ []
 unfolding pieces_of
 no_piece s at h = ap pieces_of (drop_end s at h)
+
+-- from the front of an input: its first piece, if there is one, and the pieces of what is behind it
+pub front_piece : (s : List ℕ) (from e : ℕ) → from ≡ 0 + white_ahead (drop 0 s) → from < length s → e ≡ piece_end s from
+    → pieces_of s ≡ take (e - from) (drop from s) ∷ pieces_of (take (length s - e) (drop e s))
+front_piece s from e w h q =
+    let f = to_front s 0 from w in
+    sym f.same_pieces ∙ next_piece s from e h f.none_ahead q ∙ ap (λ (t : List ℕ). take (e - from) (drop from s) ∷ pieces_of t) (sym (take_rest s e))
+
+pub no_front : (s : List ℕ) (from : ℕ) → from ≡ 0 + white_ahead (drop 0 s) → length s ≤ from → pieces_of s ≡ []
+no_front s from w h = sym (to_front s 0 from w).same_pieces ∙ no_piece s from h
+
+-- WHAT THE PIECES TAKE: each has a byte or more, and one behind the other they take no more than the input
+
+abbrev pub Within : ℕ → List Word → Type 0
+Within room [] = Unit
+Within room (m ∷ ms) = (1 ≤ length m) × (length m ≤ room) × Within (room - length m) ms
+
+abbrev total : List Word → ℕ
+total [] = 0
+total (w ∷ ws) = length w + total ws
+
+onto_total : (b : ℕ) (ws : List Word) → total (onto b ws) ≡ suc (total ws)
+onto_total b [] = refl
+onto_total b (w ∷ ws) = omega arith
+
+parts_total : (s : List ℕ) → total (parts s) ≡ length s
+parts_total [] = refl
+parts_total (b ∷ s) = go (parts_total s) (eqb b 41)
+  where
+    go : total (parts s) ≡ length s → (x : Bool) → total (cond x ((b ∷ []) ∷ parts s) (onto b (parts s))) ≡ suc (length s)
+    go ih true = omega arith
+    go ih false = onto_total b (parts s) ∙ ap suc ih
+
+kept_within : (ws : List Word) (room : ℕ) → total ws ≤ room → Within room (kept ws)
+kept_within [] room h = tt
+kept_within (w ∷ ws) room h = go (trimmed w) (omega (arith, length-drop (white_ahead w) w)) (kept_within ws)
+  where
+    go : (t : Word) → length t ≤ length w → ((r : ℕ) → total ws ≤ r → Within r (kept ws)) → Within room (unless_empty t (kept ws))
+    go [] k ih = ih room (omega arith)
+    go (b ∷ t) k ih = (omega arith, omega arith, ih (room - length (b ∷ t)) (omega arith))
+
+pub pieces_within : (s : List ℕ) → Within (length s) (pieces_of s)
+unfolding pieces_of
+pieces_within s = kept_within (parts s) (length s) (omega (arith, parts_total s))

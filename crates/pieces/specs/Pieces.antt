@@ -3,6 +3,7 @@ use Rattle.std.specs.Prelude.{ℕ, suc, ◌+◌, min, ◌≡◌, refl, cond, Lis
 use Rattle.alphabet.specs.Text.{bytes}
 use Rattle.alphabet.specs.Alphabet.{white}
 use Rattle.text.specs.Words.{Word, onto, up_to}
+use Rattle.pieces.specs.declared.Pieces.{Pieces}
 
 -- how many bytes of white space stand at the front
 abbrev pub white_ahead : List ℕ → ℕ
@@ -32,6 +33,10 @@ kept (w ∷ ws) = unless_empty (trimmed w) (kept ws)
 
 unfoldable pub pieces_of : List ℕ → List Word
 pieces_of s = kept (parts s)
+
+-- those that are still to come
+abbrev pub pieces_left : Pieces → List Word
+pieces_left p = pieces_of p.left.now
 
 -- EXAMPLES, computed
 

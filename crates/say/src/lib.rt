@@ -31,36 +31,47 @@ impl<'a, R> Console<'a, R> {
             complained: Cell::new(false),
         }
     }
-}
 
-// Says what went wrong first, and no more.
-pub fn complain<R>(console: &Console<'_, R>, what: &[u8]) {
-    if !console.complained.get() {
-        note(console, what);
-        console.complained.set(true);
+    // Says what went wrong first, and no more.
+    pub fn complain(&self, what: &[u8]) {
+        if !self.complained.get() {
+            self.note(what);
+            self.complained.set(true);
+        }
     }
-}
 
-// Writes to standard error what is no fault. Where that fails there is nowhere to say so.
-pub fn note<R>(console: &Console<'_, R>, what: &[u8]) {
-    let mut to = &console.errors;
-    let _ = to.write_all(what);
-}
-
-// The status that a program ends with: 1 where it has complained, and 0 otherwise.
-pub fn status<R>(console: &Console<'_, R>) -> ExitCode {
-    if console.complained.get() {
-        return ExitCode::FAILURE;
+    // Writes to standard error what is no fault. Where that fails there is nowhere to say so.
+    pub fn note(&self, what: &[u8]) {
+        let mut to = &self.errors;
+        let _ = to.write_all(what);
     }
-    ExitCode::SUCCESS
-}
 
-// Complains unless standard input has ended.
-fn expect_end<R, I: Read>(console: &Console<'_, R>, from: &mut I) {
-    let mut further = [0u8; 1];
-    match from.read(&mut further) {
-        Ok(0) => {}
-        _ => complain(console, b"beechdoublet: standard input cannot be read\n"),
+    // The status that a program ends with: 1 where it has complained, and 0 otherwise.
+    pub fn status(&self) -> ExitCode {
+        if self.complained.get() {
+            return ExitCode::FAILURE;
+        }
+        ExitCode::SUCCESS
+    }
+
+    // Complains unless standard input has ended.
+    fn expect_end<I: Read>(&self, from: &mut I) {
+        let mut further = [0u8; 1];
+        match from.read(&mut further) {
+            Ok(0) => {}
+            _ => self.complain(b"beechdoublet: standard input cannot be read\n"),
+        }
+    }
+
+    // Reads standard input up to its end, or as much as `buf` holds, and gives the count. A read that fails looks like the end; one further tells them apart.
+    pub fn input<I: Read>(&self, from: &mut I, buf: &mut [u8]) -> usize
+        ensures { IsPrefixLen result buf.new }
+    {
+        let n = read_full(from, buf);
+        if n < buf.len() {
+            self.expect_end(from);
+        }
+        n
     }
 }
 
@@ -80,53 +91,8 @@ fn read_full<I: Read>(from: &mut I, buf: &mut [u8]) -> usize
     n
 }
 
-// Reads standard input up to its end, or as much as `buf` holds, and gives the count. A read that fails looks like the end; one further tells them apart.
-pub fn input<R, I: Read>(console: &Console<'_, R>, from: &mut I, buf: &mut [u8]) -> usize
-    ensures { IsPrefixLen result buf.new }
-{
-    let n = read_full(from, buf);
-    if n < buf.len() {
-        expect_end(console, from);
-    }
-    n
-}
-
 // The most bytes of messages that a program reads.
 const MOST_INPUT: usize = 65536;
-
-// Reads the messages of standard input, and gives the count. Of more than `MOST_INPUT` bytes it says `TOO LONG`, and gives none; `buf` has one byte more
-// than that, to show it.
-pub fn messages<R: Print, I: Read>(
-    console: &Console<'_, R>,
-    from: &mut I,
-    buf: &mut [u8; 65537],
-) -> usize
-    ensures { (result ≤ 65536) × IsPrefixLen result buf.new }
-{
-    let n = input(console, from, buf);
-    if MOST_INPUT < n {
-        print(console, b"TOO LONG\n");
-        return 0;
-    }
-    n
-}
-
-// Writes to standard output. No type has `Display`: what is printed are bytes, of which no contract says that they are UTF-8.
-pub fn print<R: Print>(console: &Console<'_, R>, bytes: &[u8]) {
-    if console.rt.write_all(bytes).is_err() {
-        complain(
-            console,
-            b"beechdoublet: standard output cannot be written\n",
-        );
-    }
-}
-
-// Writes a number, as decimal digits.
-pub fn decimal<R: Print>(console: &Console<'_, R>, n: u64) {
-    let mut digits = [0u8; 20];
-    let k = io::decimal(n, &mut digits);
-    print(console, &digits[..k]);
-}
 
 // One digit; from ten on the byte that lies so far behind `0`.
 fn digit(n: u16) -> u8
@@ -150,77 +116,106 @@ pub fn four_digits(t: Clock) -> [u8; 4]
     ]
 }
 
-fn time<R: Print>(console: &Console<'_, R>, t: Clock) {
-    print(console, &four_digits(t));
-}
-
-fn departure<R: Print>(console: &Console<'_, R>, d: Option<Clock>) {
-    match d {
-        Some(t) => time(console, t),
-        None => print(console, b"----"),
-    }
-}
-
-fn arrival<R: Print>(console: &Console<'_, R>, d: Option<Clock>, a: Aerodrome, t: Clock) {
-    print(console, b"ARRIVED ");
-    departure(console, d);
-    print(console, b" ");
-    print(console, &[a.0, a.1, a.2, a.3]);
-    print(console, b" ");
-    time(console, t);
-}
-
-// A state: its name, and its times and aerodrome. Any state is printed; only one that `Strip::is_sound` passes has times and an aerodrome as
-// document 01 writes them.
-pub fn state<R: Print>(console: &Console<'_, R>, s: State) {
-    match s {
-        State::Filed => print(console, b"FILED"),
-        State::Departed(t) => {
-            print(console, b"DEPARTED ");
-            time(console, t);
+impl<'a, R: Print> Console<'a, R> {
+    // Reads the messages of standard input, and gives the count. Of more than `MOST_INPUT` bytes it says `TOO LONG`, and gives none; `buf` has one byte more
+    // than that, to show it.
+    pub fn messages<I: Read>(&self, from: &mut I, buf: &mut [u8; 65537]) -> usize
+        ensures { (result ≤ 65536) × IsPrefixLen result buf.new }
+    {
+        let n = self.input(from, buf);
+        if MOST_INPUT < n {
+            self.print(b"TOO LONG\n");
+            return 0;
         }
-        State::Arrived(d, a, t) => arrival(console, d, a, t),
-        State::Cancelled => print(console, b"CANCELLED"),
+        n
     }
-}
 
-fn type_of<R: Print>(console: &Console<'_, R>, t: MessageType) {
-    print(console, b"OK ");
-    print(console, &t.letters());
-}
+    // Writes to standard output. No type has `Display`: what is printed are bytes, of which no contract says that they are UTF-8.
+    pub fn print(&self, bytes: &[u8]) {
+        if self.rt.write_all(bytes).is_err() {
+            self.complain(b"beechdoublet: standard output cannot be written\n");
+        }
+    }
 
-// The end of a line: a space and the spelling.
-pub fn spelled<R: Print>(console: &Console<'_, R>, spelling: &[u8]) {
-    print(console, b" ");
-    print(console, spelling);
-    print(console, b"\n");
-}
+    // Writes a number, as decimal digits.
+    pub fn decimal(&self, n: u64) {
+        let mut digits = [0u8; 20];
+        let k = io::decimal(n, &mut digits);
+        self.print(&digits[..k]);
+    }
 
-// An accepted message: `OK`, its type, its spelling.
-pub fn accepted<R: Print>(console: &Console<'_, R>, t: MessageType, spelling: &[u8]) {
-    type_of(console, t);
-    spelled(console, spelling);
-}
+    fn time(&self, t: Clock) {
+        self.print(&four_digits(t));
+    }
 
-// A strip: `OK`, its state, its spelling.
-pub fn strip<R: Print>(console: &Console<'_, R>, held: Strip, spelling: &[u8]) {
-    print(console, b"OK ");
-    state(console, held.state);
-    spelled(console, spelling);
-}
+    fn departure(&self, d: Option<Clock>) {
+        match d {
+            Some(t) => self.time(t),
+            None => self.print(b"----"),
+        }
+    }
 
-// A refusal up to the end of its line: `NO`, number, field, place.
-pub fn refused<R: Print>(console: &Console<'_, R>, number: u8, field: u8, place: usize) {
-    print(console, b"NO ");
-    decimal(console, number as u64);
-    print(console, b" ");
-    decimal(console, field as u64);
-    print(console, b" ");
-    decimal(console, place as u64);
-}
+    fn arrival(&self, d: Option<Clock>, a: Aerodrome, t: Clock) {
+        self.print(b"ARRIVED ");
+        self.departure(d);
+        self.print(b" ");
+        self.print(&[a.0, a.1, a.2, a.3]);
+        self.print(b" ");
+        self.time(t);
+    }
 
-// A refusal, as a line.
-pub fn refusal<R: Print>(console: &Console<'_, R>, number: u8, field: u8, place: usize) {
-    refused(console, number, field, place);
-    print(console, b"\n");
+    // A state: its name, and its times and aerodrome. Any state is printed; only one that `Strip::is_sound` passes has times and an aerodrome as
+    // document 01 writes them.
+    pub fn state(&self, s: State) {
+        match s {
+            State::Filed => self.print(b"FILED"),
+            State::Departed(t) => {
+                self.print(b"DEPARTED ");
+                self.time(t);
+            }
+            State::Arrived(d, a, t) => self.arrival(d, a, t),
+            State::Cancelled => self.print(b"CANCELLED"),
+        }
+    }
+
+    fn type_of(&self, t: MessageType) {
+        self.print(b"OK ");
+        self.print(&t.letters());
+    }
+
+    // The end of a line: a space and the spelling.
+    pub fn spelled(&self, spelling: &[u8]) {
+        self.print(b" ");
+        self.print(spelling);
+        self.print(b"\n");
+    }
+
+    // An accepted message: `OK`, its type, its spelling.
+    pub fn accepted(&self, t: MessageType, spelling: &[u8]) {
+        self.type_of(t);
+        self.spelled(spelling);
+    }
+
+    // A strip: `OK`, its state, its spelling.
+    pub fn strip(&self, held: Strip, spelling: &[u8]) {
+        self.print(b"OK ");
+        self.state(held.state);
+        self.spelled(spelling);
+    }
+
+    // A refusal up to the end of its line: `NO`, number, field, place.
+    pub fn refused(&self, number: u8, field: u8, place: usize) {
+        self.print(b"NO ");
+        self.decimal(number as u64);
+        self.print(b" ");
+        self.decimal(field as u64);
+        self.print(b" ");
+        self.decimal(place as u64);
+    }
+
+    // A refusal, as a line.
+    pub fn refusal(&self, number: u8, field: u8, place: usize) {
+        self.refused(number, field, place);
+        self.print(b"\n");
+    }
 }

@@ -17,10 +17,10 @@ fn tell_filed<R: Print>(
     bytes: &[u8; 36000],
 ) {
     if let Call::File { firm, .. } = call {
-        say::print(console, b"OK ");
-        say::decimal(console, slot as u64);
-        say::print(console, b" FILED");
-        say::spelled(console, board::strip_of(board, firm, slot, bytes));
+        console.print(b"OK ");
+        console.decimal(slot as u64);
+        console.print(b" FILED");
+        console.spelled(board::strip_of(board, firm, slot, bytes));
     }
 }
 
@@ -33,15 +33,15 @@ fn tell_updated<R: Print>(
     bytes: &[u8; 36000],
 ) {
     if let Call::Update { firm, slot, .. } = call {
-        say::strip(console, held, board::strip_of(board, firm, slot, bytes));
+        console.strip(held, board::strip_of(board, firm, slot, bytes));
     }
 }
 
 // The state of the strip in a slot, behind a space.
 fn show_found<R: Print>(console: &Console<'_, R>, board: Board, firm: u8, slot: usize) {
     if let Ok(held) = board::look(board, firm, slot) {
-        say::print(console, b" ");
-        say::state(console, held.state);
+        console.print(b" ");
+        console.state(held.state);
     }
 }
 
@@ -96,11 +96,11 @@ pub fn tell<R: Print>(
     match v {
         Ok(Done::Filed(slot)) => tell_filed(console, board, call, slot, bytes),
         Ok(Done::Updated(held, _)) => tell_updated(console, board, call, held, bytes),
-        Ok(Done::Cleared) => say::print(console, b"OK CLEARED\n"),
+        Ok(Done::Cleared) => console.print(b"OK CLEARED\n"),
         Err(refusal) => {
-            say::refused(console, refusal.number, refusal.field, refusal.place);
+            console.refused(refusal.number, refusal.field, refusal.place);
             show_cause(console, board, call, line, bytes);
-            say::print(console, b"\n");
+            console.print(b"\n");
         }
     }
 }
@@ -114,8 +114,8 @@ pub fn show_strip<R: Print>(
     bytes: &[u8; 36000],
 ) {
     match board::look(board, firm, slot) {
-        Ok(held) => say::strip(console, held, board::strip_of(board, firm, slot, bytes)),
-        Err(refusal) => say::refusal(console, refusal.number, refusal.field, refusal.place),
+        Ok(held) => console.strip(held, board::strip_of(board, firm, slot, bytes)),
+        Err(refusal) => console.refusal(refusal.number, refusal.field, refusal.place),
     }
 }
 
@@ -128,13 +128,13 @@ fn show_entry<R: Print>(
     bytes: &[u8; 36000],
 ) {
     if let Ok(held) = board::look(board, firm, slot) {
-        say::print(console, b" ");
-        say::decimal(console, slot as u64);
-        say::print(console, b" ");
+        console.print(b" ");
+        console.decimal(slot as u64);
+        console.print(b" ");
         let seven = amending::field(board::strip_of(board, firm, slot, bytes), kinds::PLAN_7);
-        say::print(console, head::identification(seven));
-        say::print(console, b" ");
-        say::state(console, held.state);
+        console.print(head::identification(seven));
+        console.print(b" ");
+        console.state(held.state);
     }
 }
 
@@ -147,11 +147,11 @@ fn show_entries<R: Print>(console: &Console<'_, R>, board: Board, firm: u8, byte
 // The strips of a firm, by rising slot.
 pub fn show_list<R: Print>(console: &Console<'_, R>, board: Board, firm: u8, bytes: &[u8; 36000]) {
     match Firm::from_number(firm) {
-        None => say::refusal(console, 18, 0, 0),
+        None => console.refusal(18, 0, 0),
         Some(_) => {
-            say::print(console, b"OK");
+            console.print(b"OK");
             show_entries(console, board, firm, bytes);
-            say::print(console, b"\n");
+            console.print(b"\n");
         }
     }
 }

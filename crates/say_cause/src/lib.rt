@@ -2,13 +2,13 @@
 #![tactic(auto)]
 
 use causes::{Cause, Key};
-use say::{Console, print};
+use say::Console;
 use strip::Differences;
 
 fn name<R: Print>(console: &Console<'_, R>, shown: bool, word: &[u8]) {
     if shown {
-        print(console, b" ");
-        print(console, word);
+        console.print(b" ");
+        console.print(word);
     }
 }
 
@@ -37,27 +37,27 @@ pub fn names<R: Print>(console: &Console<'_, R>, c: Cause) {
         Cause::Another(d) => differences(console, d),
         Cause::Missing(k) => name(console, true, key_name(k)),
         Cause::Forbidden(s) => {
-            print(console, b" ");
-            say::state(console, s);
+            console.print(b" ");
+            console.state(s);
         }
     }
 }
 
 // A refusal of an update, as a line: `NO`, number, field, place and the names of its cause.
 pub fn refusal<R: Print>(console: &Console<'_, R>, number: u8, field: u8, place: usize, c: Cause) {
-    say::refused(console, number, field, place);
+    console.refused(number, field, place);
     names(console, c);
-    print(console, b"\n");
+    console.print(b"\n");
 }
 
 // A cause by itself, as a line: `CAUSE`, its number and its names, or `NONE`.
 pub fn line<R: Print>(console: &Console<'_, R>, c: Cause) {
     match c {
-        Cause::NothingMore => print(console, b"NONE"),
-        Cause::Another(_) => print(console, b"CAUSE 12"),
-        Cause::Missing(_) => print(console, b"CAUSE 10"),
-        Cause::Forbidden(_) => print(console, b"CAUSE 13"),
+        Cause::NothingMore => console.print(b"NONE"),
+        Cause::Another(_) => console.print(b"CAUSE 12"),
+        Cause::Missing(_) => console.print(b"CAUSE 10"),
+        Cause::Forbidden(_) => console.print(b"CAUSE 13"),
     }
     names(console, c);
-    print(console, b"\n");
+    console.print(b"\n");
 }

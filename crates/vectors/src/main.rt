@@ -9,7 +9,7 @@ ghost use Rattle.std.specs.Prelude.{◌≡◌, ◌+◌, ◌≤◌, ◌<◌, IfSo
 use aerodromes::Aerodrome;
 use asked::Place;
 use kinds::Form;
-use say::{Console, print};
+use say::Console;
 use shape::Clock;
 use state::{State, Strip};
 use std::process::ExitCode;
@@ -28,7 +28,7 @@ type Line = [u8; 8192];
 type Out = [u8; 1800];
 
 fn say_bad<R: Print>(console: &Console<'_, R>) {
-    print(console, b"BAD LINE\n");
+    console.print(b"BAD LINE\n");
 }
 
 // BYTES WRITTEN AS TEXT
@@ -161,7 +161,7 @@ fn spelling(out: &Out, n: usize) -> &[u8] {
 // Says so if a byte from n on is not as it was.
 fn check_kept<R: Print>(console: &Console<'_, R>, out: &Out, n: usize) {
     if out.iter().skip(n).any(|&b| b != BEFORE) {
-        print(console, b"CHANGED\n");
+        console.print(b"CHANGED\n");
     }
 }
 
@@ -176,11 +176,11 @@ fn read<R: Print>(console: &Console<'_, R>, msg: &[u8], room: Option<usize>) {
     let mut out = [BEFORE; 1800];
     match message::read(msg, &mut out[0..room]) {
         Ok((t, n)) => {
-            say::accepted(console, t, spelling(&out, n));
+            console.accepted(t, spelling(&out, n));
             check_kept(console, &out, n);
         }
         Err(refusal) => {
-            say::refusal(console, refusal.number, refusal.field, refusal.place);
+            console.refusal(refusal.number, refusal.field, refusal.place);
             check_kept(console, &out, 0);
         }
     }
@@ -194,11 +194,11 @@ fn say_part<R: Print>(
     to: usize,
     content: &[u8],
 ) {
-    print(console, place);
-    say::decimal(console, from as u64);
-    print(console, b" ");
-    say::decimal(console, to as u64);
-    say::spelled(console, content);
+    console.print(place);
+    console.decimal(from as u64);
+    console.print(b" ");
+    console.decimal(to as u64);
+    console.spelled(content);
 }
 
 // Asks for the field in force of a strip and a CHG: where it stands, and its content.
@@ -220,7 +220,7 @@ fn show<'a, R: Print>(
     match asked::ask(strip, held, chg, number) {
         Ok(Place::InStrip { from, to }) => say_part(console, b"IN STRIP ", from, to, content),
         Ok(Place::InChange { from, to }) => say_part(console, b"IN CHG ", from, to, content),
-        Err(refusal) => say::refusal(console, refusal.number, refusal.field, refusal.place),
+        Err(refusal) => console.refusal(refusal.number, refusal.field, refusal.place),
     }
 }
 
@@ -251,9 +251,9 @@ fn fit<R: Print>(console: &Console<'_, R>, word: &[u8], content: &[u8]) {
         return;
     };
     if forms::fits_form(form, content) {
-        print(console, b"FITS\n");
+        console.print(b"FITS\n");
     } else {
-        print(console, b"NO\n");
+        console.print(b"NO\n");
     }
 }
 
@@ -299,7 +299,7 @@ fn hold<R: Print>(
 ) -> Run {
     match state_of(word) {
         Some(state) => {
-            print(console, b"HELD\n");
+            console.print(b"HELD\n");
             Run {
                 gathered: Some(0),
                 length: keep(strip, plan),
@@ -337,7 +337,7 @@ fn offer<R: Print>(
     ) {
         Ok((next, n)) => {
             let new = spelling(&out, n);
-            say::strip(console, next, new);
+            console.strip(next, new);
             check_kept(console, &out, n);
             Run {
                 gathered: Some(0),
@@ -346,7 +346,7 @@ fn offer<R: Print>(
             }
         }
         Err(refusal) => {
-            say::refusal(console, refusal.number, refusal.field, refusal.place);
+            console.refusal(refusal.number, refusal.field, refusal.place);
             check_kept(console, &out, 0);
             run
         }
@@ -428,7 +428,7 @@ fn answer<R: Print>(
     let n = match n {
         Some(n) if n <= MOST_LINE => n,
         _ => {
-            print(console, b"TOO LONG\n");
+            console.print(b"TOO LONG\n");
             return run;
         }
     };
@@ -493,7 +493,7 @@ fn main(rt: HostRuntime) -> ExitCode {
         },
     };
     for _ in 0..u64::MAX {
-        let n = say::input(&console, &mut rt.stdin(), &mut block);
+        let n = console.input(&mut rt.stdin(), &mut block);
         run = each_byte(&console, &block[..n], &mut line, run, &mut plan);
         if n < 65536 {
             break;
@@ -502,5 +502,5 @@ fn main(rt: HostRuntime) -> ExitCode {
     if run.gathered != Some(0) {
         answer(&console, run.gathered, &mut line, run, &mut plan);
     }
-    say::status(&console)
+    console.status()
 }
