@@ -17,7 +17,6 @@ fn put_list(s: &[u8], out: &mut [u8]) -> usize
 {
     let mut o = 0;
     let mut at = pieces::skip_white(s, 0);
-    // A loop: where a piece ends is for `pieces::piece_end` to say, and no method of slices cuts so.
     while at < s.len() {
         let e = pieces::piece_end(s, at);
         o += lines::line(&s[at..e], &mut out[o..]).length;

@@ -152,7 +152,6 @@ fn put_marks(s: &[u8], out: &mut [u8]) -> usize
 {
     let mut o = 0;
     let mut at = pieces::skip_white(s, 0);
-    // A loop: where a piece ends is for `pieces::piece_end` to say, and no method of slices cuts so.
     while at < s.len() {
         let e = pieces::piece_end(s, at);
         o += put_marked(&s[at..e], &mut out[o..]);
