@@ -56,7 +56,7 @@ pub filled_at : (fs gs : List Form) (n j : ℕ) → gs ≡ fs → n ≡ length f
     → get_or (gs ++ drop n (entries most_fields)) j Field3 ≡ get_or fs j Field22
 filled_at fs gs n j e l h k =
     let long : j < length (fs ++ entries (most_fields - n)) = omega
-        (arith, l, h, k, length-append fs (entries (most_fields - n)), entries_long (most_fields - n)) in
+    (arith, l, h, k, length-append fs (entries (most_fields - n)), entries_long (most_fields - n)) in
     rw (e, drop_entries n most_fields h) (row_at fs (most_fields - n) j long)
 
 -- the forms that a type has are those of a row

@@ -126,4 +126,4 @@ module _ (m out last : List ℕ) (wide : length m + 12 ≤ length out) where
         → Tells m out (record { answer = Err (refusal number field place); length = r }) after
     refused_told r after p q =
         told (Err (refusal number field place)) e r after p (q
-            ∙ ap (λ (s : List ℕ). front (refused_line number field place) s) as_it_was) (omega (arith, fitting))
+        ∙ ap (λ (s : List ℕ). front (refused_line number field place) s) as_it_was) (omega (arith, fitting))

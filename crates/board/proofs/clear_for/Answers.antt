@@ -16,7 +16,7 @@ returns-then-not-is_over c =
     let a = c.args in
     λ bytes.
     clear_not a.f a.slot a.board bytes _ _ c.held_in.ensures c.in-Some.is _
-        (c.refused-then-not-is_over.ensures ∙ ap (λ (r : Refusal). refused_turn a.board r) c.of-then-not-is_over.ensures)
+    (c.refused-then-not-is_over.ensures ∙ ap (λ (r : Refusal). refused_turn a.board r) c.of-then-not-is_over.ensures)
     (sym c.is_over.ensures ∙ c.if-not-is_over.true)
 
 pub take_off-b-requires : goal.take_off-b-requires
@@ -27,7 +27,7 @@ pub returns-in-None : goal.returns-in-None
 returns-in-None c =
     let a = c.args in
     λ bytes. clear_none a.f a.slot a.board bytes _ c.held_in.ensures c.in-None.is _
-        (c.refused.ensures ∙ ap (λ (r : Refusal). refused_turn a.board r) c.of.ensures)
+    (c.refused.ensures ∙ ap (λ (r : Refusal). refused_turn a.board r) c.of.ensures)
 
 pub returns-else-not-is_over : goal.returns-else-not-is_over
 returns-else-not-is_over c =

@@ -41,14 +41,14 @@ pub returns-then-not-has_room : goal.returns-then-not-has_room
 returns-then-not-has_room c =
     let a = c.args in
     file_full a.f a.board a.bytes.now a.msg.now _ (c.refused.ensures ∙ ap (λ (r : Refusal). refused_turn a.board r) c.of.ensures)
-        (sym c.has_room.ensures ∙ c.if-not-has_room.true)
+    (sym c.has_room.ensures ∙ c.if-not-has_room.true)
 
 pub returns-then-not-is_plan : goal.returns-then-not-is_plan
 returns-then-not-is_plan c =
     let a = c.args in
     file_unfit a.f a.board a.bytes.now a.msg.now (room (goal.at.returns-then-not-is_plan c).After-read) _ _ _
     (read_as_lem (goal.at.returns-then-not-is_plan c).In-Ok) (c.refused-then-not-is_plan.ensures ∙ ap (λ (r : Refusal). refused_turn a.board r)
-        c.of-then-not-is_plan.ensures)
+    c.of-then-not-is_plan.ensures)
     (sym c.is_plan.ensures ∙ c.if-not-is_plan.true)
 
 pub slice_bounds-scratch-end : goal.slice_bounds-scratch-end

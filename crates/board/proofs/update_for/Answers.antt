@@ -67,7 +67,7 @@ pub returns-in-None : goal.returns-in-None
 returns-in-None c =
     let a = c.args in
     update_none a.f a.slot a.board a.bytes.now _ c.held_in.ensures c.in-None.is a.msg.now _
-        (c.refused.ensures ∙ ap (λ (r : Refusal). refused_turn a.board r) c.of.ensures)
+    (c.refused.ensures ∙ ap (λ (r : Refusal). refused_turn a.board r) c.of.ensures)
 
 pub returns-in-Err : goal.returns-in-Err
 returns-in-Err c =

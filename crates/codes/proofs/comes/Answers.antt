@@ -13,6 +13,6 @@ pub returns : goal.returns
 returns c =
     let a = c.args in
     any_from_yields_List (λ v. same a.w.now v) c.any.new.self _ _ c.any.ensures.ran
-        (YieldsList-from_first (λ x. x.now) (λ s. codes s.rest.now) (codes a.s.now) refl)
+    (YieldsList-from_first (λ x. x.now) (λ s. codes s.rest.now) (codes a.s.now) refl)
     (λ x b q k. search (rules, tests, same_listed))
     ∙ elem_listed a.w.now _

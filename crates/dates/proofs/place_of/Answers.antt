@@ -36,7 +36,7 @@ turn_of c =
     subst (λ (ws : List Word). (length c.loop-word.yielded < length ws) × (c.in-Some.word.now ≡ get_or ws (length c.loop-word.yielded) c.in-Some.word.now))
     (split_listed 32 s)
     (YieldsList-turn (YieldsList-from_slice_split _ (λ b. eqb b 32) s (ap split_rest it ∙ of.rest) (ap split_done it ∙ of.done)
-        (ap split_callee it ∙ of.closure) (λ x b q k. search (rules, tests)))
+    (ap split_callee it ∙ of.closure) (λ x b q k. search (rules, tests)))
     c.loop-word.yielded _ c.loop-word.yielded_by _ _ c.in-Some.word c.in-Some.is c.next.ensures.steps)
 
 pub overflow_add-e : goal.overflow_add-e
@@ -72,6 +72,6 @@ returns c =
     let of = c.split-word-items.ensures in
     let it = c.into_iter-word-iterator.ensures.into_iter_gives in
     let all = YieldsList-end (YieldsList-from_slice_split _ (λ b. eqb b 32) s (ap split_rest it ∙ of.rest) (ap split_done it ∙ of.done)
-        (ap split_callee it ∙ of.closure) (λ x b q k. search (rules, tests)))
+    (ap split_callee it ∙ of.closure) (λ x b q k. search (rules, tests)))
     c.loop-word.yielded _ c.loop-word.yielded_by _ _ c.in-None.is c.next.ensures.steps in
     c.loop-word.invariant.none (omega (arith, all.1, ap (λ (ws : List Word). length ws) (split_listed 32 s)))

@@ -42,8 +42,12 @@ overflow_add-e c =
 
 pub overflow_add-result : goal.overflow_add-result
 overflow_add-result c =
-    omega (arith, entry_inside c.requires.0 c.loop-entry.invariant c.in-Some.entry.now (turn_of (goal.at.overflow_add-result c).In-Some),
-        c.next-content.ensures.inside, c.well_formed)
+    omega (
+      arith,
+      entry_inside c.requires.0 c.loop-entry.invariant c.in-Some.entry.now (turn_of (goal.at.overflow_add-result c).In-Some),
+      c.next-content.ensures.inside,
+      c.well_formed,
+    )
 
 pub overflow_add-at : goal.overflow_add-at
 overflow_add-at c =

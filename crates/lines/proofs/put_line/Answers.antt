@@ -21,5 +21,5 @@ returns-in-Ok c =
 pub returns-in-Err : goal.returns-in-Err
 returns-in-Err c =
     rw c.in-Err.is (refused_told c.args.piece.now c.args.out.now _ c.requires _ _ _ (sym c.read-answer.ensures.0
-        ∙ c.in-Err.is) c.read-answer.ensures.1 (search rules) _ _
+    ∙ c.in-Err.is) c.read-answer.ensures.1 (search rules) _ _
     c.put_refused-length.ensures.0 c.put_refused-length.ensures.1)

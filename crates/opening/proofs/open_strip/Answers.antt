@@ -32,7 +32,7 @@ pub returns-then-not-is_canonical_plan : goal.returns-then-not-is_canonical_plan
 returns-then-not-is_canonical_plan c =
     let a = c.args in
     rw c.of-then-not-is_canonical_plan.ensures (no_plan a.strip.now a.held a.msg.now a.scratch.now (held_sound
-        (goal.at.returns-then-not-is_canonical_plan c).Else-not-is_sound)
+    (goal.at.returns-then-not-is_canonical_plan c).Else-not-is_sound)
     (sym c.is_canonical_plan.ensures ∙ c.if-not-is_canonical_plan.true))
 
 pub returns-in-Err : goal.returns-in-Err

@@ -36,10 +36,10 @@ returns-then-rest-n-eq41 c =
     let s = take (length m - 1) (drop 1 m) in
     let w : s ≡ drop 1 m = rest_is m in
     let found = position_from_yields_List (λ b. not (no_paren b)) _ _ c.position.result c.position.ensures.ran
-        (YieldsList-from_slice s (search rules)) (λ x b q k. search (rules, tests)) in
+    (YieldsList-from_slice s (search rules)) (λ x b q k. search (rules, tests)) in
     let n = count_found no_paren to_paren refl (λ b t. refl) s _ found _ c.unwrap_or-n.ensures in
     sym (parens_closed s 1 (subst (Closes s) n.0 (c.if-n-rest.true, c.if-rest-n-eq41.true))) ∙ ap (parens_from 1) w ∙ parens_first m
-        c.if-msg-eq0.false c.if-msg-ne40.false
+    c.if-msg-eq0.false c.if-msg-ne40.false
 
 pub returns : goal.returns
 returns c =
@@ -47,7 +47,7 @@ returns c =
     let s = take (length m - 1) (drop 1 m) in
     let w : s ≡ drop 1 m = rest_is m in
     let found = position_from_yields_List (λ b. not (no_paren b)) _ _ c.position.result c.position.ensures.ran
-        (YieldsList-from_slice s (search rules)) (λ x b q k. search (rules, tests)) in
+    (YieldsList-from_slice s (search rules)) (λ x b q k. search (rules, tests)) in
     let u = c.unwrap_or-n.result in
     let n = count_found no_paren to_paren refl (λ b t. refl) s _ found u c.unwrap_or-n.ensures in
     let open_ : Closes s u → ⊥ =

@@ -77,7 +77,7 @@ returns-then-n-gt-MOST_BYTES c =
     let a = c.args in
     rw c.of.ensures (too_long a.role a.plan.now a.said.now a.next a.out.now _ refl
     (numbered_none _ (sym (field_is (goal.at.returns-then-n-gt-MOST_BYTES c).After-unexplained_in) ∙ c.in_default.is)) _
-        (long (goal.at.returns-then-n-gt-MOST_BYTES c).After-write_amended-n) c.if-n-gt-MOST_BYTES.true)
+    (long (goal.at.returns-then-n-gt-MOST_BYTES c).After-write_amended-n) c.if-n-gt-MOST_BYTES.true)
 
 pub returns-then-out-n : goal.returns-then-out-n
 returns-then-out-n c =
