@@ -37,10 +37,11 @@ pub fn is_octal(b: u8) -> bool
 }
 
 // A letter or a digit. Which of the two it is decides no branch: in a word they stand mixed, and a branch that cannot be foretold costs more than the test.
+#[tactic(auto, using(crate::proofs::Classes::sign_tests))]
 pub fn is_sign(b: u8) -> bool
     ensures { result ≡ sign b }
 {
-    is_letter(b) | is_digit(b)
+    matches!(b, b'0'..=b'Z') && ((b <= b'9') | (b'A' <= b))
 }
 
 // A mark that may stand in a text word.
@@ -50,12 +51,15 @@ fn is_mark(b: u8) -> bool
     matches!(b, b'?' | b':' | b'.' | b',' | b'\'' | b'=' | b'+')
 }
 
-// A byte of a text word: of the alphabet, other than white space and ( ) - /.
-#[tactic(auto, using(crate::proofs::Classes::text_marks))]
+// A byte of a text word: of the alphabet, other than white space and ( ) - /. From 0 to Z all are signs but those between the digits and the letters, so
+// a sign passes two tests, each of which nearly always goes one way; what is left is looked for among the marks.
+#[tactic(auto, using(crate::proofs::Classes::text_tests))]
 pub fn is_text(b: u8) -> bool
     ensures { result ≡ text b }
 {
-    is_sign(b) || is_mark(b)
+    let outside = (b < b'0') | (b'Z' < b);
+    let between = (b'9' < b) & (b < b'A');
+    !(outside | between) || is_mark(b)
 }
 
 // Space, CR or LF.
