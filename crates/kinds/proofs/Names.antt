@@ -26,7 +26,7 @@ unfolding types types_read names_not_read
 standard = refl
 
 -- the type of a rank, as the code has it
-ranked_read : (ts : List MessageType) (i : ℕ) (d : MessageType) → i < length ts → Ok (get_or ts i d) ≡ get_or (map Ok ts) i (Err NotRead)
+pub ranked_read : (ts : List MessageType) (i : ℕ) (d : MessageType) → i < length ts → Ok (get_or ts i d) ≡ get_or (map Ok ts) i (Err NotRead)
 ranked_read [] i d h = absurd (omega arith)
 ranked_read (x ∷ ts) zero d h = refl
 ranked_read (x ∷ ts) (suc i) d h = ranked_read ts i d (omega arith)

@@ -7,12 +7,14 @@ use mathlib.Core.List.{List, [], ◌∷◌}
 use native.Mathlib.Omega.{arith}
 use native.Mathlib.Numerals.{add-one}
 use native.Mathlib.Nat.{add_comm, zero-mul, suc-mul, div-le_self, le-div_iff_mul-le, div-lt_iff_lt-mul}
-use lib.Dec.{leb, eqb}
+use lib.Dec.{leb, eqb, leb-suc-suc}
 use lib.ListN.{length, take, drop, get_or, drop_of_length-le, length-drop}
-use lib.Seq.{drop-cons, drop-drop, take_all}
+use lib.Seq.{drop-cons, drop-drop, take_all, length-take-le}
+use Rattle.std.proofs.lemmas.List.{get_or-take, get_or-drop}
 use lib.Arith.{lt_of_le-ne}
 use borrow.Author.Tests.{eq-eqb, eqb-true, ne_eqb, lt-ltb, le-ltb, le-leb, lt-leb, leb-false, not-true}
 use Rattle.text.specs.Words.{Word, split, onto, after, up_to, holds, before, behind, leading, all, free, null, same, rank_from, first_cells, cells}
+use Rattle.std.specs.List.{list_all, zip}
 use Rattle.text.specs.Places.{Stepped}
 use Rattle.text.proofs.Tests.{both}
 
@@ -235,6 +237,46 @@ other_cell (x ∷ w) (c ∷ cell) h n = go (eqb c 32)
     go true = refl
     go false = rw (ne_eqb x c (λ e. n (sym e)))
 
+-- a cell holds a word that it begins with, if a space or the cell's end follows and none is among the word's bytes
+abbrev pub fills : ℕ × ℕ → Bool
+fills p = eqb p.0 p.1 && not (eqb p.1 32)
+
+pub cell_holds : (w cell : Word) → same w (before 32 cell)
+    ≡ (leb (length w) (length cell) && (list_all fills (zip w cell) && eqb (get_or cell (length w) 32) 32))
+cell_holds [] [] = refl
+cell_holds [] (c ∷ cell) = rw (le-leb 0 (suc (length cell)) (omega arith)) (go (eqb c 32))
+  where
+    go : (t : Bool) → same [] (take (cond t 0 (suc (up_to 32 cell))) (c ∷ cell)) ≡ t
+    go true = refl
+    go false = refl
+cell_holds (x ∷ w) [] = rw (lt-leb (suc (length w)) 0 (omega arith))
+cell_holds (x ∷ w) (c ∷ cell) = go (eqb c 32) (cell_holds w cell)
+  where
+    r' : Bool
+    r' = leb (suc (length w)) (suc (length cell))
+
+    a : Bool
+    a = list_all fills (zip w cell)
+
+    g : Bool
+    g = eqb (get_or cell (length w) 32) 32
+
+    none : (r e : Bool) → false ≡ (r && (((e && false) && a) && g))
+    none true true = refl
+    none true false = refl
+    none false e = refl
+
+    next : (r e : Bool) → (e && (r && (a && g))) ≡ (r && (((e && true) && a) && g))
+    next true true = refl
+    next true false = refl
+    next false true = refl
+    next false false = refl
+
+    go : (t : Bool) → same w (before 32 cell) ≡ (leb (length w) (length cell) && (a && g))
+        → same (x ∷ w) (take (cond t 0 (suc (up_to 32 cell))) (c ∷ cell)) ≡ (r' && (((eqb x c && not t) && a) && g))
+    go true ih = none r' (eqb x c)
+    go false ih = rw (ih, leb-suc-suc (length w) (length cell)) (next (leb (length w) (length cell)) (eqb x c))
+
 -- the words of the cells from the k-th on, which begins at `at`
 abbrev pub cells_from : ℕ → ℕ → ℕ → List ℕ → List Word
 cells_from k n at s = first_cells (length s + 1 - k) n (drop at s)
@@ -285,7 +327,7 @@ module _ (k n : ℕ) (s : List ℕ) (h : 0 < n) where
 
 module _ (k n at : ℕ) (w : Word) (s : List ℕ) where
   -- whether the cell here, as Rattle says it of `&s[at..at + n]`, holds the word
-  abbrev held : Bool
+  abbrev pub held : Bool
   held = same w (before 32 (take (at + n - at) (drop at s)))
 
   cell_here : k ≤ length s → n ≤ length s - at
@@ -301,6 +343,15 @@ module _ (k n at : ℕ) (w : Word) (s : List ℕ) where
   pub cell_next : k ≤ length s → n ≤ length s - at → held ≡ false
       → rank_from k w (cells_from k n at s) ≡ rank_from (k + 1) w (cells_from (k + 1) n (at + n) s)
   cell_next h l e = rw (cell_here h l, e, add-one k)
+
+  -- what begins otherwise is not held
+  pub not_begun : 0 < n → n ≤ length s - at → (get_or s at 0 ≡ get_or w 0 32 → ⊥) → held ≡ false
+  not_begun h l d =
+      let m : at + n - at ≡ n = omega arith in
+      let e : get_or (take (at + n - at) (drop at s)) 0 0 ≡ get_or s at 0
+      = ap (λ (j : ℕ). get_or (take j (drop at s)) 0 0) m ∙ get_or-take n (drop at s) 0 0 h ∙ get_or-drop at s 0 0
+      ∙ (let z : at + 0 ≡ at = omega arith in ap (λ (j : ℕ). get_or s j 0) z) in
+      other_cell w (take (at + n - at) (drop at s)) (rw m (omega (arith, length-take-le n (drop at s) (rw length-drop l), h))) (λ q. d (sym e ∙ q))
 
   pub no_cell : length s - at < n → rank_from k w (cells_from k n at s) ≡ 0
   no_cell l = go (length s + 1 - k)

@@ -1,6 +1,6 @@
 -- Laws of tests: of two tests together, of a test at every element, of equal bytes, of a byte of a set, of a word in a list. Assumes nothing.
 use Prim.Native.Nat.{ℕ, suc, ◌<◌, zero}
-use mathlib.Core.Path.{◌≡◌, refl, sym, ap, ◌∙◌}
+use mathlib.Core.Path.{◌≡◌, refl, sym, ap, subst, ◌∙◌}
 use mathlib.Core.Bool.{Bool, true, false, cond, ◌&&◌, not, false≢true}
 use mathlib.Core.List.{List, [], ◌∷◌, ◌++◌}
 use Rattle.std.specs.Prelude.{Option, Some, None}
@@ -8,9 +8,9 @@ use Rattle.std.specs.Option.{is_some, unwrap_or}
 use native.Mathlib.Omega.{arith}
 use lib.Dec.{eqb, leb}
 use lib.ListN.{length, drop}
-use borrow.Author.Tests.{eq-eqb, ne_eqb, eqb-true, leb-true, leb-false}
+use borrow.Author.Tests.{eq-eqb, ne_eqb, eqb-true, eqb-false, leb-true, leb-false}
 use Rattle.alphabet.specs.Alphabet.{one_of}
-use Rattle.text.specs.Words.{Word, all, null, free, same, elem, rank_from, Ranked}
+use Rattle.text.specs.Words.{Word, all, null, free, same, elem, rank_from, rank_given, Ranked}
 
 -- TWO TESTS
 
@@ -146,6 +146,18 @@ ranked-elem k w vs z r h = go r h ∙ rank-elem k w vs z
     go : (r : Option ℕ) → Ranked (rank_from k w vs) r → is_some r ≡ not (eqb (rank_from k w vs) 0)
     go None n = rw n refl
     go (Some i) n = sym (ap not (ne_eqb (rank_from k w vs) 0 (λ e. omega (arith, n.0, n.1))))
+
+-- what the code's rank says, and no other rank says it
+pub ranked_is : (n : ℕ) (r : Option ℕ) → r ≡ rank_given n → Ranked n r
+ranked_is n r e = subst (λ (r : Option ℕ). Ranked n r) (sym e) (go (eqb n 0) refl)
+  where
+    go : (b : Bool) → eqb n 0 ≡ b → Ranked n (cond b None (Some n))
+    go true q = eqb-true n 0 q
+    go false q = (omega (arith, eqb-false n 0 q), refl)
+
+pub ranked_so : (n : ℕ) (r : Option ℕ) → Ranked n r → r ≡ rank_given n
+ranked_so n None h = rw h
+ranked_so n (Some k) h = rw (ne_eqb n 0 (λ e. omega (arith, h.0, h.1, e)), h.1)
 
 -- and it is that rank, or 0
 pub ranked_or : (n : ℕ) (r : Option ℕ) → Ranked n r → unwrap_or r 0 ≡ n

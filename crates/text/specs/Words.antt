@@ -1,6 +1,6 @@
 -- Cutting and joining: a text is cut at a byte and joined again, a word is looked for in a list of words. Assumes nothing.
 use Rattle.std.specs.Prelude.{ℕ, zero, suc, ◌≡◌, ◌<◌, refl, Bool, true, false, ◌&&◌, ◌||◌, not, cond, List, [], ◌∷◌}
-use Rattle.std.specs.Prelude.{◌++◌, leb, ltb, eqb, length, take, drop, Option}
+use Rattle.std.specs.Prelude.{◌++◌, leb, ltb, eqb, length, take, drop, Option, None, Some}
 use Rattle.std.specs.Option.{MatchOption}
 use Rattle.alphabet.specs.Text.{bytes}
 use Rattle.alphabet.specs.Alphabet.{text, in_alphabet, white}
@@ -88,6 +88,10 @@ abbrev pub rank : Word → List Word → ℕ
 rank w vs = rank_from 1 w vs
 
 -- a rank as the code gives it: none for 0
+abbrev pub rank_given : ℕ → Option ℕ
+rank_given n = cond (eqb n 0) None (Some n)
+
+-- what that says
 abbrev pub Ranked : ℕ → Option ℕ → Type 0
 Ranked n r = MatchOption r (n ≡ 0) (λ k. (0 < k) × (n ≡ k))
 

@@ -2,7 +2,7 @@
 #![tactic(auto)]
 
 ghost use Rattle.std.specs.Prelude.{◌≡◌, ℕ, ◌+◌, ◌≤◌, ◌<◌, ◌&&◌, leb, length, drop, get_or};
-ghost use Rattle.text.specs.Words.{split, up_to, before, leading, all, free, text_word, same, elem, rank, rank_from, Ranked, cells};
+ghost use Rattle.text.specs.Words.{split, up_to, before, leading, all, free, text_word, same, elem, rank, rank_from, rank_given, cells};
 ghost use Rattle.text.specs.Kinds.{of_kind};
 ghost use Rattle.text.specs.Places.{Stepped};
 ghost use Rattle.text.specs.Lent.{front};
@@ -106,7 +106,7 @@ pub fn same_bytes(a: &[u8], b: &[u8]) -> bool
 
 // The place of w in a list of words with one space between them, counted from 1, if it has one.
 pub fn rank_of(w: &[u8], list: &[u8]) -> Option<usize>
-    ensures { Ranked (rank w.now (split 32 list.now)) result }
+    ensures { result ≡ rank_given (rank w.now (split 32 list.now)) }
 {
     list.split(|&b| b == b' ')
         .position(|v| w == v)
@@ -127,27 +127,30 @@ fn first_in_cell(w: &[u8]) -> u8
     w.first().copied().unwrap_or(b' ')
 }
 
-// Whether a cell holds w, filled up with spaces. Most that do not are known by their first byte.
+// Whether a cell holds w, filled up with spaces: byte by byte, as words of one to four bytes need.
+#[inline(always)]
 fn in_cell(w: &[u8], cell: &[u8]) -> bool
-    requires { 0 < length cell.now }
     ensures { result ≡ same w.now (before 32 cell.now) }
 {
-    if cell[0] != first_in_cell(w) {
+    if cell.len() < w.len() {
         return false;
     }
-    let e = find(cell, 0, b' ');
-    same_bytes(w, &cell[..e])
+    w.iter().zip(cell).all(|(a, b)| a == b && *b != b' ')
+        && cell.get(w.len()).copied().unwrap_or(b' ') == b' '
 }
 
-// The place of w in a list in cells of so many bytes, counted from 1 and looked for behind the first `last` cells, if it has one there.
+// The place of w in a list in cells of so many bytes, counted from 1 and looked for behind the first `last` cells, if it has one there. Most cells that do not
+// hold it are known by their first byte. Inlined, so that a list that is known when it is compiled is told by a few comparisons.
+#[inline(always)]
 pub fn rank_behind(w: &[u8], width: usize, list: &[u8], last: usize) -> Option<usize>
     requires { 0 < width }
-    ensures { Ranked (rank_from (last + 1) w.now (drop last (cells width list.now))) result }
+    ensures { result ≡ rank_given (rank_from (last + 1) w.now (drop last (cells width list.now))) }
 {
+    let first = first_in_cell(w);
     let n = list.len() / width;
     for k in last..n {
         let at = k * width;
-        if in_cell(w, &list[at..at + width]) {
+        if list[at] == first && in_cell(w, &list[at..at + width]) {
             return Some(k + 1);
         }
     }
@@ -155,9 +158,10 @@ pub fn rank_behind(w: &[u8], width: usize, list: &[u8], last: usize) -> Option<u
 }
 
 // The place of w in such a list, if it has one.
+#[inline(always)]
 pub fn rank_in_cells(w: &[u8], width: usize, list: &[u8]) -> Option<usize>
     requires { 0 < width }
-    ensures { Ranked (rank w.now (cells width list.now)) result }
+    ensures { result ≡ rank_given (rank w.now (cells width list.now)) }
 {
     rank_behind(w, width, list, 0)
 }
@@ -216,6 +220,9 @@ pub fn put(part: &[u8], out: &mut [u8]) -> usize
     requires { length part.now ≤ length out.old }
     ensures { (result ≡ length part.now) × (out.new ≡ front part.now out.old) }
 {
-    out[..part.len()].copy_from_slice(part);
+    // A loop: it becomes `memcpy`, and `copy_from_slice` a `memmove`, which the library would need from outside besides.
+    for i in 0..part.len() {
+        out[i] = part[i];
+    }
     part.len()
 }

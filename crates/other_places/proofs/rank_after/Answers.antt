@@ -4,6 +4,7 @@ use lib.Seq.{length-take-le}
 use Prim.Native.Nat.{◌+◌, ◌-◌}
 use lib.ListN.{length, take, drop}
 use native.Mathlib.Omega.{arith}
+use Rattle.text.proofs.Tests.{ranked_is}
 use Rattle.other.specs.Stated.{stated}
 use Rattle.other.specs.Rules.{rule_in, more_fits, word_fits}
 use Rattle.other_places.proofs.Index.{ranked_first, ranked_more, ranked_off, ranked_early, ranked_not, ranked_key}
@@ -42,23 +43,23 @@ pub returns-in_err-r : goal.returns-in_err-r
 returns-in_err-r c =
     c.from_residual.ensures
     ∙ ranked_early (stated c.args.edition) c.args.k c.args.w.now c.find-o.result c.find-o.ensures.value c.if-o-w.false
-    c.find-o.ensures.lower_bound.1 0 (sym c.in_err-r.ensures) (omega arith)
+    c.find-o.ensures.lower_bound.1 0 (sym (ranked_is _ _ c.in_err-r.ensures)) (omega arith)
 
 pub returns-then-r-k : goal.returns-then-r-k
 returns-then-r-k c =
     ranked_early (stated c.args.edition) c.args.k c.args.w.now c.find-o.result c.find-o.ensures.value c.if-o-w.false
     c.find-o.ensures.lower_bound.1
-    c.in_ok-r.r (sym c.in_ok-r.ensures.1) c.if-r-k.true
+    c.in_ok-r.r (sym (ranked_is _ _ c.in_ok-r.ensures).1) c.if-r-k.true
 
 pub returns-then-not-word_fits : goal.returns-then-not-word_fits
 returns-then-not-word_fits c =
     ranked_not (stated c.args.edition) c.args.k c.args.w.now c.find-o.result c.find-o.ensures.value c.if-o-w.false
     c.find-o.ensures.lower_bound.1
-    c.in_ok-r.r (sym c.in_ok-r.ensures.1) c.if-r-k.false (sym (under (goal.at.returns-then-not-word_fits c).After-word_fits)
+    c.in_ok-r.r (sym (ranked_is _ _ c.in_ok-r.ensures).1) c.if-r-k.false (sym (under (goal.at.returns-then-not-word_fits c).After-word_fits)
     ∙ c.if-not-word_fits.true)
 
 pub returns : goal.returns
 returns c =
     ranked_key (stated c.args.edition) c.args.k c.args.w.now c.find-o.result c.find-o.ensures.value c.if-o-w.false
     c.find-o.ensures.lower_bound.1
-    c.in_ok-r.r (sym c.in_ok-r.ensures.1) c.if-r-k.false (sym (under (goal.at.returns c).After-word_fits) ∙ c.if-not-word_fits.false)
+    c.in_ok-r.r (sym (ranked_is _ _ c.in_ok-r.ensures).1) c.if-r-k.false (sym (under (goal.at.returns c).After-word_fits) ∙ c.if-not-word_fits.false)

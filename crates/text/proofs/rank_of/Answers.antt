@@ -8,6 +8,7 @@ use Rattle.std.proofs.lemmas.Iterator.Splits.{YieldsList-from_slice_split}
 use Rattle.std.proofs.lemmas.Iterator.Search.{position_from_yields_List}
 use Rattle.text.specs.Words.{same}
 use Rattle.text.proofs.Iterated.{same_listed, split_listed, rank_listed}
+use Rattle.text.proofs.Tests.{ranked_so}
 use Rattle.text.proofs.rank_of.Goals as goal
 
 pub returns : goal.returns
@@ -18,4 +19,4 @@ returns c =
     (λ x b q k. search (rules, tests)))
     (λ x b q k. search (rules, tests, same_listed)) in
     let m : c.map.result ≡ option_map (λ k. k + 1) c.position.result = search (rules, tests) in
-    rw (← split_listed 32 a.list.now) (rank_listed a.w.now 1 _ _ found (omega arith) _ m)
+    rw (← split_listed 32 a.list.now) (ranked_so _ _ (rank_listed a.w.now 1 _ _ found (omega arith) _ m))
