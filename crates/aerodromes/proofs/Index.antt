@@ -1,17 +1,19 @@
 -- What ties the definitions to code that walks an index. Assumes nothing.
-use Prim.Native.Nat.{ℕ, ◌+◌, ◌-◌, ◌<◌, ◌≤◌}
+use Prim.Native.Nat.{ℕ, ◌+◌, ◌-◌, ◌*◌, ◌<◌, ◌≤◌}
 use mathlib.Core.Path.{◌≡◌, refl, sym, ap, ◌∙◌}
 use mathlib.Core.Bool.{Bool, true, false, ◌&&◌}
 use mathlib.Core.List.{List, [], ◌∷◌}
 use native.Mathlib.Omega.{arith}
-use lib.Dec.{eqb}
-use lib.ListN.{length, take, drop, length-take, length-drop}
+use lib.Dec.{leb, eqb}
+use lib.ListN.{length, take, drop, length-take, length-drop, length-append}
 use lib.Seq.{take_all}
-use borrow.Author.Tests.{eqb-true, eqb-false}
+use borrow.Author.Tests.{eqb-true, eqb-false, leb-true}
 use Rattle.std.specs.Prelude.{Option, None}
 use Rattle.std.specs.Bool.{then_some}
 use Rattle.std.specs.Option.{option_and_then}
-use Rattle.text.specs.Words.{Word, all, null, same, split, up_to, text_word}
+use Rattle.text.specs.Words.{Word, all, null, same, split, join, up_to, text_word}
+use Rattle.text.proofs.Tests.{both}
+use Rattle.text.proofs.Joined.{join-split}
 use Rattle.text.proofs.Index.{split_at, after_here, after_end, drop_end, null-split}
 use Rattle.shape.specs.Time.{time_fits, clock_hours, clock_fits, clock_of, clock_read, elapsed_hours, elapsed_fits, elapsed_of, elapsed_read}
 use Rattle.shape.proofs.Times.{time_length}
@@ -37,6 +39,19 @@ both_some : {A T : Type 0} (read : A → Option T) (p q : Bool) (a : A) (t : T) 
     → option_and_then read (then_some p a) ≡ then_some (p && q) t
 both_some read true q a t e = e
 both_some read false q a t e = refl
+
+-- a list of aerodromes takes at most five bytes for each
+fives : (ws : List Word) → all four_letters ws ≡ true → length (join 32 ws) ≤ 5 * length ws
+fives [] e = omega arith
+fives (w ∷ []) e = omega (arith, four_length w (both (four_letters w) true e).0)
+fives (w ∷ (v ∷ ws)) e =
+    let h = both (four_letters w) (all four_letters (v ∷ ws)) e in
+    omega (arith, length-append w (32 ∷ join 32 (v ∷ ws)), four_length w h.0, fives (v ∷ ws) h.1)
+
+pub too_long : (most : ℕ) (s : List ℕ) → 5 * most < length s → few_aerodromes most (split 32 s) ≡ false
+too_long most s h = not_so (few_aerodromes most (split 32 s)) (λ e.
+    let p = both (leb (length (split 32 s)) most) (all four_letters (split 32 s)) e in
+    omega (arith, h, fives (split 32 s) p.1, ap (λ (t : List ℕ). length t) (join-split 32 s), leb-true (length (split 32 s)) most p.0))
 
 -- a time is read from what is joined to four letters
 pub clock_joined : (w : Word) → option_and_then clock_read (then_some (four_letters (take 4 w)) (drop 4 w)) ≡ at_clock w

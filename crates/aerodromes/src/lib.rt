@@ -49,7 +49,7 @@ pub fn at_elapsed(w: &[u8]) -> Option<Elapsed>
 pub fn fits_field13(s: &[u8]) -> bool
     ensures { result ≡ fits13 s.now }
 {
-    at_clock(s).is_some()
+    Clock::is_time_of_day(at_clock(s))
 }
 
 // Field 13 in RQP, where the time may be absent.
@@ -59,7 +59,7 @@ pub fn fits_field13_open(s: &[u8]) -> bool
     if four_letters(s) {
         return true;
     }
-    at_clock(s).is_some()
+    Clock::is_time_of_day(at_clock(s))
 }
 
 pub fn fits_field16(s: &[u8]) -> bool
@@ -70,10 +70,14 @@ pub fn fits_field16(s: &[u8]) -> bool
 
 const MOST_ALTERNATES: usize = 2;
 
-// Whether the words of a list, which have one space between them, are alternates: aerodromes, and not too many.
+// Whether the words of a list, which have one space between them, are alternates: aerodromes, and not too many. Each takes four bytes, and five with a
+// space behind it: a longer list is refused unseen.
 fn alternates(list: &[u8]) -> bool
     ensures { result ≡ few_aerodromes most_alternates (split 32 list.now) }
 {
+    if 5 * MOST_ALTERNATES < list.len() {
+        return false;
+    }
     if MOST_ALTERNATES < list.split(|&b| b == b' ').count() {
         return false;
     }
@@ -85,7 +89,7 @@ pub fn fits_field16_plan(s: &[u8]) -> bool
     ensures { result ≡ fits16plan s.now }
 {
     let e = text::find(s, 0, b' ');
-    if !at_elapsed(&s[..e]).is_some() {
+    if !Elapsed::is_elapsed(at_elapsed(&s[..e])) {
         return false;
     }
     if e == s.len() {
@@ -118,7 +122,7 @@ pub fn fits_field17(s: &[u8]) -> bool
     ensures { result ≡ fits17 s.now }
 {
     let e = text::find(s, 0, b' ');
-    if !at_clock(&s[..e]).is_some() {
+    if !Clock::is_time_of_day(at_clock(&s[..e])) {
         return false;
     }
     if aerodrome_of(&s[..e]) == UNLISTED {

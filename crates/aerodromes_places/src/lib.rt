@@ -5,6 +5,7 @@ ghost use Rattle.std.specs.Prelude.{◌≡◌};
 ghost use Rattle.aerodromes_places.specs.Places.{joined_place, place13, place16, plan, plan_place, place16plan};
 ghost use Rattle.aerodromes_places.specs.Places.{landed, landed_place, place17};
 
+use shape::{Clock, Elapsed};
 use text::Kind;
 
 // The place of four letters that are none.
@@ -33,7 +34,7 @@ fn plan_after(n: usize, w: &[u8]) -> Option<usize>
     ensures { result ≡ plan.after n w.now }
 {
     if n == 0 {
-        if aerodromes::at_elapsed(w).is_some() {
+        if Elapsed::is_elapsed(aerodromes::at_elapsed(w)) {
             return Some(1);
         }
         return None;
@@ -83,7 +84,7 @@ fn landed_after(known: Arrival, w: &[u8]) -> Option<Arrival>
 {
     match known {
         Arrival::Start => {
-            if !aerodromes::at_clock(w).is_some() {
+            if !Clock::is_time_of_day(aerodromes::at_clock(w)) {
                 return None;
             }
             if text::same_bytes(aerodromes::aerodrome_of(w), b"ZZZZ") {

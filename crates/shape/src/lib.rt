@@ -1,7 +1,7 @@
 // Numbers, times and forms of fixed length.
 #![tactic(auto)]
 
-ghost use Rattle.std.specs.Prelude.{◌≡◌, ℕ, ◌+◌, ◌-◌, ◌*◌, ◌^◌, ◌<◌, ◌≤◌, length, take, drop};
+ghost use Rattle.std.specs.Prelude.{◌≡◌, ℕ, ◌+◌, ◌-◌, ◌*◌, ◌^◌, ◌<◌, ◌≤◌, length, take, drop, is_some};
 ghost use Rattle.alphabet.specs.Alphabet.{one_of};
 ghost use Rattle.text.specs.Words.{split};
 ghost use Rattle.shape.specs.Numbers.{value};
@@ -158,6 +158,13 @@ impl Clock {
     {
         read_minutes(CLOCK_HOURS, w).map(Clock)
     }
+
+    // Whether a time of day was read: an elapsed time in its place does not compile.
+    pub fn is_time_of_day(read: Option<Clock>) -> bool
+        ensures { result ≡ is_some read }
+    {
+        read.is_some()
+    }
 }
 
 impl Elapsed {
@@ -166,5 +173,12 @@ impl Elapsed {
         ensures { result ≡ elapsed_read w.now }
     {
         read_minutes(ELAPSED_HOURS, w).map(Elapsed)
+    }
+
+    // Whether an elapsed time was read: a time of day in its place does not compile.
+    pub fn is_elapsed(read: Option<Elapsed>) -> bool
+        ensures { result ≡ is_some read }
+    {
+        read.is_some()
     }
 }

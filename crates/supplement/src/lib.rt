@@ -6,6 +6,8 @@ ghost use Rattle.supplement.specs.declared.Stage.TheVariants.{Refused};
 ghost use Rattle.supplement.specs.Field19.{D, by_letter, place as place_of, count, some_of, colour, fits19};
 ghost use Rattle.supplement.specs.Walk.{past as past_of, complete as complete_at, shaded, first as first_of, further as further_of, step as step_of};
 
+use shape::Elapsed;
+
 // What the last word was read as. Refused is a stage, as `Walk.step` has it: behind a word that does not fit none does, so the stages of all words are a fold.
 #[derive(Clone, Copy)]
 pub enum Stage {
@@ -143,7 +145,7 @@ fn first(key: u8, w: &[u8]) -> Stage
     ensures { result ≡ first_of (by_letter key) w.now }
 {
     match key {
-        b'E' => taken(shape::Elapsed::read(w).is_some(), Stage::Endurance),
+        b'E' => taken(Elapsed::is_elapsed(Elapsed::read(w)), Stage::Endurance),
         b'P' => taken(is_count(3, w), Stage::Persons),
         b'R' => taken(is_some_of(b"UVE", w), Stage::Radio),
         b'S' => taken(is_some_of(b"PDMJ", w), Stage::Survival),

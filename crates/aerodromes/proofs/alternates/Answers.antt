@@ -1,6 +1,6 @@
 -- `aerodromes::alternates` meets its contract. Assumes nothing.
 use Rattle.std.proofs.Common.{rules}
-use mathlib.Core.Path.{ap, ◌∙◌}
+use mathlib.Core.Path.{sym, ap, ◌∙◌}
 use mathlib.Core.List.{List}
 use lib.ListN.{length}
 use Rattle.std.specs.Prelude.{eqb}
@@ -11,7 +11,12 @@ use Rattle.std.proofs.lemmas.Iterator.Splits.{YieldsList-from_slice_split}
 use Rattle.text.specs.Words.{Word, all}
 use Rattle.text.proofs.Iterated.{all_listed, split_listed}
 use Rattle.aerodromes.specs.Aerodromes.{four_letters}
+use Rattle.aerodromes.specs.Field16.{most_alternates}
+use Rattle.aerodromes.proofs.Index.{too_long}
 use Rattle.aerodromes.proofs.alternates.Goals as goal
+
+pub returns-then-list : goal.returns-then-list
+returns-then-list c = sym (too_long most_alternates c.args.list.now c.if-list.true)
 
 pub returns-then-count-gt-MOST_ALTERNATES : goal.returns-then-count-gt-MOST_ALTERNATES
 returns-then-count-gt-MOST_ALTERNATES c =

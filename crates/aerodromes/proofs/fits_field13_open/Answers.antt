@@ -11,4 +11,4 @@ returns-then-four_letters c =
 pub returns : goal.returns
 returns c =
     let four = sym c.four_letters.ensures ∙ c.if-four_letters.false in
-    by_time _ c.at_clock.ensures c.is_some.ensures ∙ sym (open_joined c.args.s.now four)
+    by_time _ c.at_clock.ensures c.is_time_of_day.ensures ∙ sym (open_joined c.args.s.now four)

@@ -12,27 +12,27 @@ use Rattle.aerodromes.specs.Aerodromes.{joined}
 use Rattle.aerodromes.specs.Field17.{unlisted}
 use Rattle.aerodromes.proofs.Index.{landed_stop, landed_other, landed_bare, landed_place_lem}
 use native.Mathlib.Omega.{arith}
-use Rattle.aerodromes.proofs.fits_field17.Goals.{After-is_some, After-eq}
+use Rattle.aerodromes.proofs.fits_field17.Goals.{After-is_time_of_day, After-eq}
 use Rattle.aerodromes.proofs.fits_field17.Goals as goal
 
-tried : (c : After-is_some) → c.is_some.result ≡ joined clock_hours (take c.find-e.result c.args.s.now)
+tried : (c : After-is_time_of_day) → c.is_time_of_day.result ≡ joined clock_hours (take c.find-e.result c.args.s.now)
 tried c =
-    by_time _ c.at_clock.ensures c.is_some.ensures
+    by_time _ c.at_clock.ensures c.is_time_of_day.ensures
 
 first : (c : After-eq) → joined clock_hours (take c.find-e.result c.args.s.now) ≡ true
 first c =
-    let tried : c.is_some.result ≡ joined clock_hours (take c.find-e.result c.args.s.now) = by_time _ c.at_clock.ensures c.is_some.ensures in
-    sym tried ∙ c.if-not-is_some.false
+    let tried : c.is_time_of_day.result ≡ joined clock_hours (take c.find-e.result c.args.s.now) = by_time _ c.at_clock.ensures c.is_time_of_day.ensures in
+    sym tried ∙ c.if-not-is_time_of_day.false
 
 compared : (c : After-eq) → same (take 4 (take c.find-e.result c.args.s.now)) unlisted ≡ c.eq.result
 unfolding unlisted
 compared c =
     ap (λ (w : Word). same w unlisted) (sym c.aerodrome_of.ensures) ∙ sym c.eq.ensures
 
-pub returns-then-not-is_some : goal.returns-then-not-is_some
-returns-then-not-is_some c =
-    sym (landed_stop c.args.s.now c.find-e.result c.find-e.ensures.value (sym (tried (goal.at.returns-then-not-is_some c).After-is_some)
-    ∙ c.if-not-is_some.true))
+pub returns-then-not-is_time_of_day : goal.returns-then-not-is_time_of_day
+returns-then-not-is_time_of_day c =
+    sym (landed_stop c.args.s.now c.find-e.result c.find-e.ensures.value (sym (tried (goal.at.returns-then-not-is_time_of_day c).After-is_time_of_day)
+    ∙ c.if-not-is_time_of_day.true))
 
 pub returns-then-e-s : goal.returns-then-e-s
 returns-then-e-s c =

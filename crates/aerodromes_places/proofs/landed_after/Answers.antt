@@ -12,8 +12,8 @@ use Rattle.aerodromes_places.proofs.landed_after.Goals as goal
 
 fits : (c : After-same_bytes) → joined clock_hours c.args.w.now ≡ true
 fits c =
-    let tried : c.is_some.result ≡ joined clock_hours c.args.w.now = by_time _ c.at_clock.ensures c.is_some.ensures in
-    sym tried ∙ c.if-not-is_some.false
+    let tried : c.is_time_of_day.result ≡ joined clock_hours c.args.w.now = by_time _ c.at_clock.ensures c.is_time_of_day.ensures in
+    sym tried ∙ c.if-not-is_time_of_day.false
 
 compared : (c : After-same_bytes) → same (aerodrome_of c.args.w.now) (bytes "ZZZZ") ≡ c.same_bytes.result
 compared c =
