@@ -56,6 +56,11 @@ fn check_parens(msg: &[u8]) -> Result<(), Refusal>
     if n + 1 == rest.len() && rest[n] == b')' {
         return Ok(());
     }
+    // A `)` that is not last.
+    if n < rest.len() && rest[n] == b')' {
+        return Err(Refusal::at(2, n + 1));
+    }
+    // A `(`, or no parenthesis up to the end.
     Err(Refusal::at(2, n + 1))
 }
 

@@ -13,8 +13,9 @@ use Rattle.std.proofs.lemmas.Iterator.{YieldsList-from_slice}
 use Rattle.std.proofs.lemmas.Iterator.Search.{position_from_yields_List}
 use Rattle.alphabet.proofs.First.{count_found}
 use Rattle.outer.specs.Refusal.{refusal}
-use Rattle.outer.specs.Outer.{no_paren, parens_from}
+use Rattle.outer.specs.Outer.{no_paren, parens, parens_from}
 use Rattle.outer.proofs.Laws.{to_paren, Closes, parens_none, parens_other, parens_first, parens_closed, parens_open}
+use Rattle.outer.proofs.check_parens.Goals.{Joined-else-n-rest}
 use Rattle.outer.proofs.check_parens.Goals as goal
 use Rattle.outer.proofs.check_parens.Goals.{then-msg-eq0-via-then-msg-eq0, then-msg-eq0-via-else-msg-eq0+then-msg-ne40}
 use Rattle.outer.proofs.check_parens.Goals.{else-n-rest-via-then-n-rest+else-rest-n-eq41, else-n-rest-via-else-n-rest}
@@ -41,8 +42,9 @@ returns-then-rest-n-eq41 c =
     sym (parens_closed s 1 (subst (Closes s) n.0 (c.if-n-rest.true, c.if-rest-n-eq41.true))) ∙ ap (parens_from 1) w ∙ parens_first m
     c.if-msg-eq0.false c.if-msg-ne40.false
 
-pub returns : goal.returns
-returns c =
+-- where the first parenthesis is no `)` that stands last
+left : (c : Joined-else-n-rest) → Err (refusal 2 0 (c.unwrap_or-n.result + 1)) ≡ parens c.args.msg.now
+left c =
     let m = c.args.msg.now in
     let s = take (length m - 1) (drop 1 m) in
     let w : s ≡ drop 1 m = rest_is m in
@@ -57,5 +59,13 @@ returns c =
     ]
     in
     let p : 1 + to_paren s ≡ u + 1 = omega (arith, n.0) in
-    ap Err c.at.ensures ∙ sym (parens_open s 1 (subst (λ (k : ℕ). Closes s k → ⊥) n.0 open_) ∙ ap (λ (k : ℕ). Err (refusal 2 0 k)) p) ∙ ap (parens_from 1) w
+    sym (parens_open s 1 (subst (λ (k : ℕ). Closes s k → ⊥) n.0 open_) ∙ ap (λ (k : ℕ). Err (refusal 2 0 k)) p) ∙ ap (parens_from 1) w
     ∙ parens_first m c.if-msg-eq0.false c.if-msg-ne40.false
+
+pub returns-then-rest-n-eq41-2 : goal.returns-then-rest-n-eq41-2
+returns-then-rest-n-eq41-2 c =
+    ap Err c.at.ensures ∙ left (goal.at.returns-then-rest-n-eq41-2 c).Joined-else-n-rest
+
+pub returns : goal.returns
+returns c =
+    ap Err c.at-2.ensures ∙ left (goal.at.returns c).Joined-else-n-rest
