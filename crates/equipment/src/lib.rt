@@ -5,6 +5,7 @@ ghost use Rattle.std.specs.Prelude.{◌≡◌, true};
 ghost use Rattle.text.specs.Words.{cells};
 ghost use Rattle.codes.specs.Codes.{codes, is_index};
 ghost use Rattle.equipment.specs.Field10.{present, side_fits, fits10};
+ghost use Rattle.equipment.specs.Cells.{equipment_cells, equipment_index, surveillance_cells, surveillance_index};
 
 use codes::{CodeList, SomeCodes};
 
@@ -28,9 +29,10 @@ pub fn fits_side(side: &SomeCodes, s: &[u8]) -> bool
 }
 
 // The equipment, left of the oblique, in the present edition.
-#[tactic(auto, unfolding(crate::specs::Field10::present))]
+#[tactic(auto, unfolding(crate::specs::Field10::present, crate::specs::Cells::equipment_cells, crate::specs::Cells::equipment_index))]
 pub fn equipment() -> SomeCodes<'static>
-    ensures { (cells 2 result.codes.list.now ≡ present.left) × (result.most ≡ present.most_left) }
+    ensures value { (cells 2 result.codes.list.now ≡ present.left) × (result.most ≡ present.most_left) }
+    ensures bytes { (result.codes.list.now ≡ equipment_cells) × (result.codes.first.now ≡ equipment_index) }
 {
     SomeCodes {
         codes: CodeList {
@@ -42,9 +44,10 @@ pub fn equipment() -> SomeCodes<'static>
 }
 
 // The surveillance, behind the oblique, in the present edition.
-#[tactic(auto, unfolding(crate::specs::Field10::present))]
+#[tactic(auto, unfolding(crate::specs::Field10::present, crate::specs::Cells::surveillance_cells, crate::specs::Cells::surveillance_index))]
 pub fn surveillance() -> SomeCodes<'static>
-    ensures { (cells 2 result.codes.list.now ≡ present.right) × (result.most ≡ present.most_right) }
+    ensures value { (cells 2 result.codes.list.now ≡ present.right) × (result.most ≡ present.most_right) }
+    ensures bytes { (result.codes.list.now ≡ surveillance_cells) × (result.codes.first.now ≡ surveillance_index) }
 {
     SomeCodes {
         codes: CodeList {

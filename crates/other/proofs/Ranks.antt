@@ -8,8 +8,8 @@ use native.Mathlib.Omega.{arith}
 use lib.ListN.{drop}
 use borrow.Author.Tests.{ne_eqb, not-true}
 use Rattle.alphabet.specs.Alphabet.{sign}
-use Rattle.text.specs.Words.{Word, all, same, elem, rank_from, Ranked}
-use Rattle.text.proofs.Tests.{both, same-eq, rank-elem}
+use Rattle.text.specs.Words.{Word, all, same, elem, rank_from, rank_given}
+use Rattle.text.proofs.Tests.{both, same-eq, rank-elem, ranked_is}
 use Rattle.codes.proofs.Marks.{ranked}
 use Rattle.other.specs.Rules.{Edition18, rank_in, distinct, sound_keys}
 
@@ -62,13 +62,13 @@ module _ (ed : Edition18) (sound : sound_keys ed ≡ true) where
   unfolding sound_keys
   all_distinct = (both (all (all sign) ed.keys) (distinct ed.keys) sound).1
 
-  module _ (last : ℕ) (key : Word) (r : Option ℕ) (found : Ranked (rank_from (last + 1) key (drop last ed.keys)) r) where
+  module _ (last : ℕ) (key : Word) (r : Option ℕ) (found : r ≡ rank_given (rank_from (last + 1) key (drop last ed.keys))) where
     pub not_later : r ≡ None → rank_in ed key ≤ last
-    not_later z = omega (arith, none_behind last 1 (last + 1) key ed.keys (omega arith) refl (rw z at found))
+    not_later z = omega (arith, none_behind last 1 (last + 1) key ed.keys (omega arith) refl (rw z at (ranked_is _ _ found)))
 
     pub later : (k : ℕ) → r ≡ Some k → (k ≡ rank_in ed key) × (last < k)
     later k e =
-        let f : (0 < k) × (rank_from (last + 1) key (drop last ed.keys) ≡ k) = rw e at found in
+        let f : (0 < k) × (rank_from (last + 1) key (drop last ed.keys) ≡ k) = rw e at (ranked_is _ _ found) in
         let some : rank_from (last + 1) key (drop last ed.keys) ≡ 0 → ⊥ = λ z. omega (arith, f.0, f.1) in (
           sym f.1 ∙ some_behind last 1 (last + 1) key ed.keys (omega arith) refl all_distinct some,
           omega (arith, f.1, (ranked (last + 1) key (drop last ed.keys) some).0),

@@ -3,3 +3,4 @@ pub mod Elements
 pub mod Plain
 pub mod Field18
 pub mod Stated
+pub mod Cells

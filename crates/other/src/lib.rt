@@ -7,6 +7,7 @@ ghost use Rattle.text.specs.Words.{split, after, up_to, all, free, elem, cells};
 ghost use Rattle.other.specs.Rules.{statuses, approvals, approved, days_in, date, elapsed_in, selcal, address, word_fits, single, more_fits};
 ghost use Rattle.other.specs.Rules.{rule_in, rule_of, edition, sound_keys, base};
 ghost use Rattle.other.specs.Plain.{plain, all_plain};
+ghost use Rattle.other.specs.Cells.{approval_cells, approval_index, base_keys, base_marks};
 ghost use Rattle.other.specs.Field18.{fit_from, fit_more, fits_in, fits18, has_key, words_under, words_from, Found};
 
 use codes::{CodeList, SomeCodes};
@@ -35,9 +36,10 @@ fn is_status(w: &[u8]) -> bool
 }
 
 // PBN: 1 to 8 codes of two bytes, none twice.
-#[tactic(auto, unfolding(crate::specs::Rules::approvals))]
+#[tactic(auto, unfolding(crate::specs::Rules::approvals, crate::specs::Cells::approval_cells, crate::specs::Cells::approval_index))]
 pub fn approvals() -> SomeCodes<'static>
-    ensures { (cells 2 result.codes.list.now ≡ approvals) × (result.most ≡ 16) }
+    ensures value { (cells 2 result.codes.list.now ≡ approvals) × (result.most ≡ 16) }
+    ensures bytes { (result.codes.list.now ≡ approval_cells) × (result.codes.first.now ≡ approval_index) }
 {
     SomeCodes {
         codes: CodeList {
@@ -124,7 +126,7 @@ pub fn word_fits(rule: Rule, w: &[u8]) -> bool
         Rule::Status => is_status(w),
         Rule::Approvals => is_approved(w),
         Rule::Day => is_date(w),
-        Rule::Timed => elapsed_in(w).is_some(),
+        Rule::Timed => shape::Elapsed::is_elapsed(elapsed_in(w)),
         Rule::Selcal => is_selcal(w),
         Rule::Address => is_address(w),
         Rule::Free => text::is_text_word(w),
@@ -239,13 +241,16 @@ fn plain_to(s: &[u8], from: usize) -> usize
     i
 }
 
-// The place of the last space from `from` on and before `to`; `from` where there is none.
+// The place of the last space behind `from` and not behind `to`; `from` where there is none.
 fn last_space(s: &[u8], from: usize, to: usize) -> usize
-    requires { (from ≤ to) × (to ≤ length s.now) }
-    ensures { (from ≤ result) × (result ≤ to) × (from < result → (result < to) × (get_or s.now result 0 ≡ 32)) }
+    requires { (from ≤ to) × (from < to → to < length s.now) }
+    ensures { (from ≤ result) × (result ≤ to) × (from < result → get_or s.now result 0 ≡ 32) }
 {
-    match s[from..to].iter().rev().position(|&b| b == b' ') {
-        Some(k) => to - 1 - k,
+    if from == to {
+        return from;
+    }
+    match s[from + 1..to + 1].iter().rev().position(|&b| b == b' ') {
+        Some(k) => to - k,
         None => from,
     }
 }
@@ -279,7 +284,7 @@ impl<'a> Edition<'a> {
 
     // The edition of document 01.
     pub fn base() -> Edition<'a>
-        ensures { stated result ≡ base }
+        ensures { (stated result ≡ base) × (result.keys.now ≡ base_keys) × (result.rules.now ≡ base_marks) }
     {
         Edition {
             keys: b"STS PBN NAV COM DAT SUR DEP DESTDOF REG EET SEL TYP CODEDLE OPR ORGNPER ALTNRALTTALTRIF RMK ",

@@ -41,7 +41,7 @@ pub struct Pieces<'a> {
 
 // The pieces of an input.
 pub fn of<'a>(s: &'a [u8]) -> Pieces<'a>
-    ensures { pieces_left result ≡ pieces_of s.now }
+    ensures { (pieces_left result ≡ pieces_of s.now) × (result.left.now ≡ s.now) }
 {
     Pieces { left: s }
 }

@@ -15,11 +15,11 @@ returns-then-fits_side c =
     let f = c.find_far-o in
     rw (
       at_oblique present c.args.s.now f.result f.ensures.value c.if-o-s.false f.ensures.lower_bound.1,
-      sym c.equipment.ensures.0,
-      sym c.equipment.ensures.1,
+      sym c.equipment.ensures.value.0,
+      sym c.equipment.ensures.value.1,
       sym c.fits_side.ensures ∙ c.if-fits_side.true,
-      sym c.surveillance.ensures.0,
-      sym c.surveillance.ensures.1,
+      sym c.surveillance.ensures.value.0,
+      sym c.surveillance.ensures.value.1,
     )
     (rw rest at c.fits_side-then-fits_side.ensures)
 
@@ -29,7 +29,7 @@ returns-else-fits_side c =
     c.if-fits_side.false
     ∙ rw (
       at_oblique present c.args.s.now f.result f.ensures.value c.if-o-s.false f.ensures.lower_bound.1,
-      sym c.equipment.ensures.0,
-      sym c.equipment.ensures.1,
+      sym c.equipment.ensures.value.0,
+      sym c.equipment.ensures.value.1,
       sym c.fits_side.ensures ∙ c.if-fits_side.false,
     )

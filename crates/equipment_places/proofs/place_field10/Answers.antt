@@ -21,14 +21,14 @@ pub returns-then-o-s : goal.returns-then-o-s
 unfolding place10
 returns-then-o-s c =
     let f = c.find-o in
-    let told = of_edition side_place _ _ _ _ c.equipment-left.ensures _ _ c.side_place.ensures in
+    let told = of_edition side_place _ _ _ _ c.equipment-left.ensures.value _ _ c.side_place.ensures in
     elim c.then-o-s.branch [
       | then-o-s-via-then-o-s w ↦ (
           cut_none 47 (side_of present.left present.most_left) (side_place present.left present.most_left) (side_place present.right present.most_right)
           c.args.s.now f.result f.ensures.value c.side_place.result w.if-o-s.true told
           )
       | then-o-s-via-else-o-s+then-not-fits_side w ↦ (
-          let fits = of_edition side_of _ _ _ _ c.equipment-left.ensures (take f.result c.args.s.now) _ w.fits_side.ensures in
+          let fits = of_edition side_of _ _ _ _ c.equipment-left.ensures.value (take f.result c.args.s.now) _ w.fits_side.ensures in
           cut_off 47 (side_of present.left present.most_left) (side_place present.left present.most_left) (side_place present.right present.most_right)
           c.args.s.now f.result f.ensures.value c.side_place.result (sym fits ∙ w.if-not-fits_side.true) told
           )
@@ -38,7 +38,7 @@ told : (c : After-side_place-2)
     → c.side_place-2.result
     ≡ side_place present.right present.most_right (take (length c.args.s.now - (c.find-o.result + 1)) (drop (c.find-o.result + 1) c.args.s.now))
 told c =
-    of_edition side_place _ _ _ _ c.surveillance.ensures _ _ c.side_place-2.ensures
+    of_edition side_place _ _ _ _ c.surveillance.ensures.value _ _ c.side_place-2.ensures
 
 pub overflow_add-result-2 : goal.overflow_add-result-2
 overflow_add-result-2 c =
@@ -55,7 +55,7 @@ pub returns : goal.returns
 unfolding place10
 returns c =
     let f = c.find-o in
-    let fits = of_edition side_of _ _ _ _ c.equipment-left.ensures (take f.result c.args.s.now) _ c.fits_side.ensures in
+    let fits = of_edition side_of _ _ _ _ c.equipment-left.ensures.value (take f.result c.args.s.now) _ c.fits_side.ensures in
     cut_on 47 (side_of present.left present.most_left) (side_place present.left present.most_left) (side_place present.right present.most_right)
     c.args.s.now f.result f.ensures.value
     c.side_place-2.result c.if-o-s.false f.ensures.lower_bound.1 (sym fits ∙ c.if-not-fits_side.false)

@@ -5,4 +5,4 @@ use Rattle.other.proofs.is_approved.Goals as goal
 
 pub returns : goal.returns
 returns c =
-    c.fit.ensures ∙ rw (c.approvals.ensures.0, c.approvals.ensures.1) (approved_bytes c.args.w.now)
+    c.fit.ensures ∙ rw (c.approvals.ensures.value.0, c.approvals.ensures.value.1) (approved_bytes c.args.w.now)

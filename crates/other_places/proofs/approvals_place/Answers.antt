@@ -4,4 +4,4 @@ use Rattle.other_places.proofs.approvals_place.Goals as goal
 
 pub returns : goal.returns
 returns c =
-    c.codes_place.ensures ∙ rw (c.approvals.ensures.0, c.approvals.ensures.1) refl
+    c.codes_place.ensures ∙ rw (c.approvals.ensures.value.0, c.approvals.ensures.value.1) refl

@@ -10,4 +10,4 @@ returns c =
     let items = c.place_edition in
     let none = c.matched_of in
     c.max.ensures ∙ ap (λ x. larger x items.result) none.ensures
-    ∙ ap (larger _) (items.ensures ∙ ap (λ ed. items_place ed c.args.s.now) c.base.ensures)
+    ∙ ap (larger _) (items.ensures ∙ ap (λ ed. items_place ed c.args.s.now) c.base.ensures.0)
