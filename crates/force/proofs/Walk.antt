@@ -7,14 +7,14 @@ use mathlib.Core.Option.{Option, some}
 use mathlib.Core.Option
 use native.Mathlib.Omega.{arith}
 use lib.Dec.{ltb, eqb}
-use lib.ListN.{length, take, drop, get_or, length-drop}
+use lib.ListN.{length, take, drop, length-drop}
 use lib.Seq.{take-nil, drop-drop, length-take-le}
 use borrow.Author.Tests.{eq-eqb, ne_eqb, ltb-true, ltb-false}
 use Rattle.std.specs.Prelude.{Some, None}
 use Rattle.std.specs.Prelude as rust
-use Rattle.text.specs.Words.{Word, split, up_to, before, behind}
+use Rattle.text.specs.Words.{Word, split, up_to, after, before, behind}
 use Rattle.text.specs.Places.{Stepped}
-use Rattle.text.proofs.Index.{split_at, after_here, after_end, piece, stepped}
+use Rattle.text.proofs.Index.{split_at, after_here, after_end, piece, stepped, rest}
 use Rattle.dates.proofs.Pieces.{ends, piece_is, more_left, none_left}
 use Rattle.space.specs.Hyphens.{behind_hyphen}
 use Rattle.message.proofs.Nth.{cut_at, field_at_lem}
@@ -131,41 +131,57 @@ module _ {chg : List ℕ} {k at e : ℕ} (some-rank : 0 < k) (w : Seeking chg k 
               ∙ sym (rw (split_at 45 chg at e end, not_here, after_here 45 chg e h)) ∙ w.place;
         }
 
--- ENTRY BY ENTRY: before the n-th entry, which begins at `at`, where the entries begin at `first`, and behind the last
+-- WHAT THE ITERATOR GIVES: the piece that ends at e, where the next hyphen stands or the text ends; those behind it are left
 
-abbrev pub entries_at : List ℕ → ℕ → List Word
-entries_at chg first = split 45 (drop first chg)
+module _ (text : List ℕ) (e : ℕ) (end : e ≡ 0 + up_to 45 (drop 0 text)) where
+  first : split 45 text ≡ take e text ∷ after 45 (drop e text)
+  first = let z : e - 0 ≡ e = omega arith in split_at 45 text 0 e end ∙ ap (λ (n : ℕ). take n text ∷ after 45 (drop e text)) z
 
-pub record Turn (chg : List ℕ) (k first n at : ℕ) : Type 0 where
-  pub more : n < length (entries_at chg first) → (drop n (entries_at chg first) ≡ split 45 (drop at chg)) × Seeking chg k at
-  pub none : length (entries_at chg first) ≤ n → FoundIn chg k None
+  pub first_of_more : e < length text → split 45 text ≡ take e text ∷ split 45 (take (length text - (e + 1)) (drop (e + 1) text))
+  first_of_more h =
+      first ∙ ap (λ (ws : List Word). take e text ∷ ws) (after_here 45 text e h)
+      ∙ ap (λ (t : List ℕ). take e text ∷ split 45 t) (sym (rest text (e + 1)))
+
+  pub first_alone : length text ≤ e → split 45 text ≡ take e text ∷ []
+  first_alone h = first ∙ ap (λ (ws : List Word). take e text ∷ ws) (after_end 45 text e h)
+
+-- ENTRY BY ENTRY: `ws` are the entries that are left, of which the first begins at `at`
+
+pub record Turn (chg : List ℕ) (k at : ℕ) (ws : List Word) : Type 0 where
+  pub more : 0 < length ws → (ws ≡ split 45 (drop at chg)) × Seeking chg k at
+  pub none : ws ≡ [] → FoundIn chg k None
 
 some_pieces : (s : List ℕ) → 0 < length (split 45 s)
 some_pieces s = omega (arith, ap length (split_at 45 s 0 (0 + up_to 45 s) refl))
 
-pub turn_first : {chg : List ℕ} {k at : ℕ} → 0 < k → at ≤ length chg → drop at chg ≡ behind_hyphen first_entry chg → Turn chg k at 0 at
+-- what begins at `at` is lent whole
+pub turn_first : {chg : List ℕ} {k at : ℕ} → 0 < k → at ≤ length chg → drop at chg ≡ behind_hyphen first_entry chg
+    → Turn chg k at (split 45 (take (length chg - at) (drop at chg)))
 turn_first {chg} {k} {at} h l d =
+    let whole = ap (split 45) (rest chg at) in
     record {
-      more = λ m. (refl, seeking_starts h l d);
-      none = λ m. absurd (omega (arith, some_pieces (drop at chg)));
+      more = λ m. (whole, seeking_starts h l d);
+      none = λ z. absurd (omega (arith, some_pieces (take (length chg - at) (drop at chg)), ap length z));
     }
 
-module _ {chg : List ℕ} {k first n at : ℕ} (some-rank : 0 < k) (t : Turn chg k first n at) (w : Word)
-    (turn : (n < length (entries_at chg first)) × (w ≡ get_or (entries_at chg first) n w)) where
-  seeking : Seeking chg k at
-  seeking = (t.more turn.0).1
+module _ {chg : List ℕ} {k at : ℕ} {ws : List Word} (some-rank : 0 < k) (t : Turn chg k at ws) (w : Word) (vs : List Word) (cut : ws ≡ w ∷ vs) where
+  now : (ws ≡ split 45 (drop at chg)) × Seeking chg k at
+  now = t.more (omega (arith, ap length cut))
 
-  left : drop n (entries_at chg first) ≡ split 45 (drop at chg)
-  left = (t.more turn.0).0
+  seeking : Seeking chg k at
+  seeking = now.1
+
+  left : w ∷ vs ≡ split 45 (drop at chg)
+  left = sym cut ∙ now.0
+
+  turn : (0 < length (w ∷ vs)) × (w ≡ w)
+  turn = (omega arith, refl)
 
   end : (at + length w ≡ at + up_to 45 (drop at chg)) × (at + length w ≤ length chg)
-  end = ends 45 chg (entries_at chg first) n at seeking.inside left w turn
-
-  pub entry_inside : at + length w ≤ length chg
-  entry_inside = end.1
+  end = ends 45 chg (w ∷ vs) 0 at seeking.inside left w turn
 
   entry_is : w ≡ take (at + length w - at) (drop at chg)
-  entry_is = piece_is 45 chg (entries_at chg first) n at seeking.inside left w turn
+  entry_is = piece_is 45 chg (w ∷ vs) 0 at seeking.inside left w turn
 
   module _ {r : ℕ} (is-rank : r ≡ which_of w) where
     rank_is : r ≡ which_of (take (at + length w - at) (drop at chg))
@@ -175,23 +191,23 @@ module _ {chg : List ℕ} {k first n at : ℕ} (some-rank : 0 < k) (t : Turn chg
     turn_found {b} h step =
         found_here some-rank seeking end.0 end.1 rank_is h (subst (λ (v : Word). Stepped 47 v 0 b) entry_is step)
 
-    pub turn_next : (r ≡ k → ⊥) → Turn chg k first (n + 1) (at + length w + 1)
+    pub turn_next : (r ≡ k → ⊥) → Turn chg k (at + length w + 1) vs
     turn_next other = go (ltb (at + length w) (length chg)) refl
       where
-        go : (x : Bool) → ltb (at + length w) (length chg) ≡ x → Turn chg k first (n + 1) (at + length w + 1)
+        go : (x : Bool) → ltb (at + length w) (length chg) ≡ x → Turn chg k (at + length w + 1) vs
         go true x =
             let l = ltb-true _ _ x in
-            let rest = more_left 45 chg (entries_at chg first) n at seeking.inside left w turn l in
+            let behind = more_left 45 chg (w ∷ vs) 0 at seeking.inside left w turn l in
             record {
-              more = λ h. (rest, found_later some-rank seeking end.0 end.1 rank_is other l (stepped 45 chg at (at + length w) end.0 seeking.inside l));
-              none = λ h. absurd (omega (arith, ap length rest, length-drop (n + 1) (entries_at chg first), some_pieces (drop (at + length w + 1) chg)));
+              more = λ h. (behind, found_later some-rank seeking end.0 end.1 rank_is other l (stepped 45 chg at (at + length w) end.0 seeking.inside l));
+              none = λ z. absurd (omega (arith, some_pieces (drop (at + length w + 1) chg), ap length behind, ap length z));
             }
         go false x =
             let l = ltb-false _ _ x in
-            let rest = none_left 45 chg (entries_at chg first) n at seeking.inside left w turn l in
+            let behind = none_left 45 chg (w ∷ vs) 0 at seeking.inside left w turn l in
             record {
-              more = λ h. absurd (omega (arith, ap length rest, length-drop (n + 1) (entries_at chg first)));
-              none = λ h. found_nowhere some-rank seeking end.0 end.1 rank_is other l;
+              more = λ h. absurd (omega (arith, ap length behind));
+              none = λ z. found_nowhere some-rank seeking end.0 end.1 rank_is other l;
             }
 
 -- no entry names the field of rank 0

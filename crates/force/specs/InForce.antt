@@ -4,6 +4,7 @@
 use Rattle.std.specs.Prelude.{ℕ, zero, suc, ◌+◌, ◌-◌, ◌≤◌, ◌≡◌, refl, Bool, true, false, ◌&&◌, cond, List, [], ◌∷◌, ◌++◌, map, ltb, eqb, length, take, drop}
 use Rattle.std.specs.Prelude.{get_or, set, Some, None}
 use Rattle.std.specs.Prelude as rust
+use Rattle.std.specs.Borrow.{Bor}
 use Rattle.std.proofs.Math.Option
 use Rattle.std.proofs.Math.Option.{Option, none, some}
 use Rattle.alphabet.specs.Text.{bytes}
@@ -14,12 +15,22 @@ use Rattle.aerodromes.specs.Aerodromes.{four_letters}
 use Rattle.aerodromes.specs.Field16.{fits16}
 use Rattle.kinds.specs.Kinds.{plan7, plan16, first_entry}
 use Rattle.forms.specs.Field22.{labels, which_of}
+use Rattle.force.specs.declared.Entries.{Entries}
 use Rattle.force.specs.declared.Span.{Span}
 
 -- THE ENTRIES of a CHG stand behind its fields 3, 7, 13, 16 and 18
 
 abbrev pub entries_of : List ℕ → List Word
 entries_of chg = drop first_entry (split 45 chg)
+
+-- those of the bytes that are left, if any are left: behind the last entry none are
+abbrev pub pieces_of_rest : rust.Option (Bor (List ℕ)) → List Word
+pieces_of_rest None = []
+pieces_of_rest (Some text) = split 45 text.now
+
+-- the entries that are still to come
+abbrev pub entries_left : Entries → List Word
+entries_left e = pieces_of_rest e.left
 
 -- the content behind the oblique of the first entry that names the field of rank k
 abbrev pub lookup : ℕ → List Word → Option Word

@@ -2,8 +2,9 @@
 #![tactic(auto)]
 
 ghost use Rattle.std.specs.Prelude.{◌≡◌, ℕ, ◌≤◌, ◌<◌, length, drop};
+ghost use Rattle.std.specs.Iterator.{YieldsFirstRef, item_count};
 ghost use Rattle.space.specs.Hyphens.{behind_hyphen};
-ghost use Rattle.force.specs.InForce.{AtEntries, FoundIn, bare};
+ghost use Rattle.force.specs.InForce.{AtEntries, FoundIn, bare, entries_left};
 
 use kinds::Form;
 use text::Cursor;
@@ -29,13 +30,39 @@ pub fn first_entry(chg: &[u8]) -> Cursor
     seek(chg, kinds::FIRST_ENTRY)
 }
 
+// The entries of a CHG, from the first of the bytes that are left; None behind the last. The hyphens are looked for by blocks of 16 bytes.
+#[derive(Drop)]
+struct Entries<'a> {
+    left: Option<&'a [u8]>,
+}
+
+impl<'a> Iterator for Entries<'a> {
+    type Item = &'a [u8];
+
+    ghost next_gives = { YieldsFirstRef entries_left };
+
+    ghost remaining = { item_count entries_left };
+
+    fn next(&mut self) -> Option<&'a [u8]> {
+        let text = self.left?;
+        let e = text::find_far(text, 0, b'-');
+        self.left = if e < text.len() {
+            Some(&text[e + 1..])
+        } else {
+            None
+        };
+        Some(&text[..e])
+    }
+}
+
 // Where the content of the first entry stands that names the field of rank k, where the entries begin at `first`.
 fn find_entry(chg: &[u8], first: Cursor, k: usize) -> Option<Span>
     requires { (0 < k) × AtEntries chg.now first.at }
     ensures { FoundIn chg.now k result }
 {
     let mut at = first.at;
-    for entry in chg[at..].split(|&b| b == b'-') {
+    let rest = &chg[at..];
+    for entry in (Entries { left: Some(rest) }) {
         let e = at + entry.len();
         if forms::rank_in(Form::Field22, entry) == k {
             let content = Cursor { at: 0 }.next(entry, b'/');
