@@ -7,7 +7,7 @@ use native.Mathlib.Omega.{arith}
 use lib.Dec.{ltb}
 use lib.ListN.{length}
 use borrow.Author.Tests.{ne_eqb, ltb-false, not-true, not-false}
-use Rattle.std.specs.Prelude.{Option, None, Some}
+use Rattle.std.specs.Prelude.{Option, None, Some, Ok, Err}
 use Rattle.std.specs.Str.{bytes_eq}
 use Rattle.text.specs.Words.{same}
 use Rattle.text.proofs.Iterated.{same_listed}
@@ -47,17 +47,17 @@ module _ (ns : List ℕ) where
   abbrev meant : Board
   meant = record { places = board_of ns }
 
-  pub board_taken : (b : Board) → handed_as ns ≡ Some b → (is_board ns ≡ true) × (b.places ≡ board_of ns)
+  pub board_taken : (b : Board) → handed_as ns ≡ Ok b → (is_board ns ≡ true) × (b.places ≡ board_of ns)
   board_taken b e = go (is_board ns) refl e
     where
-      go : (t : Bool) → is_board ns ≡ t → cond t (Some meant) None ≡ Some b → (is_board ns ≡ true) × (b.places ≡ board_of ns)
+      go : (t : Bool) → is_board ns ≡ t → cond t (Ok meant) (Err meant) ≡ Ok b → (is_board ns ≡ true) × (b.places ≡ board_of ns)
       go true h q = let z : meant ≡ b = cc in (h, sym (ap (λ (x : Board). x.places) z))
       go false h q = absurd (let z : ◌≡◌ {A = ℕ} 0 1 = cc in omega arith)
 
-  pub no_board : handed_as ns ≡ None → is_board ns ≡ false
-  no_board e = go (is_board ns) refl e
+  pub no_board : (b : Board) → handed_as ns ≡ Err b → is_board ns ≡ false
+  no_board b e = go (is_board ns) refl e
     where
-      go : (t : Bool) → is_board ns ≡ t → cond t (Some meant) None ≡ None → is_board ns ≡ false
+      go : (t : Bool) → is_board ns ≡ t → cond t (Ok meant) (Err meant) ≡ Err b → is_board ns ≡ false
       go true h q = absurd (let z : ◌≡◌ {A = ℕ} 0 1 = cc in omega arith)
       go false h q = h
 
@@ -68,11 +68,11 @@ module _ (ns : List ℕ) where
     unfolding is_board
     again_is = ap (λ (l : List ℕ). same l ns) (ap board_numbers (sym eb) ∙ sym ea) ∙ sym (same_listed again ns)
 
-    pub none_handed : t ≡ true → None ≡ handed_as ns
-    none_handed e = rw (again_is ∙ not-true _ (sym et ∙ e))
+    pub none_handed : t ≡ true → Err b ≡ handed_as ns
+    none_handed e = rw (again_is ∙ not-true _ (sym et ∙ e)) (ap (λ (qs : List Place). Err (record { places = qs })) eb)
 
-    pub one_handed : t ≡ false → Some b ≡ handed_as ns
-    one_handed e = rw (again_is ∙ not-false _ (sym et ∙ e)) (ap (λ (qs : List Place). Some (record { places = qs })) eb)
+    pub one_handed : t ≡ false → Ok b ≡ handed_as ns
+    one_handed e = rw (again_is ∙ not-false _ (sym et ∙ e)) (ap (λ (qs : List Place). Ok (record { places = qs })) eb)
 
 -- A CALL by the number `firm`, which is handed on as `by`
 

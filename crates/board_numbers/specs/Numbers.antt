@@ -1,7 +1,8 @@
 -- A board as 200 plain numbers, ten for each of its 20 places, the first ten places the first firm's. Assumes nothing.
 --     whether a strip stands there (1, or 0), the eight numbers of its state (handed: specs/States.antt), how many bytes it takes, at most 1,800
 -- Of a place in which nothing stands all ten are 0.
-use Rattle.std.specs.Prelude.{ℕ, zero, suc, ◌≡◌, refl, Bool, true, false, cond, Option, None, Some, List, [], ◌∷◌, ◌++◌, eqb, drop, get_or, set, replicate}
+use Rattle.std.specs.Prelude.{ℕ, zero, suc, ◌≡◌, refl, Bool, true, false, cond, None, Some, Result, Ok, Err, List, [], ◌∷◌, ◌++◌, eqb}
+use Rattle.std.specs.Prelude.{drop, get_or, set, replicate}
 use Rattle.text.specs.Words.{same}
 use Rattle.state.specs.State.{just_filed}
 use Rattle.handed.specs.States.{state_numbers, kept, state_of}
@@ -38,9 +39,9 @@ board_of ns = places_from 20 ns
 unfoldable pub is_board : List ℕ → Bool
 is_board ns = same (board_numbers (board_of ns)) ns
 
--- what is handed in
-abbrev pub handed_as : List ℕ → Option Board
-handed_as ns = cond (is_board ns) (Some (record { places = board_of ns })) None
+-- what is handed in, and whether it is a board
+abbrev pub handed_as : List ℕ → Result Board Board
+handed_as ns = cond (is_board ns) (Ok (record { places = board_of ns })) (Err (record { places = board_of ns }))
 
 -- EXAMPLES, computed: the empty board, and one with a filed strip of 75 bytes in the second firm's slot 1
 

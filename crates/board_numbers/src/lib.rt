@@ -103,17 +103,17 @@ fn places_of(numbers: &[u64]) -> Board
     Board { places }
 }
 
-// The board that a caller hands in; numbers that are not those of a board are none.
-pub fn hand_in(numbers: &[u64; 200]) -> Option<Board>
+// The board that a caller hands in; where the numbers are not those of a board, `Err` with what they mean all the same.
+pub fn hand_in(numbers: &[u64; 200]) -> Result<Board, Board>
     ensures { result ≡ handed_as numbers.now }
 {
     let board = places_of(numbers);
     let mut again = [0; 200];
     put_board(board, &mut again);
     if again != *numbers {
-        return None;
+        return Err(board);
     }
-    Some(board)
+    Ok(board)
 }
 
 // The verdict where numbers are no board's: 18 before 15.
@@ -163,7 +163,7 @@ pub fn file(
         strips.new }
 {
     let by = handed::byte_of(firm);
-    let Some(board) = hand_in(numbers) else {
+    let Ok(board) = hand_in(numbers) else {
         return tell(not_board(by), answer);
     };
     let t = board::file(board, by, msg, strips);
@@ -184,7 +184,7 @@ pub fn update(
         numbers.new strips.new }
 {
     let by = handed::byte_of(firm);
-    let Some(board) = hand_in(numbers) else {
+    let Ok(board) = hand_in(numbers) else {
         return tell(not_board(by), answer);
     };
     let t = board::update(board, by, slot as usize, msg, strips);
@@ -197,7 +197,7 @@ pub fn clear(numbers: &mut [u64; 200], firm: u64, slot: u64, answer: &mut [u64; 
     ensures { Clears firm slot numbers.old result answer.new numbers.new }
 {
     let by = handed::byte_of(firm);
-    let Some(board) = hand_in(numbers) else {
+    let Ok(board) = hand_in(numbers) else {
         return tell(not_board(by), answer);
     };
     let t = board::clear(board, by, slot as usize);
@@ -289,7 +289,7 @@ pub fn look(
     ensures { Looks firm slot numbers.now strips.now result answer.new }
 {
     let by = handed::byte_of(firm);
-    let Some(board) = hand_in(numbers) else {
+    let Ok(board) = hand_in(numbers) else {
         return tell_look(not_board_look(by), 0, 0, answer);
     };
     let k = slot as usize;

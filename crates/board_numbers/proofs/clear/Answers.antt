@@ -9,12 +9,12 @@ returns-in_default c =
     let a = c.args in
     λ bytes.
     call_not (clear c.args.slot) a.firm c.byte_of-by.result a.numbers.now bytes c.byte_of-by.ensures c.not_board.result _ _
-    (no_board a.numbers.now (sym c.hand_in.ensures ∙ c.in_default.is)) c.not_board.ensures c.tell.ensures.0 c.tell.ensures.1
+    (no_board a.numbers.now _ (sym c.hand_in.ensures ∙ c.in_default.is)) c.not_board.ensures c.tell.ensures.0 c.tell.ensures.1
 
 pub returns : goal.returns
 returns c =
     let a = c.args in
-    let h = board_taken a.numbers.now c.in-Some.board (sym c.hand_in.ensures ∙ c.in-Some.is) in
+    let h = board_taken a.numbers.now c.in-Ok.board (sym c.hand_in.ensures ∙ c.in-Ok.is) in
     λ bytes.
-    call_taken (clear c.args.slot) a.firm c.byte_of-by.result a.numbers.now bytes c.byte_of-by.ensures c.in-Some.board.places c.clear-t.result _ _ _ _
+    call_taken (clear c.args.slot) a.firm c.byte_of-by.result a.numbers.now bytes c.byte_of-by.ensures c.in-Ok.board.places c.clear-t.result _ _ _ _
     h.1 h.0 (c.clear-t.ensures bytes) c.put_board.ensures c.tell-2.ensures.0 c.tell-2.ensures.1
