@@ -179,8 +179,8 @@ impl<'a, R: Print> Console<'a, R> {
     }
 
     fn type_of(&self, t: MessageType) {
-        self.print(b"OK ");
-        self.print(&t.letters());
+        let [a, b, c] = t.letters();
+        self.print(&[b'O', b'K', b' ', a, b, c]);
     }
 
     // The end of a line: a space and the spelling.

@@ -20,13 +20,13 @@ fn differences<R: Print>(console: &Console<'_, R>, d: Differences) {
     name(console, d.date, b"DATE");
 }
 
-// The key, as field 18 has it.
+// The key, as field 18 has it, behind a space.
 fn key_name(k: Key) -> &'static [u8] {
     match k {
-        Key::Typ => b"TYP",
-        Key::Dep => b"DEP",
-        Key::Dest => b"DEST",
-        Key::Altn => b"ALTN",
+        Key::Typ => b" TYP",
+        Key::Dep => b" DEP",
+        Key::Dest => b" DEST",
+        Key::Altn => b" ALTN",
     }
 }
 
@@ -35,7 +35,7 @@ pub fn names<R: Print>(console: &Console<'_, R>, c: Cause) {
     match c {
         Cause::NothingMore => {}
         Cause::Another(d) => differences(console, d),
-        Cause::Missing(k) => name(console, true, key_name(k)),
+        Cause::Missing(k) => console.print(key_name(k)),
         Cause::Forbidden(s) => {
             console.print(b" ");
             console.state(s);

@@ -160,7 +160,7 @@ fn spelling(out: &Out, n: usize) -> &[u8] {
 
 // Says so if a byte from n on is not as it was.
 fn check_kept<R: Print>(console: &Console<'_, R>, out: &Out, n: usize) {
-    if out.iter().skip(n).any(|&b| b != BEFORE) {
+    if out[n.min(MOST_ROOM)..].iter().any(|&b| b != BEFORE) {
         console.print(b"CHANGED\n");
     }
 }
